@@ -1,0 +1,90 @@
+//! The program `bmake`: it makes the real world and its sinks, and hands all else to `run`.
+#![tactic(auto)]
+
+mod process;
+
+use mk_bytes::{NoMemory, Texts, is_clean_directory};
+use mk_realworld::{RealSink, RealWorld};
+use mk_scopes::Env;
+use mk_top::run;
+use std::alloc::Global;
+use std::io::{Print, Stdout};
+use std::process::ExitCode;
+use std::str;
+
+const HELP: &[u8] = b"usage: bmake -f FILE -v NAME
+
+  -f FILE      read this makefile
+  -v NAME      print the value of this variable
+  --help       print this text
+  --version    print the version
+
+Exit status: 0 where all went well, 2 for a bad word or a fault in a makefile, 3 where an
+outside call failed, 4 where memory ran out.
+";
+
+const VERSION: &[u8] = b"bmake 0.1.0\n";
+
+fn main(rt: HostRuntime) -> ExitCode {
+    match process::words(&rt) {
+        Ok(words) => ExitCode::from(status(&rt, &words)),
+        Err(NoMemory) => ExitCode::from(out_of_memory(&rt)),
+    }
+}
+
+// The exit status for the words of the command line.
+fn status(rt: &HostRuntime, words: &Texts) -> u8 {
+    if let [word] = words.as_slice() {
+        if word.bytes() == b"--help".as_slice() {
+            return answer(rt.stdout(), HELP);
+        }
+        if word.bytes() == b"--version".as_slice() {
+            return answer(rt.stdout(), VERSION);
+        }
+    }
+    for word in words.as_slice() {
+        if str::from_utf8(word.bytes()).is_err() {
+            return bad_word(rt, word.bytes());
+        }
+    }
+    match process::environment(rt) {
+        Ok(Some(env)) => run_in(rt, words, &env),
+        Ok(None) => outside_failed(rt),
+        Err(NoMemory) => out_of_memory(rt),
+    }
+}
+
+// Runs in the directory of the process, if it has a clean one.
+fn run_in(rt: &HostRuntime, words: &Texts, env: &Env) -> u8 {
+    if !is_clean_directory(env.cwd.bytes()) {
+        return outside_failed(rt);
+    }
+    let Ok(mut world) = RealWorld::new(rt) else {
+        return out_of_memory(rt);
+    };
+    let mut out = RealSink::out(rt.stdout());
+    let mut err = RealSink::err(rt.stderr());
+    run(rt.alloc(), words, env, &mut world, &mut out, &mut err).status
+}
+
+fn answer(stdout: Stdout, text: &[u8]) -> u8 {
+    if stdout.write_all(text).is_ok() { 0 } else { 3 }
+}
+
+fn bad_word(rt: &HostRuntime, word: &[u8]) -> u8 {
+    let stderr = rt.stderr();
+    let _ = stderr.write_all(b"bmake: bad word: ");
+    let _ = stderr.write_all(word);
+    let _ = stderr.write_all(b"\n");
+    2
+}
+
+fn outside_failed(rt: &HostRuntime) -> u8 {
+    let _ = rt.stderr().write_all(b"bmake: an outside call failed\n");
+    3
+}
+
+fn out_of_memory(rt: &HostRuntime) -> u8 {
+    let _ = rt.stderr().write_all(b"bmake: out of memory\n");
+    4
+}

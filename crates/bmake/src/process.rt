@@ -1,0 +1,79 @@
+//! What the process is given: its words, its environment and its directory, all as bytes.
+use mk_bytes::{Items, NoMemory, Pair, Text, Texts};
+use std::alloc::Global;
+use std::env::{Env, FillError};
+
+// The system gives no directory longer than this.
+const MAX_PATH: usize = 4096;
+
+// A word of the command line or an entry of the environment, by its place.
+#[derive(Clone, Copy)]
+enum Query {
+    Word(usize),
+    Entry(usize),
+}
+
+// The bytes that the system has there, or `None` behind the last. The buffer doubles until they fit.
+fn bytes_of<R: Env + AllocGlobal>(rt: &R, query: Query) -> Result<Option<Vec<u8>>, NoMemory> {
+    let mut len = 256usize;
+    for _ in 0..usize::BITS {
+        let mut bytes = vec![in rt.alloc(); 0u8; len]?;
+        let filled = match query {
+            Query::Word(i) => rt.arg(i, bytes.as_mut_slice()),
+            Query::Entry(i) => rt.var_at(i, bytes.as_mut_slice()),
+        };
+        match filled {
+            Ok(count) => {
+                bytes.truncate(count);
+                return Ok(Some(bytes));
+            }
+            Err(FillError::NotPresent) => return Ok(None),
+            Err(FillError::TooLong) => len = len.saturating_mul(2),
+        }
+    }
+    Err(NoMemory)
+}
+
+/// The words of the command line, without the program's name.
+pub fn words<R: Env + AllocGlobal>(rt: &R) -> Result<Texts, NoMemory> {
+    let mut words = Items::new(rt.alloc(), 0)?;
+    for i in 1..usize::MAX {
+        let Some(word) = bytes_of(rt, Query::Word(i))? else {
+            break;
+        };
+        words.push(Text::from_bytes(rt.alloc(), word.as_slice())?)?;
+    }
+    Ok(words)
+}
+
+// The name and the value of an entry, which are parted by its first `=`; `None` without a name.
+fn variable(alloc: Global, entry: &[u8]) -> Result<Option<Pair>, NoMemory> {
+    let Some(at) = entry.iter().position(|byte| *byte == b'=') else {
+        return Ok(None);
+    };
+    if at == 0 {
+        return Ok(None);
+    }
+    let name = Text::from_bytes(alloc, &entry[..at])?;
+    let value = Text::from_bytes(alloc, &entry[at + 1..])?;
+    Ok(Some(Pair { name, value }))
+}
+
+/// The environment, entry by entry, with the current directory; `None` where the system gives none.
+pub fn environment<R: Env + AllocGlobal>(rt: &R) -> Result<Option<mk_scopes::Env>, NoMemory> {
+    let mut vars = Items::new(rt.alloc(), 0)?;
+    for i in 0..usize::MAX {
+        let Some(entry) = bytes_of(rt, Query::Entry(i))? else {
+            break;
+        };
+        if let Some(pair) = variable(rt.alloc(), entry.as_slice())? {
+            vars.push(pair)?;
+        }
+    }
+    let mut buffer = [0u8; MAX_PATH];
+    let Ok(count) = rt.current_dir(&mut buffer) else {
+        return Ok(None);
+    };
+    let cwd = Text::from_bytes(rt.alloc(), &buffer[..count])?;
+    Ok(Some(mk_scopes::Env { vars, cwd }))
+}

@@ -1,0 +1,57 @@
+-- The names of the bytes that definitions speak of.
+use Rattle.std.specs.Prelude.{ℕ, Bool, ◌==◌, ◌||◌, ◌&&◌, nat_le}
+
+abbrev pub tab : ℕ
+tab = 9
+
+abbrev pub newline : ℕ
+newline = 10
+
+abbrev pub space : ℕ
+space = 32
+
+abbrev pub hash : ℕ
+hash = 35
+
+abbrev pub dollar : ℕ
+dollar = 36
+
+abbrev pub round_open : ℕ
+round_open = 40
+
+abbrev pub round_close : ℕ
+round_close = 41
+
+abbrev pub dot : ℕ
+dot = 46
+
+abbrev pub slash : ℕ
+slash = 47
+
+abbrev pub colon : ℕ
+colon = 58
+
+abbrev pub equals_sign : ℕ
+equals_sign = 61
+
+abbrev pub backslash : ℕ
+backslash = 92
+
+abbrev pub underscore : ℕ
+underscore = 95
+
+abbrev pub curly_open : ℕ
+curly_open = 123
+
+abbrev pub curly_close : ℕ
+curly_close = 125
+
+-- a space or a tab
+abbrev pub is_blank : ℕ → Bool
+is_blank byte = byte == space || byte == tab
+
+abbrev pub is_letter : ℕ → Bool
+is_letter byte = (nat_le 65 byte && nat_le byte 90) || (nat_le 97 byte && nat_le byte 122)
+
+abbrev pub is_digit : ℕ → Bool
+is_digit byte = nat_le 48 byte && nat_le byte 57

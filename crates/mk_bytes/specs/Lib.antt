@@ -1,0 +1,4 @@
+pub mod Agrees
+pub mod Bytes
+pub mod Paths
+pub mod Words

@@ -1,0 +1,19 @@
+//! Texts, lists, words and paths: the ground that every other crate stands on.
+//!
+//! Contracts see a [`Text`] as its list of bytes and an [`Items`] as its list of items. Both hold
+//! fewer than 2^32 of them; a growth past that is want of memory.
+#![tactic(auto)]
+
+mod fault;
+mod items;
+mod pair;
+mod path;
+mod text;
+mod word;
+
+pub use fault::NoMemory;
+pub use items::Items;
+pub use pair::{Pair, Pairs, Texts};
+pub use path::{clean_path, is_clean_directory};
+pub use text::Text;
+pub use word::{Span, next_word};

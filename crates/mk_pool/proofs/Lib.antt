@@ -1,0 +1,3 @@
+mod KeyLemmas
+pub mod PoolLemmas
+pub mod RegionLemmas

@@ -1,0 +1,3 @@
+pub mod Entries
+pub mod Scopes
+pub mod Tables

@@ -1,0 +1,137 @@
+ghost use Rattle.std.specs.Prelude.{◌≡◌, [], IsTrue, IfOk, OnOk, OnErr};
+ghost use Rattle.std.specs.Option.{option_copied};
+ghost use Rattle.mk_bytes.specs.Paths.{is_clean_directory};
+ghost use Rattle.mk_scopes.specs.Scopes as spec;
+ghost use Rattle.mk_scopes.specs.Tables.{all_assigned};
+
+use crate::table::Table;
+use mk_bytes::{NoMemory, Pairs, Text};
+use std::alloc::Global;
+use std::marker::Model;
+
+/// What a process is given by its environment: its variables, of which the last of a name counts,
+/// and its current directory.
+#[derive(Debug, Drop)]
+pub struct Env {
+    pub vars: Pairs,
+    pub cwd: Text,
+}
+
+/// The classes that are assigned to. The command line's variables stand above the global ones.
+#[derive(Clone, Copy, Debug, PartialEq, Eq)]
+pub enum Class {
+    Global,
+    Command,
+}
+
+/// All variables of a run. Contracts see three tables, each the list of its names and values in the
+/// order of first assignment, whether the environment stands above the globals, and the directory.
+#[derive(Drop)]
+pub struct Scopes {
+    env: Table,
+    globals: Table,
+    commands: Table,
+    env_first: bool,
+    cwd: Text,
+}
+
+impl Model for Scopes {
+    ghost use Rattle.std.specs.Prelude.{IsTrue};
+    ghost use Rattle.mk_bytes.specs.Paths.{is_clean_directory};
+    ghost use Rattle.mk_scopes.specs.Scopes.{Variables};
+
+    ghost Value = { Variables };
+
+    ghost view = { λ s. record {
+      env = s.env;
+      globals = s.globals;
+      commands = s.commands;
+      env_first = s.env_first;
+      cwd = s.cwd;
+    } };
+
+    ghost invariant = { λ s. IsTrue (is_clean_directory s.cwd) };
+}
+
+fn table_of(alloc: Global, vars: &Pairs) -> Result<Table, NoMemory>
+    ensures { IfOk result (λ table. table ≡ all_assigned [] vars.now) }
+{
+    let mut table = Table::new(alloc);
+    for var in vars.as_slice() {
+        table.assign(var.name.bytes(), var.value.bytes())?;
+    }
+    Ok(table)
+}
+
+fn first_globals(alloc: Global, cwd: &[u8]) -> Result<Table, NoMemory>
+    ensures { IfOk result (λ table. table ≡ spec.first_globals cwd.now) }
+{
+    let mut table = Table::new(alloc);
+    table.assign(b".CURDIR", cwd)?;
+    table.assign(b".newline", b"\n")?;
+    table.assign(b"MAKE", b"bmake")?;
+    Ok(table)
+}
+
+impl Scopes {
+    /// The variables of the environment, with the globals `.CURDIR`, `.newline` and `MAKE`. With
+    /// `env_first` the environment stands above the globals (make(1), `-e`).
+    pub fn new(alloc: Global, env: &Env, env_first: bool) -> Result<Scopes, NoMemory>
+        requires { IsTrue (is_clean_directory env.now.cwd) }
+        ensures { IfOk result (λ scopes. scopes ≡ spec.first_scopes env.now env_first) }
+    {
+        Ok(Scopes {
+            env: table_of(alloc, &env.vars)?,
+            globals: first_globals(alloc, env.cwd.bytes())?,
+            commands: Table::new(alloc),
+            env_first,
+            cwd: env.cwd.copy(alloc)?,
+        })
+    }
+
+    /// The directory of every command, against which all paths are cleaned. It is absolute and
+    /// clean, whatever `.CURDIR` is set to. Takes no memory.
+    pub fn cwd(&self) -> &[u8]
+        ensures value { result.now ≡ self.now.cwd }
+        ensures clean { IsTrue (is_clean_directory self.now.cwd) }
+    {
+        self.cwd.bytes()
+    }
+
+    /// The value of a variable as it was assigned: the command line's, else the first of the
+    /// globals and the environment that has the name. `None` exactly where no class has it.
+    /// Takes no memory.
+    pub fn get(&self, name: &[u8]) -> Option<&Text>
+        ensures { option_copied result ≡ spec.raw_value self.now name.now }
+    {
+        if let Some(value) = self.commands.get(name) {
+            return Some(value);
+        }
+        let (first, second) = if self.env_first {
+            (&self.env, &self.globals)
+        } else {
+            (&self.globals, &self.env)
+        };
+        if let Some(value) = first.get(name) {
+            return Some(value);
+        }
+        second.get(name)
+    }
+
+    /// Gives a variable of a class this value. A global of a name that the command line has set is
+    /// left as it is.
+    pub fn assign(&mut self, class: Class, name: &[u8], value: &[u8]) -> Result<(), NoMemory>
+        ensures ok { OnOk result (self.new ≡ spec.assigned_in self.old class name.now value.now) }
+        ensures err { OnErr result (self.new ≡ self.old) }
+    {
+        match class {
+            Class::Command => self.commands.assign(name, value),
+            Class::Global => {
+                if self.commands.get(name).is_some() {
+                    return Ok(());
+                }
+                self.globals.assign(name, value)
+            }
+        }
+    }
+}

@@ -1,0 +1,13 @@
+//! Tests of single calls, as tables: what a row shows, the input, and the answer that is wanted.
+#![tactic(auto)]
+
+#[cfg(test)]
+mod paths;
+#[cfg(test)]
+mod pool;
+#[cfg(test)]
+mod texts;
+#[cfg(test)]
+mod variables;
+#[cfg(test)]
+mod words;

@@ -1,0 +1,5 @@
+pub mod Ends
+pub mod Meaning
+pub mod Messages
+pub mod Runs
+pub mod Words

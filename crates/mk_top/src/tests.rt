@@ -1,0 +1,339 @@
+//! Whole runs over a small world and small sinks: what they print, and their exit status.
+ghost use Rattle.std.specs.Prelude.{◌≡◌, ◌≤◌, IsTrue, IfOk};
+ghost use Rattle.std.specs.Option.{option_copied};
+ghost use Rattle.mk_bytes.specs.Paths.{is_clean_directory};
+ghost use Rattle.mk_world.specs.Causes.{Rose};
+ghost use Rattle.mk_world.specs.History.{file_in};
+
+use crate::running::run;
+use mk_bytes::{Items, NoMemory, Pair, Pairs, Text, Texts};
+use mk_scopes::Env;
+use mk_world::{Happening, History, Sink, SinkFault, World, WorldFault};
+use std::alloc::Global;
+use std::test::Fail;
+
+// Files in memory, which tell their history, or fail.
+#[derive(Drop)]
+struct SmallWorld {
+    history: History,
+    faults: u64,
+    fails: bool,
+}
+
+fn count_fault(faults: &mut u64)
+    ensures kept { faults.old ≤ faults.new }
+    ensures rose { Rose faults.old faults.new }
+{
+    *faults = faults.saturating_add(1);
+}
+
+fn find_file<'f>(files: &'f Pairs, path: &[u8]) -> Option<&'f Text>
+    ensures { option_copied result ≡ file_in files.now path.now }
+{
+    files
+        .as_slice()
+        .iter()
+        .find(|file| file.name.bytes() == path)
+        .map(|file| &file.value)
+}
+
+impl World for SmallWorld {
+    ghost use Rattle.std.specs.Prelude.{Some};
+
+    ghost history = { λ world. Some world.history };
+
+    ghost faults = { λ world. world.faults };
+
+    fn read(&mut self, alloc: Global, path: &[u8]) -> Result<Option<Text>, WorldFault> {
+        if self.fails {
+            count_fault(&mut self.faults);
+            return Err(WorldFault::Failed);
+        }
+        let answer = match find_file(&self.history.base, path) {
+            Some(bytes) => Some(bytes.copy(alloc)?),
+            None => None,
+        };
+        let look = Happening::Look(Text::from_bytes(alloc, path)?);
+        self.history.events.push(look)?;
+        Ok(answer)
+    }
+}
+
+// Takes at most 5 bytes at a time, and so many of them in all; further writes fail.
+#[derive(Drop)]
+struct SmallSink {
+    held: Text,
+    faults: u64,
+    room: usize,
+}
+
+impl Sink for SmallSink {
+    ghost use Rattle.std.specs.Prelude.{Some};
+
+    ghost held = { λ sink. Some sink.held };
+
+    ghost faults = { λ sink. sink.faults };
+
+    fn write(&mut self, bytes: &[u8]) -> Result<usize, SinkFault> {
+        let count = bytes.len().min(5).min(self.room);
+        if count == 0 || self.held.push(&bytes[..count]).is_err() {
+            count_fault(&mut self.faults);
+            return Err(SinkFault::Failed);
+        }
+        self.room -= count;
+        Ok(count)
+    }
+}
+
+struct Case {
+    shows: &'static str,
+    // the file `m`, if there is one
+    makefile: Option<&'static [u8]>,
+    words: &'static [&'static [u8]],
+    out: &'static [u8],
+    err: &'static [u8],
+    status: u8,
+}
+
+const CASES: [Case; 15] = [
+    Case {
+        shows: "the last assignment counts, when the value is used",
+        makefile: Some(b"B=1\nA=${B}\nB=2\n"),
+        words: &[b"-f", b"m", b"-v", b"A"],
+        out: b"2\n",
+        err: b"",
+        status: 0,
+    },
+    Case {
+        shows: "a variable of itself",
+        makefile: Some(b"A=$(A)\n"),
+        words: &[b"-f", b"m", b"-v", b"A"],
+        out: b"",
+        err: b"bmake: variable A is recursive\n",
+        status: 2,
+    },
+    Case {
+        shows: "a line that is not built yet",
+        makefile: Some(b"A=1\nt: s\n"),
+        words: &[b"-f", b"m", b"-v", b"A"],
+        out: b"",
+        err: b"bmake: \"m\" line 2: form is not built yet\n",
+        status: 2,
+    },
+    Case {
+        shows: "a missing makefile, named as the word has it",
+        makefile: None,
+        words: &[b"-f", b"./m", b"-v", b"A"],
+        out: b"",
+        err: b"bmake: no makefile ./m\n",
+        status: 2,
+    },
+    Case {
+        shows: "an undefined variable",
+        makefile: Some(b""),
+        words: &[b"-f", b"m", b"-v", b"X"],
+        out: b"\n",
+        err: b"",
+        status: 0,
+    },
+    Case {
+        shows: "a makefile is read at its cleaned path",
+        makefile: Some(b"A=1"),
+        words: &[b"-f", b"d/../../w//m", b"-v", b"A"],
+        out: b"1\n",
+        err: b"",
+        status: 0,
+    },
+    Case {
+        shows: "a global stands above the environment, of which the last value counts",
+        makefile: Some(b"A=global\n"),
+        words: &[b"-f", b"m", b"-v", b"A"],
+        out: b"global\n",
+        err: b"",
+        status: 0,
+    },
+    Case {
+        shows: "the environment's value is expanded too",
+        makefile: Some(b"C=c\n\n"),
+        words: &[b"-f", b"m", b"-v", b"E"],
+        out: b"<c>\n",
+        err: b"",
+        status: 0,
+    },
+    Case {
+        shows: "a modifier in the environment",
+        makefile: Some(b"C=c\n"),
+        words: &[b"-f", b"m", b"-v", b"M"],
+        out: b"",
+        err: b"bmake: form is not built yet\n",
+        status: 2,
+    },
+    Case {
+        shows: "blanks before a value, and dollars in it",
+        makefile: Some(b"D_1= \t$$x $ $y$(z)$"),
+        words: &[b"-f", b"m", b"-v", b"D_1"],
+        out: b"$x $ $\n",
+        err: b"",
+        status: 0,
+    },
+    Case {
+        shows: "no words",
+        makefile: Some(b""),
+        words: &[],
+        out: b"",
+        err: b"bmake: bad word: \n",
+        status: 2,
+    },
+    Case {
+        shows: "another option in the first place",
+        makefile: Some(b""),
+        words: &[b"-z", b"m", b"-v", b"A"],
+        out: b"",
+        err: b"bmake: bad word: -z\n",
+        status: 2,
+    },
+    Case {
+        shows: "another option in the third place",
+        makefile: None,
+        words: &[b"-f", b"m", b"-V", b"A"],
+        out: b"",
+        err: b"bmake: bad word: -V\n",
+        status: 2,
+    },
+    Case {
+        shows: "a name with a dollar",
+        makefile: None,
+        words: &[b"-f", b"m", b"-v", b"$A"],
+        out: b"",
+        err: b"bmake: bad word: $A\n",
+        status: 2,
+    },
+    Case {
+        shows: "five words",
+        makefile: None,
+        words: &[b"-f", b"m", b"-v", b"A", b"B"],
+        out: b"",
+        err: b"bmake: bad word: -f\n",
+        status: 2,
+    },
+];
+
+fn pair(alloc: Global, name: &[u8], value: &[u8]) -> Result<Pair, NoMemory> {
+    Ok(Pair {
+        name: Text::from_bytes(alloc, name)?,
+        value: Text::from_bytes(alloc, value)?,
+    })
+}
+
+fn texts(alloc: Global, words: &[&[u8]]) -> Result<Texts, NoMemory> {
+    let mut texts = Items::new(alloc, words.len())?;
+    for word in words {
+        texts.push(Text::from_bytes(alloc, word)?)?;
+    }
+    Ok(texts)
+}
+
+fn variables(alloc: Global) -> Result<Pairs, NoMemory> {
+    let mut vars = Items::new(alloc, 4)?;
+    vars.push(pair(alloc, b"A", b"first")?)?;
+    vars.push(pair(alloc, b"A", b"last")?)?;
+    vars.push(pair(alloc, b"E", b"<$C>")?)?;
+    vars.push(pair(alloc, b"M", b"${C:H}")?)?;
+    Ok(vars)
+}
+
+fn environment(alloc: Global) -> Result<Env, NoMemory>
+    ensures { IfOk result (λ env. IsTrue (is_clean_directory env.cwd)) }
+{
+    let vars = variables(alloc)?;
+    let cwd = Text::from_bytes(alloc, b"/w")?;
+    Ok(Env { vars, cwd })
+}
+
+fn world(alloc: Global, makefile: Option<&[u8]>, fails: bool) -> Result<SmallWorld, NoMemory> {
+    let mut base = Items::new(alloc, 1)?;
+    if let Some(bytes) = makefile {
+        base.push(pair(alloc, b"m", bytes)?)?;
+    }
+    let events = Items::new(alloc, 0)?;
+    let history = History { base, events };
+    Ok(SmallWorld {
+        history,
+        faults: 0,
+        fails,
+    })
+}
+
+fn sink(alloc: Global, room: usize) -> SmallSink {
+    SmallSink {
+        held: Text::new(alloc),
+        faults: 0,
+        room,
+    }
+}
+
+// What a run came to.
+#[derive(Drop)]
+struct Ran {
+    status: u8,
+    looks: usize,
+    out: SmallSink,
+    err: SmallSink,
+}
+
+fn run_case(
+    alloc: Global,
+    case: &Case,
+    fails: bool,
+    out_room: usize,
+    err_room: usize,
+) -> Result<Ran, NoMemory> {
+    let words = texts(alloc, case.words)?;
+    let env = environment(alloc)?;
+    let mut world = world(alloc, case.makefile, fails)?;
+    let mut out = sink(alloc, out_room);
+    let mut err = sink(alloc, err_room);
+    let report = run(alloc, &words, &env, &mut world, &mut out, &mut err);
+    Ok(Ran {
+        status: report.status,
+        looks: world.history.events.len(),
+        out,
+        err,
+    })
+}
+
+#[test]
+fn runs_print_and_refuse(rt: HostRuntime) -> Result<(), Fail> {
+    for case in &CASES {
+        let ran = run_case(rt.alloc(), case, false, 1000, 1000)?;
+        assert_eq!(rt; ran.out.held.bytes(), case.out, "{}", case.shows);
+        assert_eq!(rt; ran.err.held.bytes(), case.err, "{}", case.shows);
+        assert_eq!(rt; ran.status, case.status, "{}", case.shows);
+    }
+    Ok(())
+}
+
+#[test]
+fn failed_read_ends_the_run(rt: HostRuntime) -> Result<(), Fail> {
+    let ran = run_case(rt.alloc(), &CASES[0], true, 1000, 1000)?;
+    assert_eq!(rt;
+        ran.err.held.bytes(),
+        b"bmake: an outside call failed\n".as_slice()
+    );
+    assert_eq!(rt; ran.out.held.len(), 0);
+    assert_eq!(rt; ran.looks, 0);
+    assert_eq!(rt; ran.status, 3);
+    Ok(())
+}
+
+#[test]
+fn failed_writes_leave_a_part(rt: HostRuntime) -> Result<(), Fail> {
+    let printed = run_case(rt.alloc(), &CASES[0], false, 1, 1000)?;
+    assert_eq!(rt; printed.out.held.bytes(), b"2".as_slice());
+    assert_eq!(rt; printed.err.held.len(), 0);
+    assert_eq!(rt; printed.status, 3);
+    let refused = run_case(rt.alloc(), &CASES[1], false, 1000, 9)?;
+    assert_eq!(rt; refused.err.held.bytes(), b"bmake: va".as_slice());
+    assert_eq!(rt; refused.status, 3);
+    Ok(())
+}

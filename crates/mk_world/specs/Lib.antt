@@ -1,0 +1,4 @@
+pub mod Causes
+pub mod History
+pub mod Sinks
+pub mod Told
