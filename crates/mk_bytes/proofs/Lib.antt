@@ -1,3 +1,5 @@
 pub mod AgreesLemmas
+mod NumberLemmas
+mod NumberRows
 pub mod PathLemmas
 mod PathRows

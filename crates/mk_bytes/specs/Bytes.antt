@@ -22,6 +22,15 @@ round_open = 40
 abbrev pub round_close : ℕ
 round_close = 41
 
+abbrev pub star : ℕ
+star = 42
+
+abbrev pub plus : ℕ
+plus = 43
+
+abbrev pub minus : ℕ
+minus = 45
+
 abbrev pub dot : ℕ
 dot = 46
 
@@ -34,8 +43,20 @@ colon = 58
 abbrev pub equals_sign : ℕ
 equals_sign = 61
 
+abbrev pub question_mark : ℕ
+question_mark = 63
+
+abbrev pub square_open : ℕ
+square_open = 91
+
 abbrev pub backslash : ℕ
 backslash = 92
+
+abbrev pub square_close : ℕ
+square_close = 93
+
+abbrev pub caret : ℕ
+caret = 94
 
 abbrev pub underscore : ℕ
 underscore = 95

@@ -1,4 +1,5 @@
 pub mod Agrees
 pub mod Bytes
+pub mod Numbers
 pub mod Paths
 pub mod Words

@@ -6,6 +6,8 @@
 
 mod fault;
 mod items;
+mod kind;
+mod num;
 mod pair;
 mod path;
 mod text;
@@ -13,6 +15,8 @@ mod word;
 
 pub use fault::NoMemory;
 pub use items::Items;
+pub use kind::Kind;
+pub use num::{Num, number};
 pub use pair::{Pair, Pairs, Texts};
 pub use path::{clean_path, is_clean_directory};
 pub use text::Text;

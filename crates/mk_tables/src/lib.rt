@@ -2,7 +2,13 @@
 #![tactic(auto)]
 
 #[cfg(test)]
+mod lines;
+#[cfg(test)]
+mod numbers;
+#[cfg(test)]
 mod paths;
+#[cfg(test)]
+mod patterns;
 #[cfg(test)]
 mod pool;
 #[cfg(test)]

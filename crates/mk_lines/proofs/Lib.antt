@@ -1,0 +1,6 @@
+pub mod CheckLemmas
+pub mod CommentLemmas
+pub mod GroupLemmas
+pub mod PhysicalLemmas
+pub mod ReadLemmas
+mod Rows

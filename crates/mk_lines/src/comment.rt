@@ -1,0 +1,93 @@
+//! Comments: a `#` and what follows it, in lines that are no commands (make(1), "COMMENTS").
+ghost use Rattle.std.specs.Prelude.{◌≡◌, ◌+◌, ◌<◌, ◌≤◌, ◌++◌, length, reverse, take_while, IfOk};
+ghost use Rattle.mk_bytes.specs.Bytes.{is_blank};
+ghost use Rattle.mk_lines.specs.Comment as spec;
+
+use memchr::memchr;
+use mk_bytes::{NoMemory, Text};
+use std::alloc::Global;
+
+/// A logical line without its comment and its final blanks (spaces and tabs), as make(1) reads a
+/// line that is no command.
+///
+/// The comment begins at the first `#` that is not escaped and does not stand directly after `[`.
+/// Backslashes pair off from the left: `\#` becomes `#`, and in `\\#` the `#` begins the comment.
+/// Every other backslash stays, and so do leading blanks. `NoMemory` where memory ran out.
+pub fn cut_comment(alloc: Global, line: &[u8]) -> Result<Text, NoMemory>
+    ensures { IfOk result (λ text. text ≡ spec.cut_comment line.now) }
+{
+    unescape(alloc, trim(before_comment(line)))
+}
+
+// What stands before a line's comment.
+fn before_comment<'t>(line: &'t [u8]) -> &'t [u8]
+    ensures { result.now ≡ spec.before_comment line.now }
+{
+    let mut end = 0;
+    while end < line.len() && line[end] != b'#' {
+        end += unit_len(&line[end..]);
+    }
+    &line[..end]
+}
+
+// How many bytes are read as one at the start of a line: those of a pair, or a single byte.
+fn unit_len(line: &[u8]) -> usize
+    requires { 0 < length line.now }
+    ensures len { result ≡ spec.unit_len line.now }
+    ensures within { result ≤ length line.now }
+{
+    match line {
+        [byte, next, ..] if is_pair(*byte, *next) => 2,
+        _ => 1,
+    }
+}
+
+fn is_pair(byte: u8, next: u8) -> bool
+    ensures { result ≡ spec.is_pair byte next }
+{
+    matches!((byte, next), (b'\\', b'\\' | b'#') | (b'[', b'#'))
+}
+
+// A line without its final spaces and tabs.
+fn trim<'t>(line: &'t [u8]) -> &'t [u8]
+    ensures { result.now ≡ spec.trimmed line.now }
+{
+    &line[..line.len() - final_blanks(line)]
+}
+
+fn final_blanks(line: &[u8]) -> usize
+    ensures len { result ≡ length (take_while is_blank (reverse line.now)) }
+    ensures within { result ≤ length line.now }
+{
+    line.iter()
+        .rev()
+        .take_while(|byte| **byte == b' ' || **byte == b'\t')
+        .count()
+}
+
+// A line with `\#` as `#`.
+fn unescape(alloc: Global, line: &[u8]) -> Result<Text, NoMemory>
+    ensures { IfOk result (λ text. text ≡ spec.unescaped line.now) }
+{
+    let mut text = Text::new(alloc);
+    let mut rest = line;
+    while let Some(place) = memchr(b'\\', rest) {
+        let (run, escape) = rest.split_at(place);
+        let (unit, after) = escape.split_at(unit_len(escape));
+        text.push(run)?;
+        text.push(plain(unit))?;
+        rest = after;
+    }
+    text.push(rest)?;
+    Ok(text)
+}
+
+// Two bytes that are read as one, with `\#` as `#`, or a single byte as it is.
+fn plain<'t>(unit: &'t [u8]) -> &'t [u8]
+    ensures { result.now ≡ spec.plain unit.now }
+{
+    if unit == b"\\#".as_slice() {
+        return &unit[1..];
+    }
+    unit
+}

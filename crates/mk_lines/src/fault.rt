@@ -1,0 +1,100 @@
+//! The faults of a text: a logical line that is too long, and a zero byte.
+ghost use Rattle.std.specs.Prelude.{◌≡◌, ◌+◌, ◌^◌, ◌<◌, ◌≤◌, ◌∷◌, length};
+ghost use Rattle.std.specs.Result.{result_and};
+ghost use Rattle.mk_lines.specs.Lines.{physical_lines, line_groups};
+ghost use Rattle.mk_lines.specs.Faults as spec;
+
+use crate::physical::{PhysicalLines, is_continued, without_indent};
+use mk_bytes::NoMemory;
+
+const MAX_LEN: usize = 1_048_576;
+
+/// Why a text has no logical lines.
+#[derive(Clone, Copy, Debug, PartialEq, Eq)]
+pub enum LineFault {
+    /// A logical line is longer than 1,048,576 bytes. The number is that of its first physical
+    /// line, counted from 1.
+    TooLong(u32),
+    /// The physical line with this number, counted from 1, holds a zero byte.
+    Zero(u32),
+    /// Memory ran out.
+    NoMemory,
+}
+
+impl From<NoMemory> for LineFault {
+    ghost use Rattle.std.specs.Prelude.{◌≡◌};
+    ghost use Rattle.mk_lines.specs.declared.fault.LineFault.TheVariants.{NoMemory as no_memory};
+
+    ghost from_gives = { λ _ fault. fault ≡ no_memory };
+
+    fn from(_: NoMemory) -> LineFault {
+        LineFault::NoMemory
+    }
+}
+
+/// Whether a text has logical lines that can be read: `Zero` where a physical line holds a zero
+/// byte, and `TooLong` where a logical line is longer than 1,048,576 bytes. Of several faults the
+/// one of the earliest logical line is given, and on one logical line `Zero`. Takes no memory.
+pub fn check(text: &[u8]) -> Result<(), LineFault>
+    requires { length text.now < 2 ^ 32 }
+    ensures { result ≡ spec.checked text.now }
+{
+    let mut lines = PhysicalLines {
+        rest: text,
+        done: 0,
+    };
+    while let Some(line) = lines.take_line() {
+        check_line(&mut lines, line)?;
+    }
+    Ok(())
+}
+
+// Checks the logical line that begins with the physical line just taken, and passes over it.
+fn check_line<'t>(lines: &mut PhysicalLines<'t>, first: &'t [u8]) -> Result<(), LineFault>
+    requires { length first.now + length lines.old.rest.now < 2 ^ 32 }
+    ensures fault { spec.groups_checked lines.old.done
+        (line_groups (first.now ∷ physical_lines lines.old.rest.now))
+        ≡ result_and result
+        (spec.groups_checked (lines.new.done + 1)
+        (line_groups (physical_lines lines.new.rest.now))) }
+    ensures shorter { length lines.new.rest.now ≤ length lines.old.rest.now }
+{
+    let number = lines.done;
+    check_zero(number, first)?;
+    let mut piece = first;
+    let mut len = 0;
+    while is_continued(piece) {
+        len += piece.len() - 1;
+        let Some(next) = lines.take_line() else {
+            return check_len(number, len);
+        };
+        check_zero(lines.done, next)?;
+        len += 1;
+        piece = without_indent(next);
+    }
+    check_len(number, len + piece.len())
+}
+
+fn check_zero(number: u32, line: &[u8]) -> Result<(), LineFault>
+    ensures { result ≡ spec.zero_checked number line.now }
+{
+    if holds_zero(line) {
+        return Err(LineFault::Zero(number));
+    }
+    Ok(())
+}
+
+fn holds_zero(line: &[u8]) -> bool
+    ensures { result ≡ spec.holds_zero line.now }
+{
+    line.iter().any(|byte| *byte == 0)
+}
+
+fn check_len(first: u32, len: usize) -> Result<(), LineFault>
+    ensures { result ≡ spec.len_checked first len }
+{
+    if len > MAX_LEN {
+        return Err(LineFault::TooLong(first));
+    }
+    Ok(())
+}
