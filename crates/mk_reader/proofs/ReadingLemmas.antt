@@ -1,15 +1,41 @@
 -- The lines of a file, read one after the other.
-use Rattle.std.proofs.Common.{◌≡◌, ℕ, ◌+◌, List, [], ◌∷◌, Option, Some, None, Ok, Err, inl, inr, refl, sym}
+use Rattle.std.proofs.Common.{
+  ◌≡◌,
+  ℕ,
+  ◌+◌,
+  List,
+  [],
+  ◌∷◌,
+  Option,
+  Some,
+  None,
+  Ok,
+  Err,
+  inl,
+  inr,
+  refl,
+  sym,
+}
 use Rattle.mk_bytes.specs.Agrees.{Agrees, AgreesErr, AgreesBut, ◌>>=◌}
 use Rattle.mk_bytes.specs.Paths.{clean}
 use Rattle.mk_bytes.proofs.AgreesLemmas.{AgreesErr-bind, AgreesBut-more}
 use Rattle.mk_scopes.specs.Scopes.{Variables}
 use Rattle.mk_scopes.specs.declared.scopes.Env.{Env}
-use Rattle.mk_world.specs.History.{Files}
+use Rattle.mk_world.specs.Deeds.{Store}
 use Rattle.mk_world.specs.declared.fault.WorldFault.{WorldFault}
 use Rattle.mk_world.specs.declared.fault.WorldFault.TheVariants as world
 use Rattle.mk_reader.specs.Lines.{assignment, lines_of}
-use Rattle.mk_reader.specs.Reading.{Read, IsOutside, assigned_by, line_read, lines_read, file_read, first, reading, of_world}
+use Rattle.mk_reader.specs.Reading.{
+  Read,
+  IsOutside,
+  assigned_by,
+  line_read,
+  lines_read,
+  file_read,
+  first,
+  reading,
+  of_world,
+}
 use Rattle.mk_reader.specs.declared.fault.ReadFault.{ReadFault}
 use Rattle.mk_reader.specs.declared.fault.ReadFault.TheVariants.{World, NoMemory}
 
@@ -82,7 +108,7 @@ of_world-outside world.NoMemory = inr refl
 -- what agrees with the reading of an answer, agrees with the reading of the files that gave it
 pub reading-answer : (env : Env) (file path : List ℕ) (answer : Option (List ℕ)) (result : Read)
     → path ≡ clean env.cwd file
-    → Agrees NoMemory (λ s. s) result (file_read file (first env) answer) → (files : Files)
+    → Agrees NoMemory (λ s. s) result (file_read file (first env) answer) → (files : Store)
     → answer ≡ files path → AgreesBut IsOutside (λ s. s) result (reading files env file)
 reading-answer env file path answer result is agrees files found =
     let there : files (clean env.cwd file) ≡ answer = rw (← is) (sym found) in

@@ -1,11 +1,26 @@
 -- Reading: from the files of the world to variables.
-use Rattle.std.specs.Prelude.{◌≡◌, ◌⊎◌, ℕ, ◌+◌, List, [], ◌∷◌, Option, Some, None, Result, Ok, Err, false}
+use Rattle.std.specs.Prelude.{
+  ◌≡◌,
+  ◌⊎◌,
+  ℕ,
+  ◌+◌,
+  List,
+  [],
+  ◌∷◌,
+  Option,
+  Some,
+  None,
+  Result,
+  Ok,
+  Err,
+  false,
+}
 use Rattle.mk_bytes.specs.Agrees.{◌>>=◌}
 use Rattle.mk_bytes.specs.Paths.{clean}
 use Rattle.mk_scopes.specs.Scopes.{Variables, assigned_in, first_scopes}
 use Rattle.mk_scopes.specs.declared.scopes.Class.TheVariants.{Global}
 use Rattle.mk_scopes.specs.declared.scopes.Env.{Env}
-use Rattle.mk_world.specs.History.{Files}
+use Rattle.mk_world.specs.Deeds.{Store}
 use Rattle.mk_world.specs.declared.fault.WorldFault.{WorldFault}
 use Rattle.mk_world.specs.declared.fault.WorldFault.TheVariants as world
 use Rattle.mk_reader.specs.Lines.{assignment, lines_of}
@@ -42,7 +57,7 @@ first env = first_scopes env false
 
 -- The variables that the makefile of a command line leaves, or the first fault. Faults name the
 -- file as the command line has it; the file that is read has the cleaned path.
-abbrev pub reading : Files → Env → List ℕ → Read
+abbrev pub reading : Store → Env → List ℕ → Read
 reading files env file = file_read file (first env) (files (clean env.cwd file))
 
 -- how a fault of the world is answered

@@ -1,12 +1,16 @@
 //! Reading of the makefile of a run.
-ghost use Rattle.std.specs.Prelude.{◌≡◌, ◌+◌, ◌<◌, ◌^◌, length, IsTrue};
+ghost use Rattle.std.specs.Prelude.{◌≡◌, ◌+◌, ◌<◌, ◌^◌, [], length, IsTrue};
 ghost use Rattle.mk_bytes.specs.Agrees.{Agrees, AgreesBut};
 ghost use Rattle.mk_bytes.specs.Paths.{clean, is_clean_directory};
 ghost use Rattle.mk_reader.specs.Lines.{lines_of};
 ghost use Rattle.mk_reader.specs.Reading as spec;
-ghost use Rattle.mk_reader.specs.declared.fault.ReadFault.TheVariants.{NoMemory as no_memory, World as world_failed};
+ghost use Rattle.mk_reader.specs.declared.fault.ReadFault.TheVariants.{
+  NoMemory as no_memory,
+  World
+      as world_failed,
+};
 ghost use Rattle.mk_world.specs.Causes.{HasCause};
-ghost use Rattle.mk_world.specs.History.{LooksAt, OnFiles};
+ghost use Rattle.mk_world.specs.Runs.{LooksAt, OnFiles};
 ghost use Rattle.mk_world.specs.Told.{Told};
 
 use crate::fault::{ReadFault, What};
@@ -91,11 +95,13 @@ pub fn read<W: World>(
     file: &[u8],
     env: &Env,
 ) -> Result<Scopes, ReadFault>
-    requires { IsTrue (is_clean_directory env.now.cwd) }
+    requires directory { IsTrue (is_clean_directory env.now.cwd) }
+    requires idle { W.runs world.old [] }
     ensures reading { OnFiles (W.history world.old) (W.history world.new)
         (λ files. AgreesBut spec.IsOutside (λ s. s) result (spec.reading files env.now file.now)) }
     ensures looks { Told (W.history world.old) (W.history world.new) (LooksAt (clean env.now.cwd file.now)) }
     ensures cause { HasCause world_failed (W.faults world.old) (W.faults world.new) result }
+    ensures idle { W.runs world.new [] }
 {
     let path = clean_path(alloc, env.cwd.bytes(), file)?;
     let answer = world.read(alloc, path.bytes())?;

@@ -2,10 +2,11 @@ ghost use Rattle.std.specs.Prelude.{◌≡◌, IfOk};
 
 use crate::count::count_fault;
 use mk_bytes::{NoMemory, Text};
-use mk_world::{World, WorldFault};
+use mk_world::{Cmd, Ended, Kids, Ticket, Time, When, World, WorldFault};
 use std::alloc::Global;
 use std::fs::Files;
 use std::io::{ErrorKind, Read};
+use std::time::{SystemTime, UNIX_EPOCH};
 use std::{fs, io, str};
 
 // A file above 64 MiB counts as a fault.
@@ -54,12 +55,49 @@ fn file_bytes<R: Files + AllocGlobal>(rt: &R, path: &[u8]) -> io::Result<Option<
     Ok(Some(bytes))
 }
 
+// The time of a file, or `None` where it is missing.
+fn file_time<R: Files>(rt: &R, path: &[u8]) -> io::Result<Option<When>> {
+    let Ok(path) = str::from_utf8(path) else {
+        return Err(io::Error::from(ErrorKind::InvalidInput));
+    };
+    match fs::metadata(rt, path) {
+        Ok(metadata) => Ok(Some(nanoseconds(metadata.modified()?))),
+        Err(error) => {
+            if is_missing(error.kind()) {
+                return Ok(None);
+            }
+            Err(error)
+        }
+    }
+}
+
+// A time of the system in nanoseconds; one before 1970 or far in the future is not known.
+fn nanoseconds(time: SystemTime) -> When {
+    match time.duration_since(UNIX_EPOCH) {
+        Ok(since) => match u64::try_from(since.as_nanos()) {
+            Ok(nanos) => When::At(Time(nanos)),
+            Err(_) => When::Unknown,
+        },
+        Err(_) => When::Unknown,
+    }
+}
+
 impl<R: Files + AllocGlobal> World for RealWorld<R> {
     ghost use Rattle.std.specs.Prelude.{None};
+    ghost use Rattle.mk_world.specs.Untold.{untold};
+    ghost use Rattle.mk_world.specs.Talks.{silent};
+
+    type Kid = ();
+
+    ghost meaning = { silent };
 
     ghost history = { λ _. None };
 
     ghost faults = { λ world. world.faults };
+
+    ghost runs = { λ _ _. Unit {0} };
+
+    ghost told_children = { λ _ history _ _ is. untold _ history is };
 
     /// The bytes of a file. A directory, an unreadable file, one above 64 MiB and a path that is
     /// not UTF-8 are counted faults; a path below a plain file is a missing file.
@@ -74,6 +112,44 @@ impl<R: Files + AllocGlobal> World for RealWorld<R> {
                 count_fault(&mut self.faults);
                 Err(WorldFault::Failed)
             }
+        }
+    }
+
+    /// The time of a file or directory, in nanoseconds.
+    fn time(&mut self, _: Global, path: &[u8]) -> Result<When, WorldFault> {
+        match file_time(&self.rt, path) {
+            Ok(None) => Ok(When::Missing),
+            Ok(Some(when)) => Ok(when),
+            Err(_) => {
+                count_fault(&mut self.faults);
+                Err(WorldFault::Failed)
+            }
+        }
+    }
+
+    /// Not built yet: a counted fault.
+    fn start(
+        &mut self,
+        _: Global,
+        _: &mut Kids<()>,
+        _: Ticket,
+        _: Time,
+        _: &Cmd,
+    ) -> Result<(), WorldFault> {
+        count_fault(&mut self.faults);
+        Err(WorldFault::Failed)
+    }
+
+    /// Not built yet: a counted fault.
+    fn wait_any(&mut self, _: Global, _: &mut Kids<()>) -> Result<Ended, WorldFault> {
+        count_fault(&mut self.faults);
+        Err(WorldFault::Failed)
+    }
+
+    /// Takes out all children; none of them is a process yet.
+    fn abandon(&mut self, kids: &mut Kids<()>) {
+        while !kids.is_empty() {
+            kids.take(0);
         }
     }
 }

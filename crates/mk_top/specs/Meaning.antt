@@ -12,7 +12,7 @@ use Rattle.mk_top.specs.Ends.{of_read}
 use Rattle.mk_top.specs.Words.{word_at, refused}
 use Rattle.mk_top.specs.declared.report.End.{End}
 use Rattle.mk_top.specs.declared.report.End.TheVariants.{Usage, Print}
-use Rattle.mk_world.specs.History.{Files}
+use Rattle.mk_world.specs.Deeds.{Store}
 
 -- the line that prints a variable: its value and a newline; the print counts as one reference
 abbrev pub value_line : Variables → List ℕ → Result (List ℕ) ExpandFault
@@ -26,11 +26,11 @@ abbrev pub of_reading : List ℕ → Read → Result (List ℕ) End
 of_reading name (Ok s) = of_print (value_line s name)
 of_reading name (Err fault) = Err (of_read fault)
 
-abbrev pub of_words : List (List ℕ) → Env → Files → Option ℕ → Result (List ℕ) End
+abbrev pub of_words : List (List ℕ) → Env → Store → Option ℕ → Result (List ℕ) End
 of_words words env files (Some i) = Err (Usage i)
 of_words words env files None = of_reading (word_at words 3) (reading files env (word_at words 1))
 
 -- The meaning of a run of these words, in this environment, on these files: the bytes that it
 -- prints, or how it ends without printing. First come the words, then the makefile, then the print.
-abbrev pub meaning : List (List ℕ) → Env → Files → Result (List ℕ) End
+abbrev pub meaning : List (List ℕ) → Env → Store → Result (List ℕ) End
 meaning words env files = of_words words env files (refused words)

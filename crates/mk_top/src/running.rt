@@ -7,9 +7,13 @@ ghost use Rattle.mk_top.specs.Ends as ends;
 ghost use Rattle.mk_top.specs.Meaning as spec;
 ghost use Rattle.mk_top.specs.Runs as runs;
 ghost use Rattle.mk_top.specs.Words.{word_at};
-ghost use Rattle.mk_top.specs.declared.report.End.TheVariants.{WorldFault as world_failed, SinkFault as sink_failed};
+ghost use Rattle.mk_top.specs.declared.report.End.TheVariants.{
+  WorldFault as world_failed,
+  SinkFault
+      as sink_failed,
+};
 ghost use Rattle.mk_world.specs.Causes.{HasCause};
-ghost use Rattle.mk_world.specs.History.{LooksAt, OnFiles};
+ghost use Rattle.mk_world.specs.Runs.{LooksAt, OnFiles};
 ghost use Rattle.mk_world.specs.Told.{Told};
 
 use crate::message::write_line;
@@ -35,7 +39,8 @@ fn value_line(alloc: Global, scopes: &Scopes, name: &[u8]) -> Result<Text, Expan
 
 // What is printed, or the end of a run that prints nothing.
 fn printed<W: World>(alloc: Global, words: &Texts, env: &Env, world: &mut W) -> Result<Text, End>
-    requires { IsTrue (is_clean_directory env.now.cwd) }
+    requires directory { IsTrue (is_clean_directory env.now.cwd) }
+    requires idle { W.runs world.old [] }
     ensures meaning { OnFiles (W.history world.old) (W.history world.new)
         (λ files. AgreesBut ends.IsOutside (λ line. line) result
         (spec.meaning words.now env.now files)) }
@@ -43,6 +48,7 @@ fn printed<W: World>(alloc: Global, words: &Texts, env: &Env, world: &mut W) -> 
         (LooksAt (clean env.now.cwd (word_at words.now 1))) }
     ensures cause { HasCause world_failed (W.faults world.old) (W.faults world.new) result }
     ensures no_write { result ≢ Err sink_failed }
+    ensures idle { W.runs world.new [] }
 {
     if let Some(i) = refused(words) {
         return Err(End::Usage(i));
@@ -93,7 +99,8 @@ pub fn run<W: World, S: Sink>(
     out: &mut S,
     err: &mut S,
 ) -> Report
-    requires { IsTrue (is_clean_directory env.now.cwd) }
+    requires directory { IsTrue (is_clean_directory env.now.cwd) }
+    requires idle { W.runs world.old [] }
     ensures ends { OnFiles (W.history world.old) (W.history world.new) (λ files.
         runs.EndsBy words.now (spec.meaning words.now env.now files)
         (record { before = S.held out.old; after = S.held out.new })
@@ -110,6 +117,7 @@ pub fn run<W: World, S: Sink>(
     // Nothing in the world changes: a print looks at its makefile alone.
     ensures looks { Told (W.history world.old) (W.history world.new)
         (LooksAt (clean env.now.cwd (word_at words.now 1))) }
+    ensures idle { W.runs world.new [] }
 {
     let stood = printed(alloc, words, env, world);
     let end = finish(words, stood, out, err);

@@ -3,19 +3,19 @@ ghost use Rattle.std.specs.Prelude.{◌≡◌, ◌≤◌, IsTrue, IfOk};
 ghost use Rattle.std.specs.Option.{option_copied};
 ghost use Rattle.mk_bytes.specs.Paths.{is_clean_directory};
 ghost use Rattle.mk_world.specs.Causes.{Rose};
-ghost use Rattle.mk_world.specs.History.{file_in};
 
 use crate::running::run;
 use mk_bytes::{Items, NoMemory, Pair, Pairs, Text, Texts};
 use mk_scopes::Env;
-use mk_world::{Happening, History, Sink, SinkFault, World, WorldFault};
+use mk_world::{Cmd, Ended, Kids, Sink, SinkFault, Ticket, Time, When, World, WorldFault};
 use std::alloc::Global;
 use std::test::Fail;
 
-// Files in memory, which tell their history, or fail.
+// Files in memory, of which reads may fail. It tells nothing and runs no child.
 #[derive(Drop)]
 struct SmallWorld {
-    history: History,
+    files: Pairs,
+    looks: u32,
     faults: u64,
     fails: bool,
 }
@@ -27,35 +27,63 @@ fn count_fault(faults: &mut u64)
     *faults = faults.saturating_add(1);
 }
 
-fn find_file<'f>(files: &'f Pairs, path: &[u8]) -> Option<&'f Text>
-    ensures { option_copied result ≡ file_in files.now path.now }
-{
-    files
-        .as_slice()
-        .iter()
-        .find(|file| file.name.bytes() == path)
-        .map(|file| &file.value)
-}
-
 impl World for SmallWorld {
-    ghost use Rattle.std.specs.Prelude.{Some};
+    ghost use Rattle.std.specs.Prelude.{None};
+    ghost use Rattle.mk_world.specs.Untold.{untold};
+    ghost use Rattle.mk_world.specs.Talks.{silent};
 
-    ghost history = { λ world. Some world.history };
+    type Kid = ();
+
+    ghost meaning = { silent };
+
+    ghost history = { λ _. None };
 
     ghost faults = { λ world. world.faults };
+
+    ghost runs = { λ _ _. Unit {0} };
+
+    ghost told_children = { λ _ history _ _ is. untold _ history is };
 
     fn read(&mut self, alloc: Global, path: &[u8]) -> Result<Option<Text>, WorldFault> {
         if self.fails {
             count_fault(&mut self.faults);
             return Err(WorldFault::Failed);
         }
-        let answer = match find_file(&self.history.base, path) {
-            Some(bytes) => Some(bytes.copy(alloc)?),
-            None => None,
-        };
-        let look = Happening::Look(Text::from_bytes(alloc, path)?);
-        self.history.events.push(look)?;
-        Ok(answer)
+        self.looks = self.looks.saturating_add(1);
+        for file in self.files.as_slice() {
+            if file.name.bytes() == path {
+                return Ok(Some(file.value.copy(alloc)?));
+            }
+        }
+        Ok(None)
+    }
+
+    fn time(&mut self, _: Global, _: &[u8]) -> Result<When, WorldFault> {
+        count_fault(&mut self.faults);
+        Err(WorldFault::Failed)
+    }
+
+    fn start(
+        &mut self,
+        _: Global,
+        _: &mut Kids<()>,
+        _: Ticket,
+        _: Time,
+        _: &Cmd,
+    ) -> Result<(), WorldFault> {
+        count_fault(&mut self.faults);
+        Err(WorldFault::Failed)
+    }
+
+    fn wait_any(&mut self, _: Global, _: &mut Kids<()>) -> Result<Ended, WorldFault> {
+        count_fault(&mut self.faults);
+        Err(WorldFault::Failed)
+    }
+
+    fn abandon(&mut self, kids: &mut Kids<()>) {
+        while !kids.is_empty() {
+            kids.take(0);
+        }
     }
 }
 
@@ -251,14 +279,13 @@ fn environment(alloc: Global) -> Result<Env, NoMemory>
 }
 
 fn world(alloc: Global, makefile: Option<&[u8]>, fails: bool) -> Result<SmallWorld, NoMemory> {
-    let mut base = Items::new(alloc, 1)?;
+    let mut files = Items::new(alloc, 1)?;
     if let Some(bytes) = makefile {
-        base.push(pair(alloc, b"m", bytes)?)?;
+        files.push(pair(alloc, b"m", bytes)?)?;
     }
-    let events = Items::new(alloc, 0)?;
-    let history = History { base, events };
     Ok(SmallWorld {
-        history,
+        files,
+        looks: 0,
         faults: 0,
         fails,
     })
@@ -276,7 +303,7 @@ fn sink(alloc: Global, room: usize) -> SmallSink {
 #[derive(Drop)]
 struct Ran {
     status: u8,
-    looks: usize,
+    looks: u32,
     out: SmallSink,
     err: SmallSink,
 }
@@ -296,7 +323,7 @@ fn run_case(
     let report = run(alloc, &words, &env, &mut world, &mut out, &mut err);
     Ok(Ran {
         status: report.status,
-        looks: world.history.events.len(),
+        looks: world.looks,
         out,
         err,
     })

@@ -1,3 +1,6 @@
+pub mod CallLemmas
 pub mod CauseLemmas
-pub mod HistoryLemmas
+pub mod IdleLemmas
+pub mod OuterLemmas
 pub mod SinkLemmas
+pub mod TalkLemmas

@@ -1,4 +1,12 @@
+pub mod Calls
 pub mod Causes
+pub mod Deeds
+pub mod Held
 pub mod History
+pub mod KidsLent
+pub mod Outer
+pub mod Runs
 pub mod Sinks
+pub mod Talks
 pub mod Told
+pub mod Untold

@@ -1,27 +1,103 @@
-ghost use Rattle.std.specs.Prelude.{◌≡◌, ℕ, Option, IfOk, OnErr};
+ghost use Rattle.std.specs.Prelude.{◌≡◌, ◌<◌, ℕ, List, [], ◌∷◌, ◌++◌, Option, Some, false, length, nat_eq, IsTrue, IfOk, OnOk, OnErr};
+ghost use Rattle.std.specs.List.{list_any};
+ghost use Rattle.mk_bytes.specs.Paths.{is_clean_directory};
+ghost use Rattle.mk_world.specs.Calls.{Adds, OwnNothing, OwnRead, OwnTime, OwnStart, OwnEnd, OwnLeft, TakenOut};
 ghost use Rattle.mk_world.specs.Causes.{HasCause};
-ghost use Rattle.mk_world.specs.History.{Looked, Same};
-ghost use Rattle.mk_world.specs.Told.{Told};
+ghost use Rattle.mk_world.specs.History.{state_of, tickets_of};
+ghost use Rattle.mk_world.specs.Talks.{Meaning};
 ghost use Rattle.mk_world.specs.declared.fault.WorldFault.TheVariants.{Failed};
 ghost use Rattle.mk_world.specs.declared.history.History.{History};
 
+use crate::command::Cmd;
 use crate::fault::WorldFault;
+use crate::kids::Kids;
+use crate::step::Ended;
+use crate::time::{Ticket, Time, When};
 use mk_bytes::Text;
 use std::alloc::Global;
 
-/// Files, as make reads them. Paths are clean; a relative one is taken from the current directory.
+/// Files and children, as make deals with them. Paths are clean; a relative one is taken from the
+/// current directory.
+///
+/// Every call adds to the history, where the world tells it, steps of running children and the
+/// events of its own that its clauses name, and nothing else; a refused call adds none of its own.
+/// `Failed` comes only where the count of faults rose in the call or is at its end.
 pub trait World {
+    /// A running child.
+    type Kid;
+
+    /// What the commands of this world mean. No call changes it.
+    ghost meaning: { Meaning };
+
     /// What has happened, where the world tells it. A world that tells after a call told before it.
     ghost history: { Self → Option History };
 
     /// How often a call has failed. The count never falls, and stands still at its last value.
     ghost faults: { Self → ℕ };
 
-    /// The whole of a file, or `None` where it is missing. `Failed` only where the count of faults
-    /// rose in this call or is at its end.
+    /// These are the tickets of the children that this world has started and not taken in.
+    ghost runs: { Self → List ℕ → Type 0 };
+
+    /// The whole of a file, or `None` where it is missing: what stands at the moment of the look.
     fn read(&mut self, alloc: Global, path: &[u8]) -> Result<Option<Text>, WorldFault>
-        ensures done { IfOk result
-            (λ answer. Told (history self.old) (history self.new) (Looked path.now answer)) }
-        ensures refused { OnErr result (Told (history self.old) (history self.new) Same) }
-        ensures cause { HasCause Failed (faults self.old) (faults self.new) result };
+        ensures done { IfOk result (λ answer. Adds meaning (history self.old) (history self.new) (OwnRead path.now answer)) }
+        ensures refused { OnErr result (Adds meaning (history self.old) (history self.new) OwnNothing) }
+        ensures cause { HasCause Failed (faults self.old) (faults self.new) result }
+        ensures children { (kids : List ℕ) → runs self.old kids → runs self.new kids };
+
+    /// The time of a file: what stands at the moment of the look. For a directory it is that of the
+    /// directory; a world that tells has files alone, all with known times.
+    fn time(&mut self, alloc: Global, path: &[u8]) -> Result<When, WorldFault>
+        ensures done { IfOk result (λ when. Adds meaning (history self.old) (history self.new) (OwnTime path.now when)) }
+        ensures refused { OnErr result (Adds meaning (history self.old) (history self.new) OwnNothing) }
+        ensures cause { HasCause Failed (faults self.old) (faults self.new) result }
+        ensures children { (kids : List ℕ) → runs self.old kids → runs self.new kids };
+
+    /// Starts a child with a ticket that is not held, for an owner, the start stamp of its job or 0.
+    /// It is added at the end of `kids`; after a refusal `kids` is as before and no child was made.
+    fn start(
+        &mut self,
+        alloc: Global,
+        kids: &mut Kids<Self::Kid>,
+        ticket: Ticket,
+        owner: Time,
+        cmd: &Cmd,
+    ) -> Result<(), WorldFault>
+        requires exact { runs self.old kids.old.tickets }
+        requires room { length kids.old.tickets < kids.old.room }
+        requires fresh { list_any (nat_eq ticket.0) kids.old.tickets ≡ false }
+        requires directory { IsTrue (is_clean_directory cmd.now.cwd) }
+        ensures done { OnOk result (Adds meaning (history self.old) (history self.new) (OwnStart ticket.0 owner.0 cmd.now)) }
+        ensures refused { OnErr result (Adds meaning (history self.old) (history self.new) OwnNothing) }
+        ensures added { OnOk result (kids.new.tickets ≡ kids.old.tickets ++ ticket.0 ∷ []) }
+        ensures same { OnErr result (kids.new ≡ kids.old) }
+        ensures same_room { kids.new.room ≡ kids.old.room }
+        ensures cause { HasCause Failed (faults self.old) (faults self.new) result }
+        ensures children { runs self.new kids.new.tickets };
+
+    /// Waits until a child has ended, and takes it out of `kids`; the others stay in order. After a
+    /// refusal `kids` is as before.
+    fn wait_any(&mut self, alloc: Global, kids: &mut Kids<Self::Kid>) -> Result<Ended, WorldFault>
+        requires exact { runs self.old kids.old.tickets }
+        requires some { 0 < length kids.old.tickets }
+        ensures done { IfOk result (λ ended. Adds meaning (history self.old) (history self.new) (OwnEnd meaning ended)) }
+        ensures refused { OnErr result (Adds meaning (history self.old) (history self.new) OwnNothing) }
+        ensures taken { IfOk result (λ ended. TakenOut ended.ticket.0 kids.old.tickets kids.new.tickets) }
+        ensures same { OnErr result (kids.new ≡ kids.old) }
+        ensures same_room { kids.new.room ≡ kids.old.room }
+        ensures cause { HasCause Failed (faults self.old) (faults self.new) result }
+        ensures children { runs self.new kids.new.tickets };
+
+    /// Ends and takes in all children, each after some of its steps. It cannot be refused and takes
+    /// no memory.
+    fn abandon(&mut self, kids: &mut Kids<Self::Kid>)
+        requires exact { runs self.old kids.old.tickets }
+        ensures done { Adds meaning (history self.old) (history self.new) OwnLeft }
+        ensures none { kids.new.tickets ≡ [] }
+        ensures same_room { kids.new.room ≡ kids.old.room }
+        ensures faults { faults self.new ≡ faults self.old }
+        ensures children { runs self.new [] };
+
+    /// A world that tells runs those children that its history has.
+    ghost told_children: { (w : Self) (h : History) (kids : List ℕ) → runs w kids → history w ≡ Some h → tickets_of (state_of h).children ≡ kids };
 }

@@ -1,5 +1,5 @@
 use Rattle.std.proofs.Common.{inr, sym, ◌∙◌}
-use Rattle.mk_world.proofs.HistoryLemmas.{OnFiles-any}
+use Rattle.mk_world.proofs.IdleLemmas.{OnFiles-any}
 use Rattle.mk_top.proofs.MeaningLemmas.{meaning-refused}
 use Rattle.mk_top.proofs.running.printed.Goals as goal
 

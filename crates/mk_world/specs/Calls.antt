@@ -1,0 +1,98 @@
+-- What one call of a world adds to its history.
+use Rattle.std.specs.Prelude.{◌≡◌, ℕ, List, [], ◌∷◌, ◌++◌, map, Option, Some, None}
+use Rattle.mk_world.specs.History.{FileMap, Filed, State, MayAll, after_all, child_in, contents, state_of}
+use Rattle.mk_world.specs.Talks.{Meaning, answer}
+use Rattle.mk_world.specs.Told.{Told}
+use Rattle.mk_world.specs.declared.command.Cmd.{Cmd}
+use Rattle.mk_world.specs.declared.history.Child.{Child}
+use Rattle.mk_world.specs.declared.history.Happening.{Happening}
+use Rattle.mk_world.specs.declared.history.Happening.TheVariants.{Look, Start, Step, End, Left}
+use Rattle.mk_world.specs.declared.history.History.{History}
+use Rattle.mk_world.specs.declared.step.Deed.{Deed}
+use Rattle.mk_world.specs.declared.step.Deed.TheVariants as deed
+use Rattle.mk_world.specs.declared.step.Ended.{Ended}
+use Rattle.mk_world.specs.declared.step.Next.TheVariants.{Over}
+use Rattle.mk_world.specs.declared.step.Op.{Op}
+use Rattle.mk_world.specs.declared.step.Op.TheVariants as op
+use Rattle.mk_world.specs.declared.time.When.{When}
+use Rattle.mk_world.specs.declared.time.When.TheVariants.{Missing, At}
+
+-- events that are all steps of running children
+abbrev pub AreSteps : List Happening → Type 0
+AreSteps [] = Unit {0}
+AreSteps (event ∷ events) =
+    ((ticket owner : ℕ) × (d : Deed) × (time : ℕ) × (event ≡ Step ticket owner d time))
+    × AreSteps events
+
+-- A call adds steps of running children, its own events at one moment, and steps again, and
+-- nothing else. Its own events are said by `Own` of how things stand at that moment.
+pub record AddsEvents (meaning : Meaning) (Own : State → List Happening → Type 0) (old new : History) : Type 0 where
+  pub early : List Happening
+  pub own : List Happening
+  pub late : List Happening
+  pub base : new.base ≡ old.base
+  pub events : new.events ≡ old.events ++ (early ++ (own ++ late))
+  pub early_steps : AreSteps early
+  pub late_steps : AreSteps late
+  pub lawful : MayAll meaning (state_of old) (early ++ (own ++ late))
+  pub is_own : Own (after_all (state_of old) early) own
+
+abbrev pub Adds : Meaning → Option History → Option History → (State → List Happening → Type 0) → Type 0
+Adds meaning before after Own = Told before after (AddsEvents meaning Own)
+
+-- no event of its own
+abbrev pub OwnNothing : State → List Happening → Type 0
+OwnNothing state own = own ≡ []
+
+-- a look, answered with what stands there
+abbrev pub OwnRead : List ℕ → Option (List ℕ) → State → List Happening → Type 0
+OwnRead path found state own = (own ≡ Look path ∷ []) × (found ≡ contents state.files path)
+
+abbrev pub when_of : Option Filed → When
+when_of None = Missing
+when_of (Some file) = At (record { 0 = file.time })
+
+abbrev pub OwnTime : List ℕ → When → State → List Happening → Type 0
+OwnTime path when state own = (own ≡ Look path ∷ []) × (when ≡ when_of (state.files path))
+
+abbrev pub OwnStart : ℕ → ℕ → Cmd → State → List Happening → Type 0
+OwnStart ticket owner cmd state own = own ≡ Start ticket owner cmd ∷ []
+
+-- the record of a step
+abbrev pub op_of : Deed → Op
+op_of (deed.Read path bytes) = op.Read path
+op_of (deed.Miss path) = op.Miss path
+op_of (deed.Write path bytes) = op.Write path
+op_of (deed.Delete path) = op.Delete path
+op_of (deed.Move from to bytes) = op.Move from to
+
+-- records, where there are any, are those of these steps in order
+abbrev pub AreRecords : Option (List Op) → List Deed → Type 0
+AreRecords None deeds = Unit {0}
+AreRecords (Some records) deeds = records ≡ map op_of deeds
+
+-- a child that is at its end: its status and output are those of its command by its steps
+pub record EndsAs (meaning : Meaning) (ended : Ended) (child : Child) : Type 0 where
+  pub over : meaning.next child.cmd (map answer child.deeds) ≡ Over ended.status ended.output
+  pub records : AreRecords ended.records child.deeds
+
+abbrev pub IsTaken : Meaning → Ended → Option Child → List Happening → Type 0
+IsTaken meaning ended None own = ⊥
+IsTaken meaning ended (Some child) own =
+    (own ≡ End child.ticket child.owner ∷ []) × EndsAs meaning ended child
+
+abbrev pub OwnEnd : Meaning → Ended → State → List Happening → Type 0
+OwnEnd meaning ended state own = IsTaken meaning ended (child_in state.children ended.ticket.0) own
+
+abbrev pub left_all : List Child → List Happening
+left_all children = map (λ child. Left child.ticket child.owner) children
+
+abbrev pub OwnLeft : State → List Happening → Type 0
+OwnLeft state own = own ≡ left_all state.children
+
+-- one ticket is taken out, and the others stay in order
+pub record TakenOut (ticket : ℕ) (old new : List ℕ) : Type 0 where
+  pub front : List ℕ
+  pub back : List ℕ
+  pub was : old ≡ front ++ ticket ∷ back
+  pub now : new ≡ front ++ back
