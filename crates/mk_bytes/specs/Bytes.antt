@@ -16,6 +16,9 @@ hash = 35
 abbrev pub dollar : ℕ
 dollar = 36
 
+abbrev pub ampersand : ℕ
+ampersand = 38
+
 abbrev pub round_open : ℕ
 round_open = 40
 
@@ -45,6 +48,9 @@ equals_sign = 61
 
 abbrev pub question_mark : ℕ
 question_mark = 63
+
+abbrev pub at_sign : ℕ
+at_sign = 64
 
 abbrev pub square_open : ℕ
 square_open = 91

@@ -3,3 +3,4 @@ pub mod Bytes
 pub mod Numbers
 pub mod Paths
 pub mod Words
+pub mod formers

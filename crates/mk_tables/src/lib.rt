@@ -4,6 +4,8 @@
 #[cfg(test)]
 mod children;
 #[cfg(test)]
+mod command_line;
+#[cfg(test)]
 mod lines;
 #[cfg(test)]
 mod numbers;
@@ -13,6 +15,8 @@ mod paths;
 mod patterns;
 #[cfg(test)]
 mod pool;
+#[cfg(test)]
+mod references;
 #[cfg(test)]
 mod texts;
 #[cfg(test)]

@@ -1,0 +1,10 @@
+pub mod Modifiers
+pub mod Places
+pub mod References
+pub mod Rows
+pub mod Separators
+pub mod Spell
+pub mod Text
+pub mod Tree
+pub mod View
+pub mod WellFormed

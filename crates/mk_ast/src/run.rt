@@ -1,0 +1,73 @@
+//! Runs of plain bytes.
+ghost use Rattle.std.specs.Prelude.{◌≡◌, ◌+◌, ◌^◌, ◌<◌, ◌≤◌, true, length, take, drop, IfOk};
+ghost use Rattle.mk_bytes.specs.Agrees.{Agrees};
+ghost use Rattle.mk_ast.specs.Places as places;
+ghost use Rattle.mk_ast.specs.Places.{nesting};
+ghost use Rattle.mk_ast.specs.Text as spec;
+ghost use Rattle.mk_ast.specs.View.{part_view};
+ghost use Rattle.mk_ast.specs.declared.fault.AstFault.TheVariants.{NoMemory as no_memory};
+
+use crate::fault::AstFault;
+use crate::place::{Place, after, is_escape, is_over};
+use crate::row::skip;
+use crate::tree::Part;
+use mk_bytes::Text;
+use std::alloc::Global;
+
+fn begins_plain(place: Place, text: &[u8]) -> bool
+    ensures same { result ≡ spec.begins_plain place text.now }
+    ensures some { result ≡ true → 0 < length text.now }
+{
+    match text {
+        [] => false,
+        [first, rest @ ..] => {
+            !(is_over(place, text) || *first == b'$' || is_escape(place, *first, rest))
+        }
+    }
+}
+
+// How many plain bytes a text begins with, and the place behind them.
+fn plain_run(place: Place, text: &[u8]) -> (usize, Place)
+    requires { nesting place + length text.now < 2 ^ 64 }
+    ensures run { spec.plain_run place text.now
+        ≡ (take result.0 text.now, result.1, drop result.0 text.now) }
+    ensures within { result.0 ≤ length text.now }
+    ensures nesting { nesting result.1 ≤ nesting place + result.0 }
+{
+    let mut place = place;
+    let mut len = 0;
+    'run: while begins_plain(place, skip(text, len)) {
+        place = after(place, text[len]);
+        len += 1;
+    }
+    (len, place)
+}
+
+/// Whether a `$` before this byte is itself.
+pub fn is_lone_before(byte: u8) -> bool
+    ensures { result ≡ spec.is_lone_before byte }
+{
+    byte == b' ' || byte == b'\t' || byte == b'\n' || byte == b')' || byte == b'}' || byte == b':'
+}
+
+/// The plain bytes from `first` on, with the place behind them.
+#[tactic(auto, using(crate::proofs::Views::views))]
+pub fn plain_at<'t>(
+    alloc: Global,
+    place: Place,
+    first: u8,
+    text: &'t [u8],
+) -> Result<(Part, Place, &'t [u8]), AstFault>
+    requires { nesting place + length text.now + 1 < 2 ^ 64 }
+    ensures gives { Agrees no_memory (λ x. (part_view x.0, x.1, x.2.now)) result
+        (Ok (spec.plain_part (spec.with_first first (spec.plain_run (places.after place first)
+        text.now)))) }
+    ensures shorter { IfOk result (λ x. length x.2.now ≤ length text.now) }
+    ensures nesting { IfOk result (λ x.
+        nesting x.1 + length x.2.now ≤ nesting place + length text.now + 1) }
+{
+    let (len, next) = plain_run(after(place, first), text);
+    let mut plain = Text::from_bytes(alloc, &[first])?;
+    plain.push(&text[..len])?;
+    Ok((Part::Plain(plain), next, &text[len..]))
+}

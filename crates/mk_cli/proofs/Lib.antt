@@ -1,0 +1,4 @@
+mod NumberLemmas
+mod OrderLemmas
+mod Rows
+mod SoundLemmas

@@ -1,0 +1,9 @@
+pub mod CommandEnds
+pub mod Commands
+pub mod Language
+pub mod LineEnds
+pub mod Meaning
+pub mod Seen
+pub mod TalkEnds
+pub mod Turns
+pub mod Words
