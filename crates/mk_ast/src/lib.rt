@@ -19,6 +19,6 @@ mod tree;
 mod whole;
 
 pub use fault::AstFault;
-pub use spelling::print;
+pub use spelling::{print, print_part};
 pub use tree::{ModTree, ModTrees, Part, Tree};
 pub use whole::{parse, reference_end};

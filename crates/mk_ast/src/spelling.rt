@@ -27,6 +27,15 @@ pub fn print(alloc: Global, tree: &Tree) -> Result<Text, NoMemory>
     Ok(out)
 }
 
+/// The text of one part of a tree.
+pub fn print_part(alloc: Global, part: &Part) -> Result<Text, NoMemory>
+    ensures { IfOk result (λ text. text ≡ spec.spell_part (part_view part.now)) }
+{
+    let mut out = Text::new(alloc);
+    put_part(&mut out, part)?;
+    Ok(out)
+}
+
 fn put(out: &mut Text, bytes: &[u8]) -> Result<(), NoMemory>
     ensures { OnOk result (out.new ≡ out.old ++ bytes.now) }
 {
