@@ -1,4 +1,11 @@
+pub mod ChildLemmas
+pub mod ChronicleLemmas
+pub mod FileLemmas
 mod JoinLemmas
 mod LineLemmas
 mod PartLemmas
+pub mod OldestLemmas
+pub mod RestLemmas
 mod Rows
+pub mod StepLemmas
+pub mod WorldLemmas

@@ -1,4 +1,12 @@
-//! A world in memory: the language of its commands.
+//! A world in memory: files, children that act step by step, and the language of their commands.
+//!
+//! A [`MemWorld`] keeps its files at the beginning and all that has happened since, and this is the
+//! history that it tells. Each change, an edit, a step of a child, takes the next number of the
+//! clock as its time: a move takes one number, a look none. A child does nothing until
+//! `World::wait_any`, in which the oldest one does all its remaining steps and is taken in. A
+//! [`MemSink`] holds what was written. In both, calls that [`Fails`] names fail.
+//!
+//! ## The commands
 //!
 //! A command line is one or more commands parted by the word `;`. They run in order and stop at the
 //! first status other than 0, which is the line's status; what they print is joined. Words are cut
@@ -22,10 +30,22 @@
 //! number has 1 to 9 decimal digits, and N is not 0. A command without words does nothing.
 #![tactic(auto)]
 
+mod base;
+mod chronicle;
 mod command;
+mod copy;
+mod files;
 mod language;
+mod outage;
+mod rest;
+mod sink;
 mod turn;
 mod verb;
 mod word;
+mod world;
 
+pub use base::are_clean;
 pub use language::next;
+pub use outage::{CallKind, Fail, Fails};
+pub use sink::{MemSink, ROOM};
+pub use world::{MemWorld, Turns};

@@ -1,0 +1,67 @@
+-- The oldest of the running children: what it still has to do, its steps and its end.
+use Rattle.std.specs.Prelude.{◌≡◌, ℕ, ◌+◌, ◌<◌, List, [], ◌∷◌, ◌++◌, map}
+use Rattle.mk_world.specs.Calls.{AreSteps, EndsAs, op_of}
+use Rattle.mk_world.specs.History.{State, MayAll, contents, state_of}
+use Rattle.mk_world.specs.Talks.{Doing, IsDoing, answer}
+use Rattle.mk_world.specs.declared.history.Child.{Child}
+use Rattle.mk_world.specs.declared.history.Happening.{Happening}
+use Rattle.mk_world.specs.declared.history.Happening.TheVariants.{Step, End, Left}
+use Rattle.mk_world.specs.declared.history.History.{History}
+use Rattle.mk_world.specs.declared.step.Deed.{Deed}
+use Rattle.mk_world.specs.declared.step.Ended.{Ended}
+use Rattle.mk_world.specs.declared.step.Next.TheVariants.{Over}
+use Rattle.mk_world.specs.declared.step.Op.{Op}
+use Rattle.mk_memworld.specs.Chronicle.{with_event}
+use Rattle.mk_memworld.specs.Clock.{last_number, numbers, time_of}
+use Rattle.mk_memworld.specs.Meaning.{language}
+
+-- a fact on the oldest child, which there is
+abbrev pub OfOldest : List Child → (Child → Type 0) → Type 0
+OfOldest [] Fact = ⊥
+OfOldest (child ∷ others) Fact = Fact child
+
+-- what a child does from here to its end, on the files as they stand
+abbrev pub IsRestOf : State → Doing → Child → Type 0
+IsRestOf state rest child =
+    IsDoing language.next child.cmd (map answer child.deeds) (contents state.files) rest
+
+abbrev pub IsRest : State → Doing → Type 0
+IsRest state rest = OfOldest state.children (IsRestOf state rest)
+
+-- fewer numbers of the clock are left than the oldest child's remaining changes take
+pub record IsShort (state : State) : Type 0 where
+  pub rest : Doing
+  pub is_rest : IsRest state rest
+  pub short : last_number < state.clock + numbers rest.deeds
+
+-- the oldest child did one step
+abbrev pub DidStep : History → Deed → History → Type 0
+DidStep old deed new = OfOldest (state_of old).children (λ child.
+    new ≡ with_event old
+    (Step child.ticket child.owner deed (time_of (state_of old).clock deed)))
+
+-- steps of running children, each of which may happen
+pub record AddsSteps (old new : History) : Type 0 where
+  pub events : List Happening
+  pub base : new.base ≡ old.base
+  pub longer : new.events ≡ old.events ++ events
+  pub steps : AreSteps events
+  pub lawful : MayAll language (state_of old) events
+
+-- a child is at its end
+abbrev pub IsAtEnd : ℕ → List ℕ → Child → Type 0
+IsAtEnd status output child =
+    language.next child.cmd (map answer child.deeds) ≡ Over status output
+
+abbrev pub AreRecordsOf : List Op → Child → Type 0
+AreRecordsOf records child = records ≡ map op_of child.deeds
+
+-- the oldest child was taken in
+pub record TakesIn (old : History) (ended : Ended) (new : History) (child : Child) : Type 0 where
+  pub event : new ≡ with_event old (End child.ticket child.owner)
+  pub ticket : ended.ticket.0 ≡ child.ticket
+  pub ends : EndsAs language ended child
+
+-- the oldest child was given up
+abbrev pub GivesUp : History → History → Child → Type 0
+GivesUp old new child = new ≡ with_event old (Left child.ticket child.owner)

@@ -1,0 +1,60 @@
+//! The files of a new world.
+ghost use Rattle.std.specs.Prelude.{◌≡◌, IsTrue, IfOk};
+ghost use Rattle.std.specs.List.{list_any};
+ghost use Rattle.std.specs.Str.{bytes_eq};
+ghost use Rattle.mk_bytes.specs.Paths.{clean, is_clean_directory};
+ghost use Rattle.mk_memworld.specs.Base as spec;
+
+use mk_bytes::{Items, NoMemory, Pair, Pairs, Text, clean_path};
+use mk_world::{Bases, File};
+use std::alloc::Global;
+
+fn file_of(alloc: Global, pair: &Pair, time: u64) -> Result<File, NoMemory>
+    ensures { IfOk result (λ file. file ≡ spec.file_of pair.now time) }
+{
+    Ok(File {
+        path: pair.name.copy(alloc)?,
+        bytes: pair.value.copy(alloc)?,
+        time,
+    })
+}
+
+/// These files, with the times 1, 2, 3 and so on.
+pub fn base_of(alloc: Global, pairs: &Pairs) -> Result<Bases, NoMemory>
+    ensures { IfOk result (λ base. base ≡ spec.base_of pairs.now) }
+{
+    let mut base = Items::new(alloc, 0)?;
+    let mut time = 0;
+    for pair in pairs.as_slice() {
+        time += 1;
+        base.push(file_of(alloc, pair, time)?)?;
+    }
+    Ok(base)
+}
+
+fn is_clean(alloc: Global, cwd: &Text, path: &Text) -> Result<bool, NoMemory>
+    ensures { IfOk result (λ is. is ≡ bytes_eq (clean cwd.now path.now) path.now) }
+{
+    let clean = clean_path(alloc, cwd.bytes(), path.bytes())?;
+    Ok(clean.bytes() == path.bytes())
+}
+
+fn has_path(pairs: &[Pair], path: &Text) -> bool
+    ensures { result ≡ spec.has_path pairs.now path.now }
+{
+    pairs.iter().any(|pair| pair.name.bytes() == path.bytes())
+}
+
+/// Whether the paths of these files are clean, as they are named from a directory, and differ.
+pub fn are_clean(alloc: Global, cwd: &Text, files: &Pairs) -> Result<bool, NoMemory>
+    ensures { IfOk result (λ are. are ≡ spec.are_clean cwd.now files.now) }
+{
+    let mut rest = files.as_slice();
+    while let [file, more @ ..] = rest {
+        if has_path(more, &file.name) || !is_clean(alloc, cwd, &file.name)? {
+            return Ok(false);
+        }
+        rest = more;
+    }
+    Ok(true)
+}

@@ -1,0 +1,331 @@
+//! A history, with the present state beside it.
+ghost use Rattle.std.specs.Prelude.{◌≡◌, ◌↔◌, ◌+◌, ◌^◌, ◌<◌, ◌≤◌, [], ◌∷◌, length, IsTrue, IfOk, OnOk, OnErr};
+ghost use Rattle.std.specs.Option.{option_copied};
+ghost use Rattle.mk_world.specs.Calls.{AddsEvents, OwnEnd, OwnNothing};
+ghost use Rattle.mk_world.specs.Deeds.{changes};
+ghost use Rattle.mk_world.specs.History.{at_time, effected_all, files_of, state_of, tickets_of};
+ghost use Rattle.mk_world.specs.declared.history.Happening.TheVariants.{Edit, Look, Start};
+ghost use Rattle.mk_memworld.specs.Children.{first_with_deed, first_without_last, HasDeed};
+ghost use Rattle.mk_memworld.specs.Clock.{last_number, numbers, numbers_of};
+ghost use Rattle.mk_memworld.specs.Files.{as_filed, files_in};
+ghost use Rattle.mk_memworld.specs.Meaning.{language};
+ghost use Rattle.mk_memworld.specs.Rest.{doing_of};
+
+use crate::copy::{copy_cmd, copy_deed};
+use crate::files::{Files, Stored};
+use crate::rest::{Rest, records_of, rest_of};
+use mk_bytes::{Items, NoMemory, Text};
+use mk_world::{Bases, Child, Cmd, Deed, Ended, Happening, Ops, Ticket};
+use std::alloc::Global;
+use std::marker::Model;
+
+/// A history that can be asked for its present state. Contracts see the history.
+#[derive(Drop)]
+pub struct Chronicle {
+    alloc: Global,
+    base: Bases,
+    events: Vec<Happening>,
+    files: Files,
+    clock: u64,
+    children: Vec<Child>,
+}
+
+impl Model for Chronicle {
+    ghost use Rattle.mk_world.specs.declared.history.History.{History};
+
+    ghost Value = { History };
+
+    ghost use Rattle.mk_memworld.specs.Chronicle.{IsPresent, told};
+
+    ghost view = { told };
+
+    ghost invariant = { IsPresent };
+}
+
+impl Chronicle {
+    ghost use Rattle.mk_memworld.specs.Chronicle.{with_event};
+    ghost use Rattle.mk_memworld.specs.Oldest.{AddsSteps, AreRecordsOf, DidStep, GivesUp, IsAtEnd, IsRest, OfOldest, TakesIn};
+
+    /// These files, with nothing done to them yet.
+    pub fn new(alloc: Global, base: Bases) -> Result<Chronicle, NoMemory>
+        ensures { IfOk result (λ chronicle. chronicle ≡ record { base = base; events = [] }) }
+    {
+        let mut files = Files::new(alloc);
+        let mut clock = 0;
+        for file in base.as_slice() {
+            files.write(file.path.bytes(), file.bytes.bytes(), file.time)?;
+            clock = file.time;
+        }
+        Ok(Chronicle {
+            alloc,
+            base,
+            events: Vec::new(alloc),
+            files,
+            clock,
+            children: Vec::new(alloc),
+        })
+    }
+
+    /// The file at a path. Takes no memory.
+    pub fn file(&self, path: &[u8]) -> Option<&Stored>
+        ensures { as_filed (option_copied result) ≡ (state_of self.now).files path.now }
+    {
+        self.files.get(path)
+    }
+
+    /// The bytes of the file at a path. Takes no memory.
+    pub fn bytes(&self, path: &[u8]) -> Option<&Text>
+        ensures { option_copied result ≡ files_of self.now path.now }
+    {
+        self.files.bytes(path)
+    }
+
+    /// The time of the last change.
+    pub fn clock(&self) -> u64
+        ensures { result ≡ (state_of self.now).clock }
+    {
+        self.clock
+    }
+
+    /// Make looks at a path.
+    pub fn look(&mut self, path: &[u8]) -> Result<(), NoMemory>
+        ensures ok { OnOk result (self.new ≡ with_event self.old (Look path.now)) }
+        ensures err { OnErr result (self.new ≡ self.old) }
+    {
+        let path = Text::from_bytes(self.alloc, path)?;
+        self.events.reserve(self.children.len() + 1)?;
+        self.events.push(Happening::Look { path }).unwrap();
+        Ok(())
+    }
+
+    /// Somebody else changes a file, at the next time.
+    pub fn edit(&mut self, path: &[u8], bytes: Option<&[u8]>) -> Result<(), NoMemory>
+        requires { (state_of self.old).clock < last_number }
+        ensures ok { OnOk result (self.new ≡ with_event self.old
+            (Edit path.now (option_copied bytes.entry) ((state_of self.old).clock + 1))) }
+        ensures err { OnErr result (self.new ≡ self.old) }
+    {
+        let time = self.clock + 1;
+        let copy = Text::from_bytes(self.alloc, path)?;
+        self.events.reserve(self.children.len() + 1)?;
+        match bytes {
+            None => {
+                self.files.remove(path);
+                self.clock = time;
+                let event = Happening::Edit {
+                    path: copy,
+                    bytes: None,
+                    time,
+                };
+                self.events.push(event).unwrap();
+                Ok(())
+            }
+            Some(bytes) => {
+                let text = Text::from_bytes(self.alloc, bytes)?;
+                self.files.write(path, bytes, time)?;
+                self.clock = time;
+                let event = Happening::Edit {
+                    path: copy,
+                    bytes: Some(text),
+                    time,
+                };
+                self.events.push(event).unwrap();
+                Ok(())
+            }
+        }
+    }
+
+    /// Make starts a child.
+    pub fn start(&mut self, ticket: u32, owner: u64, cmd: &Cmd) -> Result<(), NoMemory>
+        ensures ok { OnOk result (self.new ≡ with_event self.old (Start ticket owner cmd.now)) }
+        ensures err { OnErr result (self.new ≡ self.old) }
+    {
+        let child = Child {
+            ticket,
+            owner,
+            cmd: copy_cmd(self.alloc, cmd)?,
+            deeds: Items::new(self.alloc, 0)?,
+        };
+        let cmd = copy_cmd(self.alloc, cmd)?;
+        // for this event, and for the one that ends each child
+        self.events.reserve(self.children.len() + 2)?;
+        self.children.push(child)?;
+        self.events
+            .push(Happening::Start { ticket, owner, cmd })
+            .unwrap();
+        Ok(())
+    }
+
+    /// What the oldest child does from here to its end.
+    pub fn rest(&self) -> Result<Rest, NoMemory>
+        requires { 0 < length (state_of self.now).children }
+        ensures { IfOk result (λ rest. IsRest (state_of self.now) (doing_of rest)) }
+    {
+        let child = &self.children[0];
+        rest_of(self.alloc, &self.files, &child.cmd, child.deeds.as_slice())
+    }
+
+    /// Whether the clock has enough numbers for these steps.
+    pub fn has_numbers(&self, rest: &Rest) -> bool
+        ensures { IsTrue result
+            ↔ ((state_of self.now).clock + numbers rest.now.deeds ≤ last_number) }
+    {
+        all_taken(rest.deeds.as_slice()) <= u64::MAX - self.clock
+    }
+
+    // The oldest child does one step.
+    fn step(&mut self, deed: &Deed) -> Result<(), NoMemory>
+        requires some { 0 < length (state_of self.old).children }
+        requires numbers { (state_of self.old).clock + numbers_of deed.now ≤ last_number }
+        ensures ok { OnOk result (DidStep self.old deed.now self.new) }
+        ensures err { OnErr result (self.new ≡ self.old) }
+    {
+        let Child { ticket, owner, .. } = self.children[0];
+        let time = self.clock + numbers_taken(deed);
+        let copy = copy_deed(self.alloc, deed)?;
+        let again = copy_deed(self.alloc, deed)?;
+        self.events.reserve(self.children.len() + 1)?;
+        do_step(&mut self.files, &mut self.children, deed, again, time)?;
+        self.clock = time;
+        let event = Happening::Step {
+            ticket,
+            owner,
+            deed: copy,
+            time,
+        };
+        self.events.push(event).unwrap();
+        Ok(())
+    }
+
+    // The oldest child does all its remaining steps.
+    fn steps(&mut self, rest: &Rest) -> Result<(), NoMemory>
+        requires is_rest { IsRest (state_of self.old) (doing_of rest.now) }
+        requires numbers { (state_of self.old).clock + numbers rest.now.deeds ≤ last_number }
+        ensures steps { AddsSteps self.old self.new }
+        ensures tickets { tickets_of (state_of self.new).children
+            ≡ tickets_of (state_of self.old).children }
+        ensures at_end { OnOk result (OfOldest (state_of self.new).children
+            (IsAtEnd rest.now.status rest.now.output)) }
+    {
+        for deed in rest.deeds.as_slice() {
+            self.step(deed)?;
+        }
+        Ok(())
+    }
+
+    // The records of what the oldest child did.
+    fn records(&self) -> Result<Ops, NoMemory>
+        requires { 0 < length (state_of self.now).children }
+        ensures { IfOk result
+            (λ records. OfOldest (state_of self.now).children (AreRecordsOf records)) }
+    {
+        records_of(self.alloc, self.children[0].deeds.as_slice())
+    }
+
+    // The oldest child is taken in.
+    fn end(&mut self, status: u8, output: Text, records: Ops) -> Ended
+        requires at_end { OfOldest (state_of self.old).children (IsAtEnd status output) }
+        requires records { OfOldest (state_of self.old).children (AreRecordsOf records) }
+        ensures { OfOldest (state_of self.old).children (TakesIn self.old result self.new) }
+    {
+        let Child { ticket, owner, .. } = self.children.remove(0);
+        self.events.push(Happening::End { ticket, owner }).unwrap();
+        Ended {
+            ticket: Ticket(ticket),
+            status,
+            output,
+            records: Some(records),
+        }
+    }
+
+    /// The oldest child does all its remaining steps, and is taken in. After a refusal it has done
+    /// some of them.
+    pub fn finish(&mut self, rest: Rest) -> Result<Ended, NoMemory>
+        requires is_rest { IsRest (state_of self.old) (doing_of rest) }
+        requires numbers { (state_of self.old).clock + numbers rest.deeds ≤ last_number }
+        ensures done { IfOk result
+            (λ ended. AddsEvents language (OwnEnd language ended) self.old self.new) }
+        ensures refused { OnErr result (AddsEvents language OwnNothing self.old self.new) }
+        ensures taken { IfOk result (λ ended. tickets_of (state_of self.old).children
+            ≡ ended.ticket.0 ∷ tickets_of (state_of self.new).children) }
+        ensures same { OnErr result (tickets_of (state_of self.new).children
+            ≡ tickets_of (state_of self.old).children) }
+    {
+        self.steps(&rest)?;
+        let records = self.records()?;
+        let Rest { status, output, .. } = rest;
+        Ok(self.end(status, output, records))
+    }
+
+    /// The oldest child is given up. Takes no memory.
+    pub fn leave(&mut self)
+        requires { 0 < length (state_of self.old).children }
+        ensures { OfOldest (state_of self.old).children (GivesUp self.old self.new) }
+    {
+        let Child { ticket, owner, .. } = self.children.remove(0);
+        self.events.push(Happening::Left { ticket, owner }).unwrap();
+    }
+}
+
+// How many numbers of the clock a step takes.
+fn numbers_taken(deed: &Deed) -> u64
+    ensures { result ≡ numbers_of deed.now }
+{
+    match deed {
+        Deed::Read { .. } | Deed::Miss { .. } => 0,
+        Deed::Write { .. } | Deed::Delete { .. } | Deed::Move { .. } => 1,
+    }
+}
+
+// How many numbers several steps take.
+fn all_taken(deeds: &[Deed]) -> u64
+    requires { length deeds.now < 2 ^ 32 }
+    ensures { result ≡ numbers deeds.now }
+{
+    let mut taken = 0;
+    for deed in deeds {
+        taken += numbers_taken(deed);
+    }
+    taken
+}
+
+// The first child does a step.
+fn do_step(
+    files: &mut Files,
+    children: &mut Vec<Child>,
+    deed: &Deed,
+    copy: Deed,
+    time: u64,
+) -> Result<(), NoMemory>
+    requires { 0 < length children.old.items }
+    ensures files { OnOk result (files_in files.new
+        ≡ effected_all (files_in files.old) (at_time time (changes deed.now))) }
+    ensures children { OnOk result
+        (children.new.items ≡ first_with_deed copy children.old.items) }
+    ensures same_files { OnErr result (files_in files.new ≡ files_in files.old) }
+    ensures same_children { OnErr result (children.new.items ≡ children.old.items) }
+{
+    add_deed(children, copy)?;
+    match files.apply(deed, time) {
+        Ok(()) => Ok(()),
+        Err(fault) => {
+            drop_deed(children);
+            Err(fault)
+        }
+    }
+}
+
+fn add_deed(children: &mut Vec<Child>, deed: Deed) -> Result<(), NoMemory>
+    requires { 0 < length children.old.items }
+    ensures ok { OnOk result (children.new.items ≡ first_with_deed deed children.old.items) }
+    ensures err { OnErr result (children.new.items ≡ children.old.items) }
+{
+    children[0].deeds.push(deed)
+}
+
+fn drop_deed(children: &mut Vec<Child>)
+    requires { HasDeed children.old.items }
+    ensures { children.new.items ≡ first_without_last children.old.items }
+{
+    children[0].deeds.drop_last();
+}

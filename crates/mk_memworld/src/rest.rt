@@ -1,0 +1,169 @@
+//! What a child does from here to its end.
+ghost use Rattle.std.specs.Prelude.{◌≡◌, map, IfOk};
+ghost use Rattle.std.specs.Option.{option_copied};
+ghost use Rattle.mk_world.specs.Calls.{op_of};
+ghost use Rattle.mk_world.specs.Deeds.{Store, after_deed, after_deeds};
+ghost use Rattle.mk_world.specs.History.{contents};
+ghost use Rattle.mk_world.specs.Talks as spec;
+ghost use Rattle.mk_memworld.specs.Files.{files_in};
+ghost use Rattle.mk_memworld.specs.Language.{language_next};
+ghost use Rattle.mk_memworld.specs.Rest.{doing_of};
+
+use crate::files::Files;
+use crate::language::next;
+use mk_bytes::{Items, NoMemory, Text};
+use mk_world::{Answer, Answers, Cmd, Deed, Deeds, Next, Op, Ops, Request};
+use std::alloc::Global;
+
+/// The steps that are left, and the end behind them.
+#[derive(Debug, Drop)]
+pub struct Rest {
+    pub deeds: Deeds,
+    pub status: u8,
+    pub output: Text,
+}
+
+// What stands at a path after a step, where this stood before.
+fn changed<'a>(deed: &'a Deed, path: &[u8], before: Option<&'a Text>) -> Option<&'a Text>
+    ensures { (store : Store) → store path.now ≡ option_copied before.entry
+        → after_deed store deed.now path.now ≡ option_copied result }
+{
+    match deed {
+        Deed::Read { .. } | Deed::Miss { .. } => before,
+        Deed::Write {
+            path: written,
+            bytes,
+        } => {
+            if written.bytes() == path {
+                return Some(bytes);
+            }
+            before
+        }
+        Deed::Delete { path: gone } => {
+            if gone.bytes() == path {
+                return None;
+            }
+            before
+        }
+        Deed::Move { from, to, bytes } => {
+            if to.bytes() == path {
+                return Some(bytes);
+            }
+            if from.bytes() == path {
+                return None;
+            }
+            before
+        }
+    }
+}
+
+// What stands at a path after these steps.
+fn stands<'a>(files: &'a Files, deeds: &'a [Deed], path: &[u8]) -> Option<&'a Text>
+    ensures { option_copied result
+        ≡ after_deeds (contents (files_in files.now)) deeds.now path.now }
+{
+    let mut found = files.bytes(path);
+    for deed in deeds {
+        found = changed(deed, path, found);
+    }
+    found
+}
+
+// What a request does after these steps.
+fn deed_on(alloc: Global, files: &Files, deeds: &[Deed], request: Request) -> Result<Deed, NoMemory>
+    ensures { IfOk result (λ deed. deed
+        ≡ spec.deed_on request (after_deeds (contents (files_in files.now)) deeds.now)) }
+{
+    match request {
+        Request::Look { path } => match stands(files, deeds, path.bytes()) {
+            None => Ok(Deed::Miss { path }),
+            Some(bytes) => {
+                let bytes = bytes.copy(alloc)?;
+                Ok(Deed::Read { path, bytes })
+            }
+        },
+        Request::Write { path, bytes } => Ok(Deed::Write { path, bytes }),
+        Request::Delete { path } => Ok(Deed::Delete { path }),
+        Request::Move { from, to } => match stands(files, deeds, from.bytes()) {
+            None => Ok(Deed::Miss { path: from }),
+            Some(bytes) => {
+                let bytes = bytes.copy(alloc)?;
+                Ok(Deed::Move { from, to, bytes })
+            }
+        },
+    }
+}
+
+// How a step was answered.
+fn answer_to(alloc: Global, deed: &Deed) -> Result<Answer, NoMemory>
+    ensures { IfOk result (λ answer. answer ≡ spec.answer deed.now) }
+{
+    match deed {
+        Deed::Read { bytes, .. } => Ok(Answer::Found {
+            bytes: bytes.copy(alloc)?,
+        }),
+        Deed::Miss { .. } => Ok(Answer::Missing),
+        Deed::Write { .. } | Deed::Delete { .. } => Ok(Answer::Done),
+        Deed::Move { .. } => Ok(Answer::Stands),
+    }
+}
+
+fn answers_to(alloc: Global, deeds: &[Deed]) -> Result<Answers, NoMemory>
+    ensures { IfOk result (λ answers. answers ≡ map spec.answer deeds.now) }
+{
+    let mut answers = Items::new(alloc, 0)?;
+    for deed in deeds {
+        answers.push(answer_to(alloc, deed)?)?;
+    }
+    Ok(answers)
+}
+
+/// What a command that has done these steps does from here to its end, on files that no one else
+/// changes.
+pub fn rest_of(alloc: Global, files: &Files, cmd: &Cmd, done: &[Deed]) -> Result<Rest, NoMemory>
+    ensures { IfOk result (λ rest. spec.IsDoing language_next cmd.now
+        (map spec.answer done.now) (contents (files_in files.now)) (doing_of rest)) }
+{
+    let mut answers = answers_to(alloc, done)?;
+    let mut deeds = Items::new(alloc, 0)?;
+    loop {
+        match next(alloc, cmd, answers.as_slice())? {
+            Next::Over { status, output } => {
+                return Ok(Rest {
+                    deeds,
+                    status,
+                    output,
+                });
+            }
+            Next::More { request } => {
+                let deed = deed_on(alloc, files, deeds.as_slice(), request)?;
+                answers.push(answer_to(alloc, &deed)?)?;
+                deeds.push(deed)?;
+            }
+        }
+    }
+}
+
+// The record of a step.
+fn op_for(alloc: Global, deed: &Deed) -> Result<Op, NoMemory>
+    ensures { IfOk result (λ op. op ≡ op_of deed.now) }
+{
+    match deed {
+        Deed::Read { path, .. } => Ok(Op::Read(path.copy(alloc)?)),
+        Deed::Miss { path } => Ok(Op::Miss(path.copy(alloc)?)),
+        Deed::Write { path, .. } => Ok(Op::Write(path.copy(alloc)?)),
+        Deed::Delete { path } => Ok(Op::Delete(path.copy(alloc)?)),
+        Deed::Move { from, to, .. } => Ok(Op::Move(from.copy(alloc)?, to.copy(alloc)?)),
+    }
+}
+
+/// The records of steps.
+pub fn records_of(alloc: Global, deeds: &[Deed]) -> Result<Ops, NoMemory>
+    ensures { IfOk result (λ records. records ≡ map op_of deeds.now) }
+{
+    let mut records = Items::new(alloc, 0)?;
+    for deed in deeds {
+        records.push(op_for(alloc, deed)?)?;
+    }
+    Ok(records)
+}
