@@ -1,8 +1,9 @@
 -- The classes of variables and their precedence.
-use Rattle.std.specs.Prelude.{ℕ, Bool, List, [], ◌∷◌, Option, Some, None, is_some, if◌then◌else◌, codes}
+use Rattle.std.specs.Prelude.{ℕ, Bool, List, [], ◌∷◌, Option, is_some, if◌then◌else◌, codes}
 use Rattle.mk_bytes.specs.Bytes.{newline}
 use Rattle.mk_bytes.specs.declared.pair.Pair.{Pair}
-use Rattle.mk_scopes.specs.Tables.{value_in, assigned, all_assigned}
+pub use Rattle.mk_scopes.specs.Tables.{or_else}
+use Rattle.mk_scopes.specs.Tables.{value_in, assigned, appended, without, all_assigned}
 use Rattle.mk_scopes.specs.declared.scopes.Class.{Class}
 use Rattle.mk_scopes.specs.declared.scopes.Class.TheVariants.{Command, Global}
 use Rattle.mk_scopes.specs.declared.scopes.Env.{Env}
@@ -13,11 +14,6 @@ pub record Variables : Type 0 where
   pub commands : List Pair
   pub env_first : Bool
   pub cwd : List ℕ
-
--- the first value, where there is one, and else the second
-abbrev pub or_else : Option (List ℕ) → Option (List ℕ) → Option (List ℕ)
-or_else None second = second
-or_else (Some value) second = Some value
 
 -- the globals and the environment, in their order
 abbrev pub below_commands : Variables → List ℕ → Option (List ℕ)
@@ -35,6 +31,18 @@ assigned_in s Command name value = record s { commands = assigned s.commands nam
 assigned_in s Global name value =
     if is_some (value_in s.commands name) then s else record s
     { globals = assigned s.globals name value }
+
+-- An append: a name without a value in the class first takes the environment's. A global is
+-- appended to also where the command line has set its name: that value stands above it.
+abbrev pub appended_in : Variables → Class → List ℕ → List ℕ → Variables
+appended_in s Command name value =
+    record s { commands = appended s.commands name value (value_in s.env name) }
+appended_in s Global name value =
+    record s { globals = appended s.globals name value (value_in s.env name) }
+
+-- without the global of a name; the other classes stay as they are
+abbrev pub without_global : Variables → List ℕ → Variables
+without_global s name = record s { globals = without s.globals name }
 
 -- the globals that make sets by itself
 abbrev pub first_globals : List ℕ → List Pair

@@ -134,4 +134,26 @@ impl Scopes {
             }
         }
     }
+
+    /// Appends to a variable of a class, after one space. A name without a value in the class first
+    /// takes the environment's; where there is none it is set. A global of a name that the command
+    /// line has set is appended to all the same, below the command line's value. It costs what it
+    /// appends (make(1), `+=`).
+    pub fn append(&mut self, class: Class, name: &[u8], value: &[u8]) -> Result<(), NoMemory>
+        ensures ok { OnOk result (self.new ≡ spec.appended_in self.old class name.now value.now) }
+        ensures err { OnErr result (self.new ≡ self.old) }
+    {
+        match class {
+            Class::Command => self.commands.append(name, value, &self.env),
+            Class::Global => self.globals.append(name, value, &self.env),
+        }
+    }
+
+    /// Takes the global of a name away, if there is one; the command line's variable and the
+    /// environment's stay. Takes no memory (make(1), `.undef`).
+    pub fn undef(&mut self, name: &[u8])
+        ensures { self.new ≡ spec.without_global self.old name.now }
+    {
+        self.globals.remove(name);
+    }
 }

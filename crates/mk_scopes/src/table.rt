@@ -1,6 +1,6 @@
-ghost use Rattle.std.specs.Prelude.{◌≡◌, [], OnOk, OnErr};
+ghost use Rattle.std.specs.Prelude.{◌≡◌, [], Some, IfOk, OnOk, OnErr};
 ghost use Rattle.std.specs.Option.{option_copied};
-ghost use Rattle.mk_scopes.specs.Tables.{value_in, assigned};
+ghost use Rattle.mk_scopes.specs.Tables as spec;
 
 use indexmap::IndexMap;
 use mk_bytes::{NoMemory, Text};
@@ -36,14 +36,14 @@ impl Table {
 
     /// The value of a name. Takes no memory.
     pub fn get(&self, name: &[u8]) -> Option<&Text>
-        ensures { option_copied result ≡ value_in self.now name.now }
+        ensures { option_copied result ≡ spec.value_in self.now name.now }
     {
         self.values.get(name)
     }
 
     /// Gives a name this value, in the place of the one that it has.
     pub fn assign(&mut self, name: &[u8], value: &[u8]) -> Result<(), NoMemory>
-        ensures ok { OnOk result (self.new ≡ assigned self.old name.now value.now) }
+        ensures ok { OnOk result (self.new ≡ spec.assigned self.old name.now value.now) }
         ensures err { OnErr result (self.new ≡ self.old) }
     {
         let name = Vec::from_slice(self.alloc, name)?;
@@ -51,4 +51,60 @@ impl Table {
         self.values.insert(name, value)?;
         Ok(())
     }
+
+    /// Appends to the value of a name, after one space. A name without a value first takes the one
+    /// that `below` has, and is set where there is none. It costs what it appends.
+    pub fn append(&mut self, name: &[u8], value: &[u8], below: &Table) -> Result<(), NoMemory>
+        ensures ok { OnOk result (self.new
+            ≡ spec.appended self.old name.now value.now (spec.value_in below.now name.now)) }
+        ensures err { OnErr result (self.new ≡ self.old) }
+    {
+        match self.values.get_index_of(name) {
+            Some(place) => self.append_at(place, value),
+            None => self.append_first(name, value, below),
+        }
+    }
+
+    // Appends to the value at a place, after one space.
+    fn append_at(&mut self, place: usize, value: &[u8]) -> Result<(), NoMemory>
+        ensures ok { OnOk result (self.new ≡ spec.appended_at self.old place value.now) }
+        ensures err { OnErr result (self.new ≡ self.old) }
+    {
+        let spaced = joined(self.alloc, b"", value)?;
+        match self.values.get_index_mut(place) {
+            Some(text) => text.push(spaced.bytes()),
+            None => Ok(()),
+        }
+    }
+
+    // Appends to a name without a value.
+    fn append_first(&mut self, name: &[u8], value: &[u8], below: &Table) -> Result<(), NoMemory>
+        ensures ok { OnOk result (self.new ≡ spec.assigned self.old name.now
+            (spec.joined (spec.value_in below.now name.now) value.now)) }
+        ensures err { OnErr result (self.new ≡ self.old) }
+    {
+        let Some(before) = below.get(name) else {
+            return self.assign(name, value);
+        };
+        let text = joined(self.alloc, before.bytes(), value)?;
+        self.assign(name, text.bytes())
+    }
+
+    /// Takes a name and its value away, if it has one. The others keep their order. Takes no
+    /// memory.
+    pub fn remove(&mut self, name: &[u8])
+        ensures { self.new ≡ spec.without self.old name.now }
+    {
+        self.values.shift_remove(name);
+    }
+}
+
+// A value behind another, after one space.
+fn joined(alloc: Global, before: &[u8], value: &[u8]) -> Result<Text, NoMemory>
+    ensures { IfOk result (λ text. text ≡ spec.joined (Some before.now) value.now) }
+{
+    let mut text = Text::from_bytes(alloc, before)?;
+    text.push(b" ")?;
+    text.push(value)?;
+    Ok(text)
 }
