@@ -2,3 +2,4 @@ mod NumberLemmas
 mod OrderLemmas
 mod Rows
 mod SoundLemmas
+mod UnbuiltLemmas

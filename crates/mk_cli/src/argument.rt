@@ -1,8 +1,9 @@
 //! What options with an argument ask for.
-ghost use Rattle.std.specs.Prelude.{◌≡◌, IfOk, OnOk, OnErr};
+ghost use Rattle.std.specs.Prelude.{◌≡◌, is_ok, IfOk, OnOk, OnErr};
 ghost use Rattle.mk_bytes.specs.Agrees.{Agrees};
 ghost use Rattle.mk_cli.specs.Options as spec;
 ghost use Rattle.mk_cli.specs.Orders.{with_print};
+ghost use Rattle.mk_cli.specs.declared.order.Order.{Order as AnyOrder};
 ghost use Rattle.mk_cli.specs.declared.order.Usage.TheVariants.{NoMemory as no_memory};
 
 use crate::letter::Argument;
@@ -49,6 +50,19 @@ fn add_print(alloc: Global, order: &mut Order, full: bool, text: &[u8]) -> Resul
 {
     let text = Text::from_bytes(alloc, text)?;
     order.prints.push(Print { full, text })
+}
+
+/// Whether an argument is what its option takes.
+pub fn is_fine(place: u32, argument: Argument, text: &[u8]) -> bool
+    ensures { (order : AnyOrder)
+        → result ≡ is_ok (spec.with_argument place order argument text.now) }
+{
+    match argument {
+        Argument::Define | Argument::Print | Argument::PrintFull => true,
+        Argument::File | Argument::Near | Argument::System => !names_nothing(text),
+        Argument::Generate => number(MOST_GENERATED, place, text).is_ok(),
+        Argument::Jobs => number(MOST_JOBS, place, text).is_ok(),
+    }
 }
 
 /// Adds an option with its argument, which the word at `place` holds. That word is refused where

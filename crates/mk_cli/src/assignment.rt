@@ -1,5 +1,5 @@
 //! Assignments on the command line (make(1), "VARIABLE ASSIGNMENTS").
-ghost use Rattle.std.specs.Prelude.{◌≡◌, position, IfOk};
+ghost use Rattle.std.specs.Prelude.{◌≡◌, position, is_some, IfOk};
 ghost use Rattle.std.specs.List.{before_first, after_first};
 ghost use Rattle.mk_bytes.specs.Bytes as bytes;
 ghost use Rattle.mk_cli.specs.Assignments as spec;
@@ -93,6 +93,16 @@ fn is_shell(op: AssignOp) -> bool
     ensures { result ≡ spec.is_shell op }
 {
     matches!(op, AssignOp::Shell)
+}
+
+/// Whether the assignment that a word with an `=` is has a name, and no sign `!=`.
+pub fn is_named(word: &[u8]) -> bool
+    ensures { result ≡ is_some (spec.assignment word.now) }
+{
+    let (before, _) = split_at_equals(word);
+    let (name, op) = name_and_op(before);
+    let name = without_blanks_after(without_blanks_before(name));
+    !name.is_empty() && !is_shell(op)
 }
 
 /// The assignment that a word with an `=` is, of the command line's own class. `None` where it is

@@ -66,8 +66,8 @@ fn no_order(alloc: Global) -> Result<Order, NoMemory>
     })
 }
 
-// What the next word may be, behind the argument of an option.
-fn after(argument: Argument) -> Expected
+/// What the next word may be, behind the argument of an option.
+pub fn after(argument: Argument) -> Expected
     ensures { result ≡ spec.after argument }
 {
     match argument {
@@ -76,8 +76,8 @@ fn after(argument: Argument) -> Expected
     }
 }
 
-// Whether a word is `-` and a letter at least.
-fn is_option(word: &[u8]) -> bool
+/// Whether a word is `-` and a letter at least.
+pub fn is_option(word: &[u8]) -> bool
     ensures { result ≡ spec.is_option word.now }
 {
     match word {
@@ -86,8 +86,8 @@ fn is_option(word: &[u8]) -> bool
     }
 }
 
-// Whether the word at a place is `--generate`, and the first one.
-fn is_generate(place: u32, word: &[u8]) -> bool
+/// Whether the word at a place is `--generate`, and the first one.
+pub fn is_generate(place: u32, word: &[u8]) -> bool
     ensures { result ≡ spec.is_generate place word.now }
 {
     place == 0 && word == b"--generate".as_slice()
