@@ -1,3 +1,4 @@
-pub mod PartLemmas
-pub mod ValueLemmas
+pub mod ChainLemmas
+pub mod PlainLemmas
 mod Rows
+pub mod ValueLemmas

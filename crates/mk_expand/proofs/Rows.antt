@@ -1,51 +1,114 @@
 -- Values of small texts.
-use Rattle.std.proofs.Common.{◌≡◌, false, [], ◌∷◌, Ok, Err, refl, codes}
+use Rattle.std.proofs.Common.{◌≡◌, true, false, ℕ, List, [], ◌∷◌, Ok, Err, Result, refl, codes}
 use Rattle.mk_scopes.specs.Scopes.{Variables}
-use Rattle.mk_expand.specs.Parts.{parts_of, parts_in}
-use Rattle.mk_expand.specs.Value.{value, value_at, joined}
-use Rattle.mk_expand.specs.declared.fault.ExpandFault.TheVariants.{Recursive, Unbuilt}
-use Rattle.mk_expand.specs.declared.part.Part.TheVariants.{Plain, Reference}
+use Rattle.mk_ast.specs.Text.{text_at}
+use Rattle.mk_ast.specs.Rows.{begins, is_word, is_left_out_word}
+use Rattle.mk_ast.specs.References.{mods_at, ref_at}
+use Rattle.mk_ast.specs.Spell.{spell}
+use Rattle.mk_ast.specs.declared.fault.AstFault.TheVariants.{Unclosed}
+use Rattle.mk_expand.specs.Chains.{all_modified}
+use Rattle.mk_expand.specs.Locals.{no_locals}
+use Rattle.mk_expand.specs.Value.{value_of_text, value_at, joined}
+use Rattle.mk_expand.specs.declared.fault.ExpandFault.{ExpandFault}
+use Rattle.mk_expand.specs.declared.fault.ExpandFault.TheVariants.{Recursive, Unbuilt, Tree}
+use Rattle.mk_expand.specs.declared.local.Locals.{Locals}
 
 abbrev variables : Variables
 variables = record {
   env = record { name = codes "E"; value = codes "from outside" } ∷ [];
   globals =
       record { name = codes "A"; value = codes "${B}$$" }
-      ∷ record { name = codes "B"; value = codes "2" }
-      ∷ record { name = codes "R"; value = codes "$(R)" }
-      ∷ record { name = codes "M"; value = codes "${B:H}" } ∷ [];
+      ∷ record { name = codes "B"; value = codes "1" }
+      ∷ record { name = codes "R"; value = codes "${R}" }
+      ∷ record { name = codes "V"; value = codes "$$" }
+      ∷ record { name = codes "K"; value = codes "${U}|$V" }
+      ∷ record { name = codes "M"; value = codes "${B:H}" }
+      ∷ record { name = codes "N"; value = codes "${" }
+      ∷ record { name = codes "@"; value = codes "global" }
+      ∷ record { name = codes "x$$"; value = codes "kept in a name" }
+      ∷ record { name = codes "x$"; value = codes "of a name" } ∷ [];
   commands = [];
   env_first = false;
   cwd = codes "/w";
 }
 
-text_with_each_form :
-    parts_of (codes "a$$b$ c${x.1}$(y)$z$")
-    ≡ Ok (Plain (codes "a") ∷ Plain (codes "$") ∷ Plain (codes "b") ∷ Plain (codes "$") ∷ Plain
-    (codes " c")
-    ∷ Reference (codes "x.1") ∷ Reference (codes "y") ∷ Reference (codes "z") ∷ Plain (codes "$")
-    ∷ [])
-unfolding parts_in
-text_with_each_form = refl
+abbrev locals : Locals
+locals = record {
+  target = codes "out/a.o";
+  all = codes "a.c" ∷ codes "b.h" ∷ [];
+  implied = codes "a.c";
+  prefix = codes "a";
+  oodate = codes "b.h" ∷ [];
+  some = true;
+}
 
-modifiers_are_not_built : parts_of (codes "${B:H}") ≡ Err Unbuilt
-unfolding parts_in
-modifiers_are_not_built = refl
+abbrev value : List ℕ → Result (List ℕ) ExpandFault
+value = value_of_text variables no_locals false
 
-value_of_a_value : value variables (Reference (codes "A") ∷ []) ≡ Ok (codes "2$")
-unfolding parts_in value_at joined
+abbrev kept : List ℕ → Result (List ℕ) ExpandFault
+kept = value_of_text variables no_locals true
+
+abbrev task : List ℕ → Result (List ℕ) ExpandFault
+task = value_of_text variables locals false
+
+value_of_a_value : value (codes "<$A$B$(B)>") ≡ Ok (codes "<1$11>")
+unfolding text_at mods_at ref_at begins is_word is_left_out_word value_at joined all_modified spell
 value_of_a_value = refl
 
-undefined_variable : value variables (Reference (codes "X") ∷ Reference [] ∷ []) ≡ Ok []
-unfolding parts_in value_at joined
-undefined_variable = refl
+undefined_names : value (codes "[${U}${}$U]") ≡ Ok (codes "[]")
+unfolding text_at mods_at ref_at begins is_word is_left_out_word value_at joined all_modified spell
+undefined_names = refl
 
-variable_of_itself : value variables (Reference (codes "R") ∷ []) ≡ Err (Recursive (codes "R"))
-unfolding parts_in value_at joined
+variable_of_itself : value (codes "${R}") ≡ Err (Recursive (codes "R"))
+unfolding text_at mods_at ref_at begins is_word is_left_out_word value_at joined all_modified spell
 variable_of_itself = refl
 
--- a value is read as a whole before any of it is evaluated
-fault_of_a_value : value variables (Reference (codes "E") ∷ Reference (codes "M") ∷ [])
-    ≡ Err Unbuilt
-unfolding parts_in value_at joined
-fault_of_a_value = refl
+lone_dollar : value (codes "a$") ≡ Ok (codes "a$")
+unfolding text_at mods_at ref_at begins is_word is_left_out_word value_at joined all_modified spell
+lone_dollar = refl
+
+unclosed_text : value (codes "${") ≡ Err (Tree (Unclosed 0))
+unfolding text_at mods_at ref_at begins is_word is_left_out_word value_at joined all_modified spell
+unclosed_text = refl
+
+kept_text : kept (codes "${B} ${U} $$ $U$(U:)") ≡ Ok (codes "1 ${U} $$ $U$(U:)")
+unfolding text_at mods_at ref_at begins is_word is_left_out_word value_at joined all_modified spell
+kept_text = refl
+
+kept_value : kept (codes "$V$K") ≡ Ok (codes "$$${U}|$$")
+unfolding text_at mods_at ref_at begins is_word is_left_out_word value_at joined all_modified spell
+kept_value = refl
+
+kept_name : kept (codes "${x$$}${x$V}") ≡ Ok (codes "of a nameof a name")
+unfolding text_at mods_at ref_at begins is_word is_left_out_word value_at joined all_modified spell
+kept_name = refl
+
+-- a text is read as a whole before any of it is evaluated
+fault_of_the_text : value (codes "${R}${") ≡ Err (Tree (Unclosed 4))
+unfolding text_at mods_at ref_at begins is_word is_left_out_word value_at joined all_modified spell
+fault_of_the_text = refl
+
+first_fault : value (codes "$N$R") ≡ Err (Tree (Unclosed 0))
+unfolding text_at mods_at ref_at begins is_word is_left_out_word value_at joined all_modified spell
+first_fault = refl
+
+-- the name and the value come before the first modifier that is not built
+value_before_modifiers : value (codes "${R::H}") ≡ Err (Recursive (codes "R"))
+unfolding text_at mods_at ref_at begins is_word is_left_out_word value_at joined all_modified spell
+value_before_modifiers = refl
+
+modifier_not_built : value (codes "${B::}${B::H}$R") ≡ Err Unbuilt
+unfolding text_at mods_at ref_at begins is_word is_left_out_word value_at joined all_modified spell
+modifier_not_built = refl
+
+local_names : task (codes "$@ ${.ALLSRC} $< $* ${.OODATE}") ≡ Ok (codes "out/a.o a.c b.h a.c a b.h")
+unfolding text_at mods_at ref_at begins is_word is_left_out_word value_at joined all_modified spell
+local_names = refl
+
+heads_not_built : task (codes "$@${@D}") ≡ Err Unbuilt
+unfolding text_at mods_at ref_at begins is_word is_left_out_word value_at joined all_modified spell
+heads_not_built = refl
+
+no_local_names : value (codes "$@$<${@D}") ≡ Ok (codes "global")
+unfolding text_at mods_at ref_at begins is_word is_left_out_word value_at joined all_modified spell
+no_local_names = refl

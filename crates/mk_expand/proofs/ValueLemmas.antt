@@ -1,64 +1,62 @@
 -- One step of an evaluation.
-use Rattle.std.proofs.Common.{◌≡◌, ℕ, zero, suc, ◌+◌, ◌-◌, ◌<◌, ◌≤◌, inl, inr, true, List, [], ◌∷◌, ◌++◌, Option, Ok, Err, length, drop, get_or, refl, sym, ap, ◌∙◌, arith, nat_lt}
+use Rattle.std.proofs.Common.{◌≡◌, ℕ, zero, suc, ◌+◌, ◌-◌, ◌<◌, ◌≤◌, inl, inr, true, List, [], ◌∷◌}
+use Rattle.std.proofs.Common.{Option, Ok, Err, length, drop, get_or, refl, sym, ap, ◌∙◌, arith}
+use Rattle.std.proofs.Common.{nat_lt}
 use Rattle.std.proofs.lemmas.Bool.Decides.{nat_tests}
 use Rattle.std.proofs.lemmas.List.{drop_more, at_drop_all}
+use Rattle.mk_ast.specs.Tree.{Tree}
+use Rattle.mk_ast.specs.View.{part_view, tree_view}
+use Rattle.mk_ast.specs.declared.tree.Part.{Part}
 use Rattle.mk_bytes.specs.Agrees.{◌>>=◌}
-use Rattle.mk_scopes.specs.Scopes.{Variables}
-use Rattle.mk_expand.specs.Value.{Found, Evaluator, opened, part_value, appended, joined, value_at, inner, MayOpen, MayNotOpen}
+use Rattle.mk_expand.specs.Limits.{MayOpen, MayNotOpen}
+use Rattle.mk_expand.specs.Names.{Context}
+use Rattle.mk_expand.specs.Value.{Counted, Evaluator, opened, part_appended, joined, value_at}
+use Rattle.mk_expand.specs.Value.{inside}
+use Rattle.mk_expand.specs.declared.chain.Found.{Found}
 use Rattle.mk_expand.specs.declared.fault.ExpandFault.{ExpandFault}
-use Rattle.mk_expand.specs.declared.fault.ExpandFault.TheVariants.{TooLong}
-use Rattle.mk_expand.specs.declared.part.Part.{Part}
 
-pub joined-part : (s : Variables) (inside : Option Evaluator) (names : List (List ℕ)) (count : ℕ)
-    (text : List ℕ) (parts : List Part) (i : ℕ) (part : Part)
-    → i < length parts → part ≡ get_or parts i part
-    → joined s inside names count text (drop i parts)
-    ≡ (part_value s inside names count part >>= λ found. appended text found.0 found.1
-    >>= λ more. joined s inside names more.1 more.0 (drop (i + 1) parts))
+pub joined-part : (within : Option Evaluator) (c : Context) (count : ℕ) (text : List ℕ)
+    (parts : List Part) (i : ℕ) (p : Part)
+    → i < length parts → p ≡ get_or parts i p
+    → joined within c count text (tree_view (drop i parts))
+    ≡ (part_appended within c count text (part_view p)
+    >>= λ more. joined within c more.1 more.0 (tree_view (drop (i + 1) parts)))
 unfolding joined
-joined-part s inside names count text parts i part within is =
-    ap (λ rest. joined s inside names count text rest) (drop_more parts i part within)
-    ∙ ap (λ p. joined s inside names count text (p ∷ drop (i + 1) parts)) (sym is)
+joined-part within c count text parts i p less is =
+    ap (λ (rest : List Part). joined within c count text (tree_view rest))
+    (drop_more parts i p less)
+    ∙ ap (λ (one : Part). joined within c count text (tree_view (one ∷ drop (i + 1) parts)))
+    (sym is)
 
-pub joined-end : (s : Variables) (inside : Option Evaluator) (names : List (List ℕ)) (count : ℕ)
-    (text : List ℕ) (parts : List Part) (i : ℕ)
-    → length parts ≤ i → joined s inside names count text (drop i parts) ≡ Ok (text, count)
+pub joined-end : (within : Option Evaluator) (c : Context) (count : ℕ) (text : List ℕ)
+    (parts : List Part) (i : ℕ)
+    → length parts ≤ i → joined within c count text (tree_view (drop i parts)) ≡ Ok (text, count)
 unfolding joined
-joined-end s inside names count text parts i past =
-    at_drop_all (λ rest. joined s inside names count text rest) parts i past
+joined-end within c count text parts i past =
+    at_drop_all (λ (rest : List Part). joined within c count text (tree_view rest)) parts i past
 
-pub value_at-joined : (s : Variables) (room : ℕ) (names : List (List ℕ)) (count : ℕ)
-    (parts : List Part)
-    → value_at s room names count parts ≡ joined s (inner s room) names count [] parts
-unfolding value_at inner
-value_at-joined s zero names count parts = refl
-value_at-joined s (suc room) names count parts = refl
-
-pub appended-long : (text value : List ℕ) (count : ℕ) → 4194304 < length text + length value
-    → appended text value count ≡ Err TooLong
-appended-long text value count long = grind (arith, nat_tests)
-
-pub appended-fits : (text value : List ℕ) (count : ℕ) → length text + length value ≤ 4194304
-    → appended text value count ≡ Ok (text ++ value, count)
-appended-fits text value count fits = grind (arith, nat_tests)
+pub value_at-joined : (room : ℕ) (c : Context) (count : ℕ) (tree : Tree)
+    → value_at room c count tree ≡ joined (inside room) c count [] tree
+unfolding value_at inside
+value_at-joined zero c count tree = refl
+value_at-joined (suc room) c count tree = refl
 
 -- a reference that may not be opened
-pub opened-not : (s : Variables) (room count : ℕ) (next : Evaluator → ℕ → Found (List ℕ))
-    (fault : ExpandFault)
-    → MayNotOpen room count fault → opened (inner s room) count next ≡ Err fault
-unfolding inner
-opened-not s zero count next fault (inl deep) = ap (λ f. Err f) (sym deep.1)
-opened-not s (suc room) count next fault (inl deep) = absurd (omega (arith, deep.0))
-opened-not s zero count next fault (inr many) = absurd (omega (arith, many.0))
-opened-not s (suc room) count next fault (inr many) = rw many.2 (grind (arith, nat_tests, many.1))
+pub opened-not : (room count : ℕ) (next : Evaluator → ℕ → Counted Found) (fault : ExpandFault)
+    → MayNotOpen room count fault → opened (inside room) count next ≡ Err fault
+unfolding inside
+opened-not zero count next fault (inl deep) = ap (λ f. Err f) (sym deep.1)
+opened-not (suc room) count next fault (inl deep) = absurd (omega (arith, deep.0))
+opened-not zero count next fault (inr many) = absurd (omega (arith, many.0))
+opened-not (suc room) count next fault (inr many) = rw many.2 (grind (arith, nat_tests, many.1))
 
 -- a reference that is opened
-pub opened-may : (s : Variables) (room count after : ℕ) (next : Evaluator → ℕ → Found (List ℕ))
+pub opened-may : (room count after : ℕ) (next : Evaluator → ℕ → Counted Found)
     → MayOpen room count × (after ≡ count + 1)
-    → opened (inner s room) count next ≡ next (value_at s (room - 1)) after
-unfolding inner
-opened-may s zero count after next may = absurd (omega (arith, may.0.0))
-opened-may s (suc room) count after next may =
+    → opened (inside room) count next ≡ next (value_at (room - 1)) after
+unfolding inside
+opened-may zero count after next may = absurd (omega (arith, may.0.0))
+opened-may (suc room) count after next may =
     let few : nat_lt count 1048576 ≡ true = grind (arith, nat_tests, may.0.1) in
     let one_less : suc room - 1 ≡ room = omega arith in
     rw (few, one_less, may.1) refl

@@ -1,2 +1,6 @@
-pub mod Parts
+pub mod Chains
+pub mod Limits
+pub mod Locals
+pub mod Names
+pub mod Texts
 pub mod Value

@@ -1,97 +1,113 @@
--- The value of a text.
-use Rattle.std.specs.Prelude.{◌≡◌, ◌⊎◌, ℕ, zero, suc, ◌+◌, ◌<◌, ◌≤◌, Bool, nat_lt, List, [], ◌∷◌, ◌++◌, length, Option, Some, None, Result, Ok, Err, if◌then◌else◌}
-use Rattle.std.specs.List.{list_any}
-use Rattle.std.specs.Str.{bytes_eq}
+-- The value of a text: the values of its parts, joined.
+use Rattle.std.specs.Prelude.{ℕ, zero, suc, ◌+◌, Bool, nat_lt, List, [], ◌∷◌, Option, Some, None}
+use Rattle.std.specs.Prelude.{Result, Ok, Err, if◌then◌else◌}
 use Rattle.mk_bytes.specs.Agrees.{◌>>=◌}
-use Rattle.mk_scopes.specs.Scopes.{Variables, raw_value}
-use Rattle.mk_expand.specs.Parts.{parts_of}
+use Rattle.mk_bytes.specs.Bytes.{dollar}
+use Rattle.mk_ast.specs.Tree.{Tree, Part, Mods, end, part, plain, escaped, double, lone, short, ref}
+use Rattle.mk_scopes.specs.Scopes.{Variables}
+use Rattle.mk_expand.specs.Chains.{undefined, defined_as, all_modified, shown}
+use Rattle.mk_expand.specs.Limits.{max_open, max_references, appended}
+use Rattle.mk_expand.specs.Names.{Context, context, in_name, while_open, is_among, raw_of}
+use Rattle.mk_expand.specs.Texts.{parsed}
+use Rattle.mk_expand.specs.declared.chain.Found.{Found}
 use Rattle.mk_expand.specs.declared.fault.ExpandFault.{ExpandFault}
-use Rattle.mk_expand.specs.declared.fault.ExpandFault.TheVariants.{Recursive, TooDeep, TooManyReferences, TooLong}
-use Rattle.mk_expand.specs.declared.part.Part.{Part}
-use Rattle.mk_expand.specs.declared.part.Part.TheVariants.{Plain, Reference}
-
--- references that may be open at once
-abbrev pub max_open : ℕ
-max_open = 256
-
--- references that may be evaluated for one text
-abbrev pub max_references : ℕ
-max_references = 1048576
-
--- bytes of a value
-abbrev pub max_value : ℕ
-max_value = 4194304
+use Rattle.mk_expand.specs.declared.fault.ExpandFault.TheVariants.{Recursive, TooDeep}
+use Rattle.mk_expand.specs.declared.fault.ExpandFault.TheVariants.{TooManyReferences}
+use Rattle.mk_expand.specs.declared.local.Locals.{Locals}
 
 -- what is found, with the number of references evaluated so far, or the first fault
-abbrev pub Found : Type 0 → Type 0
-Found A = Result (A × ℕ) ExpandFault
+abbrev pub Counted : Type 0 → Type 0
+Counted A = Result (A × ℕ) ExpandFault
 
--- values of parts, while the values of these names are being expanded
+-- values of trees, by what names mean and the number of references evaluated before
 abbrev pub Evaluator : Type 0
-Evaluator = List (List ℕ) → ℕ → List Part → Found (List ℕ)
+Evaluator = Context → ℕ → Tree → Counted (List ℕ)
 
-abbrev pub is_among : List (List ℕ) → List ℕ → Bool
-is_among names name = list_any (λ one. bytes_eq one name) names
+-- a text is read as a whole before any of it is evaluated
+abbrev pub text_value : Evaluator → Context → ℕ → List ℕ → Counted (List ℕ)
+text_value evaluate c count text = parsed text >>= λ tree. evaluate c count tree
 
--- the raw value of a name; the empty name is undefined
-abbrev pub known : Variables → List ℕ → Option (List ℕ)
-known s [] = None
-known s (byte ∷ name) = raw_value s (byte ∷ name)
+-- a raw value is a text, whose variable's name is open while it is evaluated
+abbrev pub opened_value : Evaluator → Context → ℕ → List ℕ → List ℕ → Counted Found
+opened_value evaluate c count name raw =
+    text_value evaluate (while_open c name) count raw >>= λ v. Ok (defined_as v.0, v.1)
 
--- the value of a raw value, which is read as a whole first; that of an undefined variable is empty
-abbrev pub expanded : Evaluator → List (List ℕ) → ℕ → Option (List ℕ) → Found (List ℕ)
-expanded evaluate names count None = Ok ([], count)
-expanded evaluate names count (Some raw) = parts_of raw >>= λ parts. evaluate names count parts
+abbrev pub expanded : Evaluator → Context → ℕ → List ℕ → Option (List ℕ) → Counted Found
+expanded evaluate c count name None = Ok (undefined, count)
+expanded evaluate c count name (Some raw) = opened_value evaluate c count name raw
 
--- a variable, whose name is open while its value is expanded
-abbrev pub variable : Variables → Evaluator → List (List ℕ) → ℕ → List ℕ → Found (List ℕ)
-variable s evaluate names count name =
-    if is_among names name then Err (Recursive name) else expanded evaluate (names ++ name ∷ [])
-    count (known s name)
+-- a variable, whose own value must not refer to its name
+abbrev pub variable : Evaluator → Context → ℕ → List ℕ → Counted Found
+variable evaluate c count name =
+    if is_among c.open_names name then Err (Recursive name)
+    else (raw_of c name >>= λ raw. expanded evaluate c count name raw)
 
--- a reference is counted and opened, where there is room for it
-abbrev pub opened : Option Evaluator → ℕ → (Evaluator → ℕ → Found (List ℕ)) → Found (List ℕ)
+-- the name is expanded first, then the variable's value, and then come the modifiers
+abbrev pub reference : Evaluator → Context → ℕ → Tree → Mods → Counted Found
+reference evaluate c count name mods =
+    evaluate (in_name c) count name
+    >>= λ n. variable evaluate c n.1 n.0
+    >>= λ v. all_modified v.0 mods
+    >>= λ found. Ok (found, v.1)
+
+-- a reference is counted and opened before anything of it is evaluated, where there is room for it
+abbrev pub opened : Option Evaluator → ℕ → (Evaluator → ℕ → Counted Found) → Counted Found
 opened None count next = Err TooDeep
 opened (Some evaluate) count next =
     if nat_lt count max_references then next evaluate (count + 1) else Err TooManyReferences
 
-abbrev pub part_value : Variables → Option Evaluator → List (List ℕ) → ℕ → Part → Found (List ℕ)
-part_value s inside names count (Plain bytes) = Ok (bytes, count)
-part_value s inside names count (Reference name) =
-    opened inside count (λ evaluate n. variable s evaluate names n name)
+abbrev pub short_found : Option Evaluator → Context → ℕ → ℕ → Counted Found
+short_found inside c count byte =
+    opened inside count (λ evaluate n. variable evaluate c n (byte ∷ []))
 
--- a value behind the text so far
-abbrev pub appended : List ℕ → List ℕ → ℕ → Found (List ℕ)
-appended text value count =
-    if nat_lt max_value (length text + length value) then Err TooLong else Ok (text ++ value, count)
+abbrev pub reference_found : Option Evaluator → Context → ℕ → Tree → Mods → Counted Found
+reference_found inside c count name mods =
+    opened inside count (λ evaluate n. reference evaluate c n name mods)
+
+-- what a reference gives
+abbrev pub given : Context → Part → Counted Found → Counted (List ℕ)
+given c p found = found >>= λ f. Ok (shown c.keep p f.0, f.1)
+
+-- `$$`, which the flag of `:=` leaves as it is
+abbrev pub double_value : Bool → List ℕ
+double_value keep = if keep then dollar ∷ dollar ∷ [] else dollar ∷ []
+
+abbrev pub part_value : Option Evaluator → Context → ℕ → Part → Counted (List ℕ)
+part_value inside c count (plain bytes) = Ok (bytes, count)
+part_value inside c count (escaped byte) = Ok (byte ∷ [], count)
+part_value inside c count double = Ok (double_value c.keep, count)
+part_value inside c count lone = Ok (dollar ∷ [], count)
+part_value inside c count (short byte) = given c (short byte) (short_found inside c count byte)
+part_value inside c count (ref round name mods) =
+    given c (ref round name mods) (reference_found inside c count name mods)
+
+-- a part's value behind the text so far
+abbrev pub part_appended : Option Evaluator → Context → ℕ → List ℕ → Part → Counted (List ℕ)
+part_appended inside c count text p =
+    part_value inside c count p >>= λ v. appended text v.0 >>= λ more. Ok (more, v.1)
 
 -- the values of the parts in order, behind the text so far
-unfoldable pub joined : Variables → Option Evaluator → List (List ℕ) → ℕ → List ℕ → List Part
-    → Found (List ℕ)
-joined s inside names count text [] = Ok (text, count)
-joined s inside names count text (part ∷ parts) =
-    part_value s inside names count part >>= λ found. appended text found.0 found.1
-    >>= λ more. joined s inside names more.1 more.0 parts
+unfoldable pub joined : Option Evaluator → Context → ℕ → List ℕ → Tree → Counted (List ℕ)
+joined inside c count text end = Ok (text, count)
+joined inside c count text (part p tree) =
+    part_appended inside c count text p >>= λ more. joined inside c more.1 more.0 tree
 
--- The value of parts, with room for so many more open references.
-unfoldable pub value_at : Variables → ℕ → Evaluator
-value_at s zero names count parts = joined s None names count [] parts
-value_at s (suc room) names count parts = joined s (Some (value_at s room)) names count [] parts
+-- The value of a tree, with room for so many more open references.
+unfoldable pub value_at : ℕ → Evaluator
+value_at zero c count tree = joined None c count [] tree
+value_at (suc room) c count tree = joined (Some (value_at room)) c count [] tree
 
--- The value of a text that was read into parts.
-abbrev pub value : Variables → List Part → Result (List ℕ) ExpandFault
-value s parts = value_at s max_open [] 0 parts >>= λ found. Ok found.0
+-- what evaluates the references of a tree, with room for so many more
+unfoldable pub inside : ℕ → Option Evaluator
+inside zero = None
+inside (suc room) = Some (value_at room)
 
--- what evaluates the references of parts with room for so many more
-unfoldable pub inner : Variables → ℕ → Option Evaluator
-inner s zero = None
-inner s (suc room) = Some (value_at s room)
+-- The value of a tree, with the flag of `:=` or without it.
+abbrev pub value : Variables → Locals → Bool → Tree → Result (List ℕ) ExpandFault
+value variables locals keep tree =
+    value_at max_open (context variables locals [] keep) 0 tree >>= λ v. Ok v.0
 
--- a reference may be opened, and the fault where it may not
-abbrev pub MayOpen : ℕ → ℕ → Type 0
-MayOpen room count = (0 < room) × (count < max_references)
-
-abbrev pub MayNotOpen : ℕ → ℕ → ExpandFault → Type 0
-MayNotOpen room count fault =
-    ((room ≡ 0) × (fault ≡ TooDeep))
-    ⊎ ((0 < room) × (max_references ≤ count) × (fault ≡ TooManyReferences))
+-- The value of a text.
+abbrev pub value_of_text : Variables → Locals → Bool → List ℕ → Result (List ℕ) ExpandFault
+value_of_text variables locals keep text =
+    text_value (value_at max_open) (context variables locals [] keep) 0 text >>= λ v. Ok v.0

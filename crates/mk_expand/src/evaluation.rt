@@ -1,132 +1,200 @@
-//! The value of a text: the values of its parts, joined.
-ghost use Rattle.std.specs.Prelude.{◌≡◌, ◌+◌, IfErr, OnOk};
-ghost use Rattle.std.specs.Option.{option_copied};
+//! The value of a tree: the values of its parts, joined.
+ghost use Rattle.std.specs.Prelude.{◌≡◌, OnOk};
+ghost use Rattle.mk_ast.specs.View.{mods_view, part_view, tree_view};
 ghost use Rattle.mk_bytes.specs.Agrees.{Agrees};
+ghost use Rattle.mk_expand.specs.Names.{context};
 ghost use Rattle.mk_expand.specs.Value as spec;
 ghost use Rattle.mk_expand.specs.declared.fault.ExpandFault.TheVariants.{NoMemory as no_memory};
 
+use crate::chain::{Found, all_modified, append_found};
 use crate::fault::ExpandFault;
-use crate::part::{Part, Parts, parse};
-use mk_bytes::{Items, Text, Texts};
-use mk_scopes::Scopes;
-use std::alloc::Global;
+use crate::limit::{append, open_reference};
+use crate::local::local_raw;
+use crate::name::{Names, is_among, known};
+use crate::plain::{double, has_dollar, plain_value};
+use mk_ast::{ModTrees, Part, Tree, parse};
+use mk_bytes::{Text, Texts};
 
-const MAX_OPEN: usize = 256;
-
-const MAX_REFERENCES: u32 = 1_048_576;
-
-const MAX_VALUE: usize = 4_194_304;
-
-/// The value of a text that was read into parts. Each fault comes exactly where the definition has
-/// it first; want of memory may stand in place of any answer.
-pub fn expand(alloc: Global, scopes: &Scopes, parts: &Parts) -> Result<Text, ExpandFault>
-    ensures { Agrees no_memory (λ value. value) result (spec.value scopes.now parts.now) }
-{
-    let mut names = Items::new(alloc, 0)?;
-    let mut references = 0;
-    parts_value(alloc, scopes, &mut names, &mut references, MAX_OPEN, parts)
+/// How far an evaluation is: the variables whose values are being expanded, and the number of
+/// references evaluated so far.
+#[derive(Drop)]
+pub struct Run {
+    pub open_names: Texts,
+    pub references: u32,
 }
 
-fn is_among(names: &Texts, name: &[u8]) -> bool
-    ensures { result ≡ spec.is_among names.now name.now }
-{
-    names.as_slice().iter().any(|one| one.bytes() == name)
-}
-
-// One more reference, which is open while it is evaluated.
-fn open_reference(references: &mut u32, room: usize) -> Result<(), ExpandFault>
-    ensures ok { OnOk result
-        (spec.MayOpen room references.old × (references.new ≡ references.old + 1)) }
-    ensures err { IfErr result (λ fault. spec.MayNotOpen room references.old fault) }
-{
-    if room == 0 {
-        return Err(ExpandFault::TooDeep);
-    }
-    if *references >= MAX_REFERENCES {
-        return Err(ExpandFault::TooManyReferences);
-    }
-    *references += 1;
-    Ok(())
-}
-
+/// The value of a text, which is read as a whole first.
 #[cycle(value)]
-fn parts_value(
-    alloc: Global,
-    scopes: &Scopes,
-    names: &mut Texts,
-    references: &mut u32,
+pub fn text_value(
+    names: &Names<'_>,
+    run: &mut Run,
     room: usize,
-    parts: &Parts,
+    keep: bool,
+    text: &[u8],
 ) -> Result<Text, ExpandFault>
-    ensures value { Agrees no_memory (λ value. (value, references.new)) result
-        (spec.value_at scopes.now room names.old references.old parts.now) }
-    ensures names { OnOk result (names.new ≡ names.old) }
+    ensures value { Agrees no_memory (λ value. (value, run.new.references)) result
+        (spec.text_value (spec.value_at room)
+        (context names.now.scopes.now names.now.locals.now run.old.open_names keep)
+        run.old.references text.now) }
+    ensures open_names { OnOk result (run.new.open_names ≡ run.old.open_names) }
 {
-    let mut text = Text::new(alloc);
-    for part in parts.as_slice() {
-        let value = part_value(alloc, scopes, names, references, room, part)?;
-        if text.len() + value.len() > MAX_VALUE {
-            return Err(ExpandFault::TooLong);
-        }
-        text.push(value.bytes())?;
+    if !has_dollar(text) {
+        return plain_value(names.alloc, text);
+    }
+    let tree = parse(names.alloc, text)?;
+    tree_value(names, run, room, keep, &tree)
+}
+
+/// The value of a tree.
+#[cycle(value)]
+pub fn tree_value(
+    names: &Names<'_>,
+    run: &mut Run,
+    room: usize,
+    keep: bool,
+    tree: &Tree,
+) -> Result<Text, ExpandFault>
+    ensures value { Agrees no_memory (λ value. (value, run.new.references)) result
+        (spec.value_at room
+        (context names.now.scopes.now names.now.locals.now run.old.open_names keep)
+        run.old.references (tree_view tree.now)) }
+    ensures open_names { OnOk result (run.new.open_names ≡ run.old.open_names) }
+{
+    let mut text = Text::new(names.alloc);
+    for part in tree.as_slice() {
+        append_part(names, run, room, keep, &mut text, part)?;
     }
     Ok(text)
 }
 
+// A part's value, behind the text so far.
 #[cycle(value)]
-fn part_value(
-    alloc: Global,
-    scopes: &Scopes,
-    names: &mut Texts,
-    references: &mut u32,
+fn append_part(
+    names: &Names<'_>,
+    run: &mut Run,
     room: usize,
+    keep: bool,
+    text: &mut Text,
     part: &Part,
-) -> Result<Text, ExpandFault>
-    ensures value { Agrees no_memory (λ value. (value, references.new)) result
-        (spec.part_value scopes.now (spec.inner scopes.now room) names.old references.old part.now) }
-    ensures names { OnOk result (names.new ≡ names.old) }
+) -> Result<(), ExpandFault>
+    ensures value { Agrees no_memory (λ done. (text.new, run.new.references)) result
+        (spec.part_appended (spec.inside room)
+        (context names.now.scopes.now names.now.locals.now run.old.open_names keep)
+        run.old.references text.old (part_view part.now)) }
+    ensures open_names { OnOk result (run.new.open_names ≡ run.old.open_names) }
 {
     match part {
-        Part::Plain(text) => Ok(text.copy(alloc)?),
-        Part::Reference(name) => {
-            open_reference(references, room)?;
-            variable(alloc, scopes, names, references, room - 1, name)
+        Part::Plain(bytes) => append(text, bytes.bytes()),
+        Part::Escaped(byte) => append(text, &[*byte]),
+        Part::Double => append(text, double(keep)),
+        Part::Lone => append(text, b"$"),
+        Part::Short(byte) => {
+            let found = short_found(names, run, room, keep, *byte)?;
+            append_found(names.alloc, text, keep, &found, part)
+        }
+        Part::Ref {
+            round: _,
+            name,
+            mods,
+        } => {
+            let found = reference_found(names, run, room, keep, name, mods)?;
+            append_found(names.alloc, text, keep, &found, part)
         }
     }
 }
 
+// What `$c` finds.
 #[cycle(value)]
-fn variable(
-    alloc: Global,
-    scopes: &Scopes,
-    names: &mut Texts,
-    references: &mut u32,
+fn short_found(
+    names: &Names<'_>,
+    run: &mut Run,
     room: usize,
-    name: &Text,
-) -> Result<Text, ExpandFault>
-    ensures value { Agrees no_memory (λ value. (value, references.new)) result
-        (spec.variable scopes.now (spec.value_at scopes.now room) names.old references.old
-        name.now) }
-    ensures names { OnOk result (names.new ≡ names.old) }
+    keep: bool,
+    byte: u8,
+) -> Result<Found, ExpandFault>
+    ensures value { Agrees no_memory (λ found. (found, run.new.references)) result
+        (spec.short_found (spec.inside room)
+        (context names.now.scopes.now names.now.locals.now run.old.open_names keep)
+        run.old.references byte) }
+    ensures open_names { OnOk result (run.new.open_names ≡ run.old.open_names) }
 {
-    if is_among(names, name.bytes()) {
-        return Err(ExpandFault::Recursive(name.copy(alloc)?));
-    }
-    let Some(raw) = known(scopes, name) else {
-        return Ok(Text::new(alloc));
-    };
-    let parts = parse(alloc, raw.bytes())?;
-    names.push(name.copy(alloc)?)?;
-    let value = parts_value(alloc, scopes, names, references, room, &parts)?;
-    names.drop_last();
-    Ok(value)
+    open_reference(&mut run.references, room)?;
+    let name = Text::from_bytes(names.alloc, &[byte])?;
+    variable(names, run, room - 1, keep, name)
 }
 
-fn known<'s>(scopes: &'s Scopes, name: &Text) -> Option<&'s Text>
-    ensures { option_copied result ≡ spec.known scopes.now name.now }
+// What a name with modifiers finds. Its name is expanded without `keep`.
+#[cycle(value)]
+fn reference_found(
+    names: &Names<'_>,
+    run: &mut Run,
+    room: usize,
+    keep: bool,
+    name: &Tree,
+    mods: &ModTrees,
+) -> Result<Found, ExpandFault>
+    ensures value { Agrees no_memory (λ found. (found, run.new.references)) result
+        (spec.reference_found (spec.inside room)
+        (context names.now.scopes.now names.now.locals.now run.old.open_names keep)
+        run.old.references (tree_view name.now) (mods_view mods.now)) }
+    ensures open_names { OnOk result (run.new.open_names ≡ run.old.open_names) }
 {
-    if name.is_empty() {
-        return None;
+    open_reference(&mut run.references, room)?;
+    let name = tree_value(names, run, room - 1, false, name)?;
+    let found = variable(names, run, room - 1, keep, name)?;
+    all_modified(found, mods)
+}
+
+#[cycle(value)]
+fn variable(
+    names: &Names<'_>,
+    run: &mut Run,
+    room: usize,
+    keep: bool,
+    name: Text,
+) -> Result<Found, ExpandFault>
+    ensures value { Agrees no_memory (λ found. (found, run.new.references)) result
+        (spec.variable (spec.value_at room)
+        (context names.now.scopes.now names.now.locals.now run.old.open_names keep)
+        run.old.references name) }
+    ensures open_names { OnOk result (run.new.open_names ≡ run.old.open_names) }
+{
+    if is_among(&run.open_names, name.bytes()) {
+        return Err(ExpandFault::Recursive(name));
     }
-    scopes.get(name.bytes())
+    if let Some(raw) = local_raw(names.alloc, names.locals, name.bytes())? {
+        return opened_value(names, run, room, keep, name, raw.bytes());
+    }
+    match known(names.scopes, name.bytes()) {
+        Some(raw) => opened_value(names, run, room, keep, name, raw.bytes()),
+        None => Ok(Found {
+            value: Text::new(names.alloc),
+            defined: false,
+        }),
+    }
+}
+
+// The value of a raw value, while its name is open.
+#[cycle(value)]
+fn opened_value(
+    names: &Names<'_>,
+    run: &mut Run,
+    room: usize,
+    keep: bool,
+    name: Text,
+    raw: &[u8],
+) -> Result<Found, ExpandFault>
+    ensures value { Agrees no_memory (λ found. (found, run.new.references)) result
+        (spec.opened_value (spec.value_at room)
+        (context names.now.scopes.now names.now.locals.now run.old.open_names keep)
+        run.old.references name raw.now) }
+    ensures open_names { OnOk result (run.new.open_names ≡ run.old.open_names) }
+{
+    run.open_names.push(name)?;
+    let value = text_value(names, run, room, keep, raw)?;
+    run.open_names.drop_last();
+    Ok(Found {
+        value,
+        defined: true,
+    })
 }

@@ -1,10 +1,15 @@
 //! The value of a text with references to variables (make(1), "VARIABLE ASSIGNMENTS").
 #![tactic(auto)]
 
+mod chain;
 mod evaluation;
 mod fault;
-mod part;
+mod limit;
+mod local;
+mod name;
+mod plain;
+mod whole;
 
-pub use evaluation::expand;
 pub use fault::ExpandFault;
-pub use part::{Part, Parts, parse};
+pub use local::Locals;
+pub use whole::{expand, name_tree, value_of_text};

@@ -1,95 +1,135 @@
-use Rattle.std.proofs.Common.{◌≡◌, ◌++◌, Ok, Err, refl, sym, ◌∙◌, arith, inr}
+use Rattle.std.proofs.Common.{[], ◌∷◌, refl, sym, ◌∙◌, inr}
 use Rattle.std.proofs.lemmas.Result.{err_from_is_err_and}
+use Rattle.mk_ast.specs.View.{mods_view, tree_view}
 use Rattle.mk_bytes.proofs.AgreesLemmas.{AgreesErr-bind}
-use Rattle.mk_expand.proofs.ValueLemmas.{joined-part, joined-end, value_at-joined, appended-long, appended-fits, opened-not, opened-may}
+use Rattle.mk_expand.specs.Limits.{appended}
+use Rattle.mk_expand.specs.Names.{context}
 use Rattle.mk_expand.specs.Value as spec
-use Rattle.mk_expand.specs.declared.fault.ExpandFault.TheVariants.{NoMemory as no_memory, TooLong}
+use Rattle.mk_expand.specs.declared.fault.ExpandFault.TheVariants.{NoMemory as no_memory}
+use Rattle.mk_expand.proofs.PlainLemmas.{Agrees-counted, text_value-plain}
+use Rattle.mk_expand.proofs.ValueLemmas.{joined-part, joined-end, value_at-joined, opened-not}
+use Rattle.mk_expand.proofs.ValueLemmas.{opened-may}
 use Rattle.mk_expand.proofs.evaluation.+value.Goals as goal
 
-pub part_value-returns-in_err-open_reference-in-Reference-clause-value :
-    goal.part_value-returns-in_err-open_reference-in-Reference-clause-value
-part_value-returns-in_err-open_reference-in-Reference-clause-value t c =
-    let refused = c.from_residual-in_err-open_reference-in-Reference in
-    let p = err_from_is_err_and refused.result refused.ensures.1 in
-    rw (p.1, p.2, c.in-Reference.is)
-    (inr (opened-not c.args.scopes.now c.args.room c.args.references.now _ _
-    c.in_err-open_reference-in-Reference.ensures.err))
+pub reference_found-returns-in_err-open_reference-clause-value :
+    goal.reference_found-returns-in_err-open_reference-clause-value
+reference_found-returns-in_err-open_reference-clause-value t c =
+    let p = err_from_is_err_and c.from_residual.result c.from_residual.ensures.1 in
+    rw (p.1, p.2)
+    (inr (opened-not c.args.room c.args.run.now.references _ _
+    c.in_err-open_reference.ensures.err))
 
-pub part_value-returns-in_ok-open_reference-in-Reference-clause-value :
-    goal.part_value-returns-in_ok-open_reference-in-Reference-clause-value
-part_value-returns-in_ok-open_reference-in-Reference-clause-value t c =
-    let s = c.args.scopes.now in
-    let goes = opened-may s c.args.room c.args.references.now c.open_reference.new.references
-    (λ evaluate n. spec.variable s evaluate c.args.names.now n c.in-Reference.name)
-    c.in_ok-open_reference-in-Reference.ensures.ok in
-    rw (c.in-Reference.is, goes) c.variable.ensures.value
+pub reference_found-returns-in_err-name-clause-value :
+    goal.reference_found-returns-in_err-name-clause-value
+reference_found-returns-in_err-name-clause-value t c =
+    let p = err_from_is_err_and c.from_residual-in_err-name.result
+    c.from_residual-in_err-name.ensures.1 in
+    let here = context c.args.names.now.scopes.now c.args.names.now.locals.now
+    c.args.run.now.open_names c.args.keep in
+    let goes = opened-may c.args.room c.args.run.now.references c.open_reference.new.references
+    (λ evaluate n. spec.reference evaluate here n (tree_view c.args.name.now)
+    (mods_view c.args.mods.now)) c.in_ok-open_reference.ensures.ok in
+    rw (p.1, p.2, goes)
+    (AgreesErr-bind no_memory c.in_err-name.field-0.0 _ _ c.in_err-name.ensures.value)
 
-pub parts_value-loop-part-init : goal.parts_value-loop-part-init
-parts_value-loop-part-init t c =
+pub reference_found-returns-in_err-found-clause-value :
+    goal.reference_found-returns-in_err-found-clause-value
+reference_found-returns-in_err-found-clause-value t c =
+    let p = err_from_is_err_and c.from_residual-in_err-found.result
+    c.from_residual-in_err-found.ensures.1 in
+    let here = context c.args.names.now.scopes.now c.args.names.now.locals.now
+    c.args.run.now.open_names c.args.keep in
+    let goes = opened-may c.args.room c.args.run.now.references c.open_reference.new.references
+    (λ evaluate n. spec.reference evaluate here n (tree_view c.args.name.now)
+    (mods_view c.args.mods.now)) c.in_ok-open_reference.ensures.ok in
+    let fault = rw c.in_ok-name.ensures.open_names at c.in_err-found.ensures.value in
+    rw (p.1, p.2, goes, c.in_ok-name.ensures.value)
+    (AgreesErr-bind no_memory c.in_err-found.field-0.0 _ _ fault)
+
+pub reference_found-returns-clause-value : goal.reference_found-returns-clause-value
+reference_found-returns-clause-value t c =
+    let here = context c.args.names.now.scopes.now c.args.names.now.locals.now
+    c.args.run.now.open_names c.args.keep in
+    let goes = opened-may c.args.room c.args.run.now.references c.open_reference.new.references
+    (λ evaluate n. spec.reference evaluate here n (tree_view c.args.name.now)
+    (mods_view c.args.mods.now)) c.in_ok-open_reference.ensures.ok in
+    let found = rw c.in_ok-name.ensures.open_names at c.in_ok-found.ensures.value in
+    rw (goes, c.in_ok-name.ensures.value, found)
+    (Agrees-counted no_memory c.variable.new.run.references c.all_modified.result _
+    c.all_modified.ensures)
+
+pub short_found-returns-in_err-open_reference-clause-value :
+    goal.short_found-returns-in_err-open_reference-clause-value
+short_found-returns-in_err-open_reference-clause-value t c =
+    let p = err_from_is_err_and c.from_residual.result c.from_residual.ensures.1 in
+    rw (p.1, p.2)
+    (inr (opened-not c.args.room c.args.run.now.references _ _
+    c.in_err-open_reference.ensures.err))
+
+pub short_found-returns-clause-value : goal.short_found-returns-clause-value
+short_found-returns-clause-value t c =
+    let here = context c.args.names.now.scopes.now c.args.names.now.locals.now
+    c.args.run.now.open_names c.args.keep in
+    let goes = opened-may c.args.room c.args.run.now.references c.open_reference.new.references
+    (λ evaluate n. spec.variable evaluate here n (c.args.byte ∷ []))
+    c.in_ok-open_reference.ensures.ok in
+    rw goes (rw c.in_ok-name.ensures at c.variable.ensures.value)
+
+pub text_value-returns-then-not-has_dollar-clause-value :
+    goal.text_value-returns-then-not-has_dollar-clause-value
+text_value-returns-then-not-has_dollar-clause-value t c =
+    let here = context c.args.names.now.scopes.now c.args.names.now.locals.now
+    c.args.run.now.open_names c.args.keep in
+    let count = c.args.run.now.references in
+    let text = c.args.text.now in
+    let none = sym c.has_dollar.ensures ∙ c.if-not-has_dollar.true in
+    rw (text_value-plain c.args.room here count text none)
+    (Agrees-counted no_memory count c.plain_value.result (appended [] text) c.plain_value.ensures)
+
+pub tree_value-loop-part-init : goal.tree_value-loop-part-init
+tree_value-loop-part-init t c =
     record {
-      value = rw c.new-text.ensures (sym (value_at-joined c.args.scopes.now c.args.room _ _ _));
-      names = refl;
+      value = rw c.new-text.ensures (sym (value_at-joined c.args.room _ _ _));
+      open_names = refl;
     }
 
-pub parts_value-returns-in_err-value-clause-value :
-    goal.parts_value-returns-in_err-value-clause-value
-parts_value-returns-in_err-value-clause-value t c =
+pub tree_value-returns-in_err-append_part-clause-value :
+    goal.tree_value-returns-in_err-append_part-clause-value
+tree_value-returns-in_err-append_part-clause-value t c =
     let p = err_from_is_err_and c.from_residual.result c.from_residual.ensures.1 in
     let l = c.loop-part in
-    let s = c.args.scopes.now in
-    let step = joined-part s (spec.inner s c.args.room) l.names l.references l.text
+    let here = context c.args.names.now.scopes.now c.args.names.now.locals.now l.run.open_names
+    c.args.keep in
+    let step = joined-part (spec.inside c.args.room) here l.run.references l.text
     c.as_slice-part-items.result.now l.part-index c.part-item.result c.loop-part-test.true
     c.part-item.is in
     rw (p.1, p.2, ← c.as_slice-part-items.ensures.value, ← l.invariant.value, step)
-    (AgreesErr-bind no_memory c.in_err-value.field-0.0 _ _ c.in_err-value.ensures.value)
+    (AgreesErr-bind no_memory c.in_err-append_part.field-0.0 _ _
+    c.in_err-append_part.ensures.value)
 
-pub parts_value-returns-then-len-gt-MAX_VALUE-clause-value :
-    goal.parts_value-returns-then-len-gt-MAX_VALUE-clause-value
-parts_value-returns-then-len-gt-MAX_VALUE-clause-value t c =
+pub tree_value-loop-part-preserved : goal.tree_value-loop-part-preserved
+tree_value-loop-part-preserved t c =
     let l = c.loop-part in
-    let s = c.args.scopes.now in
-    let step = joined-part s (spec.inner s c.args.room) l.names l.references l.text
+    let here = context c.args.names.now.scopes.now c.args.names.now.locals.now l.run.open_names
+    c.args.keep in
+    let step = joined-part (spec.inside c.args.room) here l.run.references l.text
     c.as_slice-part-items.result.now l.part-index c.part-item.result c.loop-part-test.true
     c.part-item.is in
-    let v = c.in_ok-value.value in
-    let long : spec.appended l.text v c.part_value.new.references ≡ Err TooLong =
-    appended-long l.text v c.part_value.new.references (omega arith) in
-    rw (
-      ← c.as_slice-part-items.ensures.value,
-      ← l.invariant.value,
-      step,
-      c.in_ok-value.ensures.value,
-      long,
-    ) (inr refl)
-
-pub parts_value-loop-part-preserved : goal.parts_value-loop-part-preserved
-parts_value-loop-part-preserved t c =
-    let l = c.loop-part in
-    let s = c.args.scopes.now in
-    let step = joined-part s (spec.inner s c.args.room) l.names l.references l.text
-    c.as_slice-part-items.result.now l.part-index c.part-item.result c.loop-part-test.true
-    c.part-item.is in
-    let v = c.in_ok-value.value in
-    let fits : spec.appended l.text v c.part_value.new.references
-    ≡ Ok (l.text ++ v, c.part_value.new.references) =
-    appended-fits l.text v c.part_value.new.references (omega arith) in
     record {
       value = rw (
         ← l.invariant.value,
         step,
-        c.in_ok-value.ensures.value,
-        fits,
-        c.in_ok-value.ensures.names,
-        c.in_ok-push.ensures.ok,
-        c.bytes.ensures.value,
+        c.in_ok-append_part.ensures.value,
+        c.in_ok-append_part.ensures.open_names,
       ) refl;
-      names = c.in_ok-value.ensures.names ∙ l.invariant.names;
+      open_names = c.in_ok-append_part.ensures.open_names ∙ l.invariant.open_names;
     }
 
-pub parts_value-returns-clause-value : goal.parts_value-returns-clause-value
-parts_value-returns-clause-value t c =
+pub tree_value-returns-clause-value : goal.tree_value-returns-clause-value
+tree_value-returns-clause-value t c =
     let l = c.loop-part in
-    let s = c.args.scopes.now in
-    let done = joined-end s (spec.inner s c.args.room) l.names l.references l.text
+    let here = context c.args.names.now.scopes.now c.args.names.now.locals.now l.run.open_names
+    c.args.keep in
+    let done = joined-end (spec.inside c.args.room) here l.run.references l.text
     c.as_slice-part-items.result.now l.part-index c.loop-part-test.false in
     rw (← c.as_slice-part-items.ensures.value) (sym l.invariant.value ∙ done)

@@ -1,0 +1,34 @@
+//! Bytes that stand for themselves, and `$$`.
+ghost use Rattle.std.specs.Prelude.{◌≡◌, []};
+ghost use Rattle.mk_bytes.specs.Agrees.{Agrees};
+ghost use Rattle.mk_expand.specs.Limits.{appended};
+ghost use Rattle.mk_expand.specs.Texts.{has_dollar};
+ghost use Rattle.mk_expand.specs.Value.{double_value};
+ghost use Rattle.mk_expand.specs.declared.fault.ExpandFault.TheVariants.{NoMemory as no_memory};
+
+use crate::fault::ExpandFault;
+use crate::limit::append;
+use mk_bytes::Text;
+use std::alloc::Global;
+
+pub fn has_dollar(text: &[u8]) -> bool
+    ensures { result ≡ has_dollar text.now }
+{
+    text.iter().any(|byte| *byte == b'$')
+}
+
+/// The value of a text without any `$`.
+pub fn plain_value(alloc: Global, text: &[u8]) -> Result<Text, ExpandFault>
+    ensures { Agrees no_memory (λ value. value) result (appended [] text.now) }
+{
+    let mut value = Text::new(alloc);
+    append(&mut value, text)?;
+    Ok(value)
+}
+
+/// What `$$` gives.
+pub fn double(keep: bool) -> &'static [u8]
+    ensures { result.now ≡ double_value keep }
+{
+    if keep { b"$$" } else { b"$" }
+}
