@@ -1,2 +1,8 @@
-pub mod LineLemmas
-pub mod ReadingLemmas
+pub mod FaultLemmas
+pub mod FileLemmas
+pub mod LookLemmas
+pub mod PieceLemmas
+pub mod ReadLemmas
+mod Rows
+pub mod SignLemmas
+pub mod SoughtLemmas

@@ -1,2 +1,10 @@
-pub mod Lines
+pub mod Assignments
+pub mod Dependencies
+pub mod Directives
+pub mod Files
+pub mod Kinds
+pub mod Looks
+pub mod Orders
 pub mod Reading
+pub mod Steps
+pub mod Variables

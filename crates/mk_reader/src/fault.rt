@@ -1,11 +1,56 @@
 use mk_bytes::{NoMemory, Text};
+use mk_expand::ExpandFault;
 use mk_world::WorldFault;
 
-/// What is wrong with a line of a makefile.
-#[derive(Clone, Copy, Debug, PartialEq, Eq)]
+/// What is wrong with a line of a makefile, or with an assignment of the command line.
+#[derive(Debug, Drop)]
 pub enum What {
+    /// The logical line is longer than 1,048,576 bytes.
+    TooLong,
+    /// The physical line holds a zero byte.
+    Zero,
+    /// A command line follows no dependency line.
+    LostCommand,
+    /// The name of a variable is empty once it is expanded.
+    EmptyName,
+    /// A name or a text has no value. The fault is never want of memory.
+    Expand(ExpandFault),
     /// The line has a form that is not built yet.
     Unbuilt,
+}
+
+/// Why a line is refused.
+#[derive(Debug, Drop)]
+pub enum Refusal {
+    /// The first thing that is wrong.
+    Wrong(What),
+    /// Memory ran out.
+    NoMemory,
+}
+
+impl From<NoMemory> for Refusal {
+    ghost use Rattle.std.specs.Prelude.{◌≡◌};
+    ghost use Rattle.mk_reader.specs.declared.fault.Refusal.TheVariants.{NoMemory as no_memory};
+
+    ghost from_gives = { λ _ fault. fault ≡ no_memory };
+
+    fn from(_: NoMemory) -> Refusal {
+        Refusal::NoMemory
+    }
+}
+
+impl From<ExpandFault> for Refusal {
+    ghost use Rattle.std.specs.Prelude.{◌≡◌};
+    ghost use Rattle.mk_reader.specs.Variables.{of_expand};
+
+    ghost from_gives = { λ given fault. fault ≡ of_expand given };
+
+    fn from(fault: ExpandFault) -> Refusal {
+        match fault {
+            ExpandFault::NoMemory => Refusal::NoMemory,
+            other => Refusal::Wrong(What::Expand(other)),
+        }
+    }
 }
 
 /// Why the makefiles of a run could not be read.
@@ -13,7 +58,8 @@ pub enum What {
 pub enum ReadFault {
     /// The makefile of this name, as the command line has it, is missing.
     NoFile(Text),
-    /// A file, a line of it, counted from 1, and the first thing that is wrong.
+    /// A file as the command line has it, a line of it, counted from 1, and the first thing that is
+    /// wrong. For an assignment of the command line the name is empty and the line is 0.
     Bad(Text, u32, What),
     /// A call of the world failed.
     World,

@@ -1,12 +1,18 @@
-//! Reading of makefiles: from their bytes to variables.
-//!
-//! Read today: empty lines, and assignments `NAME=value` of one physical line. Every other line is
-//! refused as a form that is not built yet.
+//! Reading of makefiles: from their bytes to variables and the rule (make(1)).
 #![tactic(auto)]
 
+mod assignment;
+mod dependency;
+mod directive;
 mod fault;
-mod line;
+mod file;
+mod kind;
+mod look;
+mod order;
 mod reading;
+mod state;
+mod step;
+mod variable;
 
 pub use fault::{ReadFault, What};
 pub use reading::read;

@@ -1,0 +1,9 @@
+use mk_graph::Made;
+
+/// What the lines so far leave.
+#[derive(Drop)]
+pub struct State {
+    pub made: Made,
+    /// Whether command lines follow the last dependency line, so that they belong to its rule.
+    pub in_group: bool,
+}
