@@ -1,0 +1,132 @@
+-- Command lines that are expanded one after the other.
+use Rattle.std.proofs.Common.{◌≡◌, ◌∙◌, ℕ, ◌+◌, ◌<◌, length, drop, get_or, List, [], ◌∷◌, ◌++◌, Ok, Err, Result, inl, inr, refl, ap, sym, subst, length-append, arith, Bool, true, false, if◌then◌else◌}
+use Rattle.std.specs.List.{list_any}
+use Rattle.std.proofs.lemmas.Grind.{common_steps}
+use Rattle.std.proofs.lemmas.Option.{slice_get-get_or}
+use Rattle.mk_bytes.specs.Agrees.{Agrees, AgreesErr, ◌>>=◌}
+use Rattle.mk_expand.specs.declared.fault.ExpandFault.{ExpandFault}
+use Rattle.mk_expand.specs.declared.fault.ExpandFault.TheVariants.{NoMemory}
+use Rattle.mk_expand.specs.declared.local.Locals.{Locals}
+use Rattle.mk_flags.specs.declared.Flags.{Flags}
+use Rattle.mk_scopes.specs.Scopes.{Variables}
+use Rattle.mk_world.specs.declared.command.Task.{Task}
+use Rattle.mk_world.specs.declared.command.TaskLine.{TaskLine}
+use Rattle.mk_plan.proofs.PlanLemmas.{drop-at}
+use Rattle.mk_plan.specs.Refusals.{IsWant, IsTaskFault}
+use Rattle.mk_plan.specs.Plans.{node_at}
+use Rattle.mk_plan.specs.Tasks.{at_line, line_of, lines_from, locals_of, task_of, task_with, is_slash, last_component}
+use Rattle.mk_plan.specs.declared.plan.PlanNode.{PlanNode}
+use Rattle.mk_plan.specs.declared.fault.TaskFault.{TaskFault}
+
+pub lines_from-end : (v : Variables) (l : Locals) (f : Flags) (lines : List TaskLine) (number : ℕ)
+    → lines_from v l f lines number [] ≡ Ok lines
+unfolding lines_from
+lines_from-end v l f lines number = refl
+
+-- one line more
+pub lines_from-line : (v : Variables) (l : Locals) (f : Flags) (lines : List TaskLine) (number : ℕ)
+    (rest : List (List ℕ)) (raw : List ℕ) (more : List (List ℕ)) (line : TaskLine)
+    → rest ≡ raw ∷ more → line_of v l f raw ≡ Ok line
+    → lines_from v l f lines number rest ≡ lines_from v l f (lines ++ line ∷ []) (number + 1) more
+unfolding lines_from
+lines_from-line v l f lines number rest raw more line are is = rw (are, is) refl
+
+-- a line's fault is that of all
+pub lines_from-fault : (v : Variables) (l : Locals) (f : Flags) (lines : List TaskLine) (number : ℕ)
+    (rest : List (List ℕ)) (raw : List ℕ) (more : List (List ℕ)) (what : ExpandFault)
+    → rest ≡ raw ∷ more → AgreesErr NoMemory what (line_of v l f raw)
+    → IsTaskFault (record { line = number; what = what }) (lines_from v l f lines number rest)
+unfolding lines_from
+lines_from-fault v l f lines number rest raw more what are (inl want) = inl want
+lines_from-fault v l f lines number rest raw more what are (inr is) = rw (are, is) (inr refl)
+
+-- the last component, by where it begins in the bytes so far and by the bytes that follow
+abbrev pub component_by : List ℕ → List ℕ → List ℕ
+component_by begun rest = if list_any is_slash rest then last_component rest else begun
+
+last_component-none : (path : List ℕ) → list_any is_slash path ≡ false
+    → last_component path ≡ path
+last_component-none [] none = refl
+last_component-none (byte ∷ bytes) none = rw none refl
+
+pub last_component-by : (path : List ℕ) → last_component path ≡ component_by path path
+last_component-by path = at (list_any is_slash path) refl
+  where
+    at : (any : Bool) → list_any is_slash path ≡ any
+        → last_component path ≡ (if any then last_component path else path)
+    at true is = refl
+    at false is = last_component-none path is
+
+component-slash : (begun : List ℕ) (byte : ℕ) (bytes : List ℕ) → is_slash byte ≡ true
+    → component_by begun (byte ∷ bytes) ≡ component_by bytes bytes
+component-slash begun byte bytes is = rw is (last_component-by bytes)
+
+component-other : (begun : List ℕ) (byte : ℕ) (bytes : List ℕ) → is_slash byte ≡ false
+    → component_by begun (byte ∷ bytes) ≡ component_by begun bytes
+component-other begun byte bytes is = at (list_any is_slash bytes) refl
+  where
+    at : (any : Bool) → list_any is_slash bytes ≡ any
+        → component_by begun (byte ∷ bytes) ≡ (if any then last_component bytes else begun)
+    at true none = rw (is, none) refl
+    at false none = rw (is, none) refl
+
+component-by_byte : (path : List ℕ) (start at next byte : ℕ) (slash : Bool)
+    → is_slash byte ≡ slash → drop at path ≡ byte ∷ drop (at + 1) path
+    → next ≡ (if is_slash byte then at + 1 else start)
+    → component_by (drop start path) (drop at path)
+    ≡ component_by (drop next path) (drop (at + 1) path)
+component-by_byte path start at next byte true slash are is =
+    let now : next ≡ at + 1 = is ∙ rw slash refl in
+    rw (are, now) (component-slash (drop start path) byte (drop (at + 1) path) slash)
+component-by_byte path start at next byte false other are is =
+    let now : next ≡ start = is ∙ rw other refl in
+    rw (are, now) (component-other (drop start path) byte (drop (at + 1) path) other)
+
+-- one byte further
+pub component-step : (path : List ℕ) (start at next : ℕ) → at < length path
+    → next ≡ (if is_slash (get_or path at 0) then at + 1 else start)
+    → component_by (drop start path) (drop at path)
+    ≡ component_by (drop next path) (drop (at + 1) path)
+component-step path start at next within is =
+    component-by_byte path start at next (get_or path at 0) (is_slash (get_or path at 0)) refl
+    (drop-at path at (get_or path at 0) (slice_get-get_or path at 0 within)) is
+
+bind-ok : {A B E : Type 0} (first : Result A E) (next : A → Result B E) (value : B)
+    → (first >>= next) ≡ Ok value → (given : A) × (first ≡ Ok given) × (next given ≡ Ok value)
+bind-ok (Ok given) next value is = (given, refl, is)
+bind-ok (Err fault) next value is = cc
+
+-- a task of these lines has them
+task-lines : (v : Variables) (name : List ℕ) (lines : List TaskLine) (task : Task)
+    (result : Result Task TaskFault) → result ≡ Ok (task_with v name lines) → result ≡ Ok task
+    → task.lines ≡ lines
+task-lines v name lines task result first second =
+    let same : task ≡ task_with v name lines = grind (arith, common_steps) in rw same refl
+
+-- as many lines as commands
+lines_from-length : (v : Variables) (l : Locals) (f : Flags) (lines : List TaskLine) (number : ℕ)
+    (raws : List (List ℕ)) (all : List TaskLine) → lines_from v l f lines number raws ≡ Ok all
+    → length all ≡ length lines + length raws
+unfolding lines_from
+lines_from-length v l f lines number [] all is =
+    let same : lines ≡ all = grind (arith, common_steps) in rw (← same) (omega arith)
+lines_from-length v l f lines number (raw ∷ raws) all is =
+    let parts = bind-ok (at_line number (line_of v l f raw))
+    (λ line. lines_from v l f (lines ++ line ∷ []) (number + 1) raws) all is in
+    let more = lines_from-length v l f (lines ++ parts.0 ∷ []) (number + 1) raws all parts.2 in
+    more ∙ rw (length-append lines (parts.0 ∷ [])) (omega arith)
+
+-- the task of a node has a line for each of its commands
+pub task_of-length : (v : Variables) (nodes : List PlanNode) (n : ℕ) (oodate : List (List ℕ))
+    (f : Flags) (task : Task) → task_of v nodes n oodate f ≡ Ok task
+    → length task.lines ≡ length (node_at nodes n).commands
+task_of-length v nodes n oodate f task is =
+    let parts = bind-ok
+    (lines_from v (locals_of nodes n oodate) f [] 1 (node_at nodes n).commands)
+    (λ lines. Ok (task_with v (node_at nodes n).name lines)) task is in
+    let lines_are : task.lines ≡ parts.0 =
+    task-lines v (node_at nodes n).name parts.0 task
+    (Ok (task_with v (node_at nodes n).name parts.0)) refl parts.2 in
+    rw lines_are
+    (lines_from-length v (locals_of nodes n oodate) f [] 1 (node_at nodes n).commands parts.0
+    parts.1 ∙ omega arith)

@@ -1,0 +1,5 @@
+pub mod Deciding
+pub mod Looks
+pub mod Plans
+pub mod Refusals
+pub mod Tasks

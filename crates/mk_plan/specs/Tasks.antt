@@ -1,0 +1,90 @@
+-- Tasks: the command lines of a node, expanded.
+use Rattle.std.specs.Prelude.{ℕ, ◌+◌, ◌==◌, ◌||◌, Bool, true, false, not, List, [], ◌∷◌, ◌++◌, length, take, drop, position, unwrap_or, Result, Ok, Err, if◌then◌else◌}
+use Rattle.std.specs.List.{list_any}
+use Rattle.mk_bytes.specs.Agrees.{◌>>=◌}
+use Rattle.mk_bytes.specs.Bytes.{at_sign, minus, plus, slash, is_blank}
+use Rattle.mk_expand.specs.Value.{value_of_text}
+use Rattle.mk_expand.specs.declared.fault.ExpandFault.{ExpandFault}
+use Rattle.mk_expand.specs.declared.local.Locals.{Locals}
+use Rattle.mk_flags.specs.declared.Flags.{Flags}
+use Rattle.mk_scopes.specs.Scopes.{Variables}
+use Rattle.mk_world.specs.declared.command.Task.{Task}
+use Rattle.mk_world.specs.declared.command.TaskLine.{TaskLine}
+use Rattle.mk_plan.specs.Plans.{node_at}
+use Rattle.mk_plan.specs.declared.fault.TaskFault.{TaskFault}
+use Rattle.mk_plan.specs.declared.plan.PlanNode.{PlanNode}
+
+-- a byte that says something of the command behind it, or nothing
+abbrev pub is_mark : ℕ → Bool
+is_mark byte = is_blank byte || byte == at_sign || byte == minus || byte == plus
+
+abbrev pub is_no_mark : ℕ → Bool
+is_no_mark byte = not (is_mark byte)
+
+abbrev pub marks_len : List ℕ → ℕ
+marks_len text = unwrap_or (position is_no_mark text) (length text)
+
+abbrev pub holds : ℕ → List ℕ → Bool
+holds byte text = list_any (λ one. one == byte) text
+
+-- An expanded line: `@` before its text makes it silent, `-` ignored, `+` always run.
+abbrev pub line_as : Flags → List ℕ → TaskLine
+line_as flags value = record {
+  text = drop (marks_len value) value;
+  ignore = flags.ignore || holds minus (take (marks_len value) value);
+  silent = flags.silent || holds at_sign (take (marks_len value) value);
+  always = holds plus (take (marks_len value) value);
+  compared = true;
+}
+
+abbrev pub line_of : Variables → Locals → Flags → List ℕ → Result TaskLine ExpandFault
+line_of variables locals flags raw =
+    value_of_text variables locals false raw >>= λ value. Ok (line_as flags value)
+
+-- the fault of a line has its number
+abbrev pub at_line : ℕ → Result TaskLine ExpandFault → Result TaskLine TaskFault
+at_line number (Ok line) = Ok line
+at_line number (Err what) = Err (record { line = number; what = what })
+
+-- the lines so far, and the others from this number on, up to the first fault
+unfoldable pub lines_from : Variables → Locals → Flags → List TaskLine → ℕ → List (List ℕ)
+    → Result (List TaskLine) TaskFault
+lines_from variables locals flags lines number [] = Ok lines
+lines_from variables locals flags lines number (raw ∷ more) =
+    at_line number (line_of variables locals flags raw)
+    >>= λ line. lines_from variables locals flags (lines ++ line ∷ []) (number + 1) more
+
+abbrev pub is_slash : ℕ → Bool
+is_slash byte = byte == slash
+
+-- what stands behind the last slash of a path
+abbrev pub last_component : List ℕ → List ℕ
+last_component [] = []
+last_component (byte ∷ bytes) =
+    if list_any is_slash (byte ∷ bytes) then last_component bytes else byte ∷ bytes
+
+abbrev pub names_at : List PlanNode → List ℕ → List (List ℕ)
+names_at nodes [] = []
+names_at nodes (place ∷ places) = (node_at nodes place).name ∷ names_at nodes places
+
+-- What the local names stand for where a node is made. There are no suffixes yet, and no implied
+-- source.
+abbrev pub locals_of : List PlanNode → ℕ → List (List ℕ) → Locals
+locals_of nodes n oodate = record {
+  target = (node_at nodes n).name;
+  all = names_at nodes (node_at nodes n).sources;
+  implied = [];
+  prefix = last_component (node_at nodes n).name;
+  oodate = oodate;
+  some = true;
+}
+
+abbrev pub task_with : Variables → List ℕ → List TaskLine → Task
+task_with variables target lines =
+    record { lines = lines; cwd = variables.cwd; target = target; exports = [] }
+
+-- The task of a node, where these of its sources are newer than it.
+abbrev pub task_of : Variables → List PlanNode → ℕ → List (List ℕ) → Flags → Result Task TaskFault
+task_of variables nodes n oodate flags =
+    lines_from variables (locals_of nodes n oodate) flags [] 1 (node_at nodes n).commands
+    >>= λ lines. Ok (task_with variables (node_at nodes n).name lines)

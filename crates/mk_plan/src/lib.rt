@@ -1,0 +1,16 @@
+//! What is to be made, in which order, and with which commands (NetBSD make(1), "FILE DEPENDENCY
+//! SPECIFICATIONS").
+//!
+//! A plan has the nodes that the wanted names need, each behind those that it is made from. There
+//! is one rule today; every other name is a file that has to be there.
+#![tactic(auto)]
+
+mod fault;
+mod making;
+mod plan;
+mod tasks;
+
+pub use fault::{PlanFault, TaskFault};
+pub use making::make_plan;
+pub use plan::{NodeState, Nodes, Plan, PlanNode};
+pub use tasks::{names_at, task};

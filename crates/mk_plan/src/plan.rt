@@ -1,0 +1,112 @@
+ghost use Rattle.std.specs.Prelude.{◌≡◌, ◌<◌, ◌^◌, length, IsTrue};
+ghost use Rattle.mk_plan.specs.Plans.{are_ordered, node_at};
+
+use mk_bytes::{Items, Text, Texts};
+use std::marker::Model;
+
+/// How a node of a plan stands in a run.
+#[derive(Clone, Copy, Debug, PartialEq, Eq)]
+pub enum NodeState {
+    /// Nothing was decided of it.
+    Undecided,
+    /// A job makes it.
+    Open,
+    /// It is up to date, or was made.
+    Settled,
+    /// It could not be made.
+    Failed,
+}
+
+/// Nodes, by their places in a plan.
+pub type Nodes = Items<u32>;
+
+/// A node of a plan.
+#[derive(Debug, Drop)]
+pub struct PlanNode {
+    /// Its cleaned path.
+    pub name: Text,
+    /// What it is made from, in the order of its line, repeated ones included.
+    pub sources: Nodes,
+    /// What has to be settled before it is decided.
+    pub before: Nodes,
+    /// Its command lines as they are written.
+    pub commands: Texts,
+}
+
+/// Nodes in the order in which one job would make them: each stands behind its predecessors.
+#[derive(Debug, Drop)]
+pub struct Plan {
+    nodes: Items<PlanNode>,
+}
+
+impl Model for Plan {
+    ghost use Rattle.std.specs.Prelude.{List, IsTrue};
+    ghost use Rattle.mk_plan.specs.Plans.{are_ordered};
+    ghost use Rattle.mk_plan.specs.declared.plan.PlanNode.{PlanNode};
+
+    ghost Value = { List PlanNode };
+
+    ghost view = { λ plan. plan.nodes };
+
+    ghost invariant = { λ plan. IsTrue (are_ordered 0 plan.nodes) };
+}
+
+impl Plan {
+    /// The cleaned path of a node, or nothing where there is no such node.
+    pub fn name_at(&self, n: u32) -> &[u8]
+        ensures { result.now ≡ (node_at self.now n).name }
+    {
+        match self.nodes.as_slice().get(n as usize) {
+            Some(node) => node.name.bytes(),
+            None => b"",
+        }
+    }
+
+    /// The plan of these nodes, each of which stands behind its predecessors.
+    pub fn of(nodes: Items<PlanNode>) -> Plan
+        requires { IsTrue (are_ordered 0 nodes) }
+        ensures { result ≡ nodes }
+    {
+        Plan { nodes }
+    }
+
+    /// How many nodes there are. Takes no memory.
+    pub fn len(&self) -> u32
+        ensures value { result ≡ length self.now }
+        ensures ordered { IsTrue (are_ordered 0 self.now) }
+    {
+        self.nodes.len() as u32
+    }
+
+    /// The cleaned path of a node.
+    pub fn name(&self, n: u32) -> &[u8]
+        requires { n < length self.now }
+        ensures { result.now ≡ (node_at self.now n).name }
+    {
+        self.nodes.get(n as usize).name.bytes()
+    }
+
+    /// What a node is made from, in the order of its line, repeated ones included.
+    pub fn sources(&self, n: u32) -> &Nodes
+        requires { n < length self.now }
+        ensures { result.now ≡ (node_at self.now n).sources }
+    {
+        &self.nodes.get(n as usize).sources
+    }
+
+    /// What has to be settled before a node is decided.
+    pub fn before(&self, n: u32) -> &Nodes
+        requires { n < length self.now }
+        ensures { result.now ≡ (node_at self.now n).before }
+    {
+        &self.nodes.get(n as usize).before
+    }
+
+    /// The command lines of a node as they are written.
+    pub fn commands(&self, n: u32) -> &Texts
+        requires { n < length self.now }
+        ensures { result.now ≡ (node_at self.now n).commands }
+    {
+        &self.nodes.get(n as usize).commands
+    }
+}

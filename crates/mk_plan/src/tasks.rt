@@ -1,0 +1,164 @@
+//! The task of a node: its command lines, expanded.
+ghost use Rattle.std.specs.Prelude.{◌≡◌, ◌<◌, ◌+◌, ◌^◌, [], length, position, Ok, IfSome, IfOk, IfErr, if◌then◌else◌};
+ghost use Rattle.mk_bytes.specs.Agrees.{Agrees};
+ghost use Rattle.mk_expand.specs.declared.fault.ExpandFault.TheVariants.{NoMemory as no_memory};
+ghost use Rattle.mk_plan.specs.Refusals.{IsTaskFault};
+ghost use Rattle.mk_plan.specs.Tasks as spec;
+
+use crate::fault::TaskFault;
+use crate::making::copied;
+use crate::plan::{Nodes, Plan};
+use mk_bytes::{Items, NoMemory, Text, Texts};
+use mk_expand::{ExpandFault, Locals, value_of_text};
+use mk_flags::Flags;
+use mk_graph::Made;
+use mk_scopes::Scopes;
+use mk_world::{Lines, Task, TaskLine};
+use std::alloc::Global;
+
+fn is_mark(byte: u8) -> bool
+    ensures { result ≡ spec.is_mark byte }
+{
+    matches!(byte, b' ' | b'\t' | b'@' | b'-' | b'+')
+}
+
+fn marks_end(text: &[u8]) -> Option<usize>
+    ensures value { result ≡ position spec.is_no_mark text.now }
+    ensures within { IfSome result (λ at. at < length text.now) }
+{
+    text.iter().position(|byte| !is_mark(*byte))
+}
+
+fn holds(wanted: u8, text: &[u8]) -> bool
+    ensures { result ≡ spec.holds wanted text.now }
+{
+    text.iter().any(|byte| *byte == wanted)
+}
+
+fn line_as(alloc: Global, flags: &Flags, value: &[u8]) -> Result<TaskLine, NoMemory>
+    ensures { IfOk result (λ line. line ≡ spec.line_as flags.now value.now) }
+{
+    let (marks, text) = value.split_at(marks_end(value).unwrap_or(value.len()));
+    Ok(TaskLine {
+        text: Text::from_bytes(alloc, text)?,
+        ignore: flags.ignore || holds(b'-', marks),
+        silent: flags.silent || holds(b'@', marks),
+        always: holds(b'+', marks),
+        compared: true,
+    })
+}
+
+fn line_of(
+    alloc: Global,
+    scopes: &Scopes,
+    locals: &Locals,
+    flags: &Flags,
+    raw: &[u8],
+) -> Result<TaskLine, ExpandFault>
+    ensures { Agrees no_memory (λ line. line) result
+        (spec.line_of scopes.now locals.now flags.now raw.now) }
+{
+    let value = value_of_text(alloc, scopes, locals, raw, false)?;
+    Ok(line_as(alloc, flags, value.bytes())?)
+}
+
+fn lines_of(
+    alloc: Global,
+    scopes: &Scopes,
+    locals: &Locals,
+    flags: &Flags,
+    commands: &Texts,
+) -> Result<Lines, TaskFault>
+    ensures lines { IfOk result (λ lines.
+        spec.lines_from scopes.now locals.now flags.now [] 1 commands.now ≡ Ok lines) }
+    ensures fault { IfErr result (λ fault.
+        IsTaskFault fault (spec.lines_from scopes.now locals.now flags.now [] 1 commands.now)) }
+{
+    let mut lines = Items::new(alloc, commands.len())?;
+    for (place, raw) in commands.as_slice().iter().enumerate() {
+        match line_of(alloc, scopes, locals, flags, raw.bytes()) {
+            Ok(line) => lines.push(line)?,
+            Err(what) => {
+                let line = place as u32 + 1;
+                return Err(TaskFault { line, what });
+            }
+        }
+    }
+    Ok(lines)
+}
+
+fn is_slash(byte: u8) -> bool
+    ensures { result ≡ spec.is_slash byte }
+{
+    byte == b'/'
+}
+
+/// The names of the nodes at these places.
+pub fn names_at(alloc: Global, plan: &Plan, places: &Nodes) -> Result<Texts, NoMemory>
+    ensures { IfOk result (λ names. names ≡ spec.names_at plan.now places.now) }
+{
+    let mut names = Items::new(alloc, places.len())?;
+    for place in places.as_slice() {
+        names.push(Text::from_bytes(alloc, plan.name_at(*place))?)?;
+    }
+    Ok(names)
+}
+
+// Where the last component begins, by where it begins in the bytes before `at` and the byte there.
+fn start_behind(start: usize, at: usize, byte: u8) -> usize
+    requires { at < 2 ^ 63 }
+    ensures { result ≡ (if spec.is_slash byte then at + 1 else start) }
+{
+    if is_slash(byte) { at + 1 } else { start }
+}
+
+fn last_component(path: &[u8]) -> &[u8]
+    ensures { result.now ≡ spec.last_component path.now }
+{
+    let mut start = 0;
+    for (at, byte) in path.iter().enumerate() {
+        start = start_behind(start, at, *byte);
+    }
+    &path[start..]
+}
+
+fn locals_of(alloc: Global, plan: &Plan, n: u32, oodate: &Texts) -> Result<Locals, NoMemory>
+    requires { n < length plan.now }
+    ensures { IfOk result (λ locals. locals ≡ spec.locals_of plan.now n oodate.now) }
+{
+    Ok(Locals {
+        target: Text::from_bytes(alloc, plan.name(n))?,
+        all: names_at(alloc, plan, plan.sources(n))?,
+        implied: Text::new(alloc),
+        prefix: Text::from_bytes(alloc, last_component(plan.name(n)))?,
+        oodate: copied(alloc, oodate.as_slice())?,
+        some: true,
+    })
+}
+
+/// The task of a node of a plan: its command lines, expanded with its local names, where these of
+/// its sources are newer than it. `@` before a line's text makes it silent, `-` ignored and `+`
+/// always run. A fault has the number of its line, the first such, counted from 1.
+pub fn task(
+    alloc: Global,
+    plan: &Plan,
+    made: &Made,
+    n: u32,
+    oodate: &Texts,
+    flags: &Flags,
+) -> Result<Task, TaskFault>
+    requires { n < length plan.now }
+    ensures task { IfOk result (λ task.
+        spec.task_of made.now.scopes plan.now n oodate.now flags.now ≡ Ok task) }
+    ensures fault { IfErr result (λ fault. IsTaskFault fault
+        (spec.task_of made.now.scopes plan.now n oodate.now flags.now)) }
+{
+    let locals = locals_of(alloc, plan, n, oodate)?;
+    let lines = lines_of(alloc, &made.scopes, &locals, flags, plan.commands(n))?;
+    Ok(Task {
+        lines,
+        cwd: Text::from_bytes(alloc, made.scopes.cwd())?,
+        target: Text::from_bytes(alloc, plan.name(n))?,
+        exports: Items::new(alloc, 0)?,
+    })
+}
