@@ -1,0 +1,15 @@
+pub mod BuildLemmas
+pub mod ChildLemmas
+pub mod DecideLemmas
+pub mod EndLemmas
+pub mod EventLemmas
+pub mod ItemLemmas
+pub mod LineLemmas
+pub mod LinesLemmas
+pub mod MakeLemmas
+pub mod NodeLemmas
+pub mod OutputLemmas
+pub mod SettledLemmas
+pub mod SightLemmas
+pub mod StepLemmas
+pub mod WorldLemmas

@@ -1,0 +1,206 @@
+-- What make has to do in a build: why each node is kept, started or refused.
+use Rattle.std.specs.Prelude.{◌≡◌, ◌⊎◌, ℕ, ◌==◌, List, [], ◌∷◌, ◌++◌, length, map, Option, Some, None, Bool, true, false, Result, Ok, Err, if◌then◌else◌, slice_get}
+use Rattle.mk_flags.specs.declared.Flags.{Flags}
+use Rattle.mk_expand.specs.declared.fault.ExpandFault.{ExpandFault}
+use Rattle.mk_plan.specs.Deciding.{Rules, all_settled}
+use Rattle.mk_plan.specs.Plans.{node_at}
+use Rattle.mk_plan.specs.Tasks.{names_at, task_of}
+use Rattle.mk_plan.specs.declared.fault.TaskFault.{TaskFault}
+use Rattle.mk_plan.specs.declared.plan.NodeState.TheVariants.{Undecided}
+use Rattle.mk_plan.specs.declared.plan.PlanNode.{PlanNode}
+use Rattle.mk_scopes.specs.Scopes.{Variables}
+use Rattle.mk_world.specs.Talks.{Meaning}
+use Rattle.mk_world.specs.Sinks.{Gains, GainsPart}
+use Rattle.mk_world.specs.Told.{Told}
+use Rattle.mk_world.specs.declared.command.Cmd.{Cmd}
+use Rattle.mk_world.specs.declared.command.Task.{Task}
+use Rattle.mk_world.specs.declared.command.TaskLine.{TaskLine}
+use Rattle.mk_world.specs.declared.history.History.{History}
+use Rattle.mk_world.specs.declared.time.When.{When}
+use Rattle.mk_driver.specs.Items.{Item, looks, keeps, refuses, starts, passes, waits, steps, ends, leaves, reported, reported_all, happened_all, outputs_of, Happened}
+use Rattle.mk_driver.specs.Output.{Job, output}
+use Rattle.mk_driver.specs.Runs as run
+use Rattle.mk_driver.specs.Settled.{EachSettled}
+use Rattle.mk_driver.specs.Tests.{is_stale, newer_names}
+use Rattle.mk_driver.specs.declared.event.Event.{Event}
+
+-- what is built: the plan, with the variables and the options
+pub record Work : Type 0 where
+  pub plan : List PlanNode
+  pub variables : Variables
+  pub flags : Flags
+
+-- the rules of its runs
+abbrev pub rules_of : Work → Rules
+rules_of work = record {
+  before = map (λ (node : PlanNode). node.before) work.plan;
+  jobs = work.flags.jobs;
+  keep_going = work.flags.keep_going;
+}
+
+-- one look: a path, and its time
+pub record Seen : Type 0 where
+  pub path : List ℕ
+  pub when : When
+
+-- how a build stands: its run, what was seen to decide each node, and the ticket of each node's child
+pub record Build : Type 0 where
+  pub run : run.State
+  pub seen : ℕ → List Seen
+  pub ticket : ℕ → ℕ
+
+abbrev pub first_build : Work → Build
+first_build work = record {
+  run = run.first_state (rules_of work);
+  seen = λ node. [];
+  ticket = λ node. 0;
+}
+
+abbrev pub seen_after : (ℕ → List Seen) → Item → ℕ → List Seen
+seen_after seen (looks node path when) =
+    λ one. if one == node then seen one ++ record { path = path; when = when } ∷ [] else seen one
+seen_after seen (keeps node) = seen
+seen_after seen (refuses node number) = seen
+seen_after seen (starts node number ticket owner cmd) = seen
+seen_after seen (passes node number) = seen
+seen_after seen waits = seen
+seen_after seen (steps ticket owner deed time) = seen
+seen_after seen (ends node number owner ended) = seen
+seen_after seen (leaves ticket owner) = seen
+
+abbrev pub ticket_after : (ℕ → ℕ) → Item → ℕ → ℕ
+ticket_after tickets (looks node path when) = tickets
+ticket_after tickets (keeps node) = tickets
+ticket_after tickets (refuses node number) = tickets
+ticket_after tickets (starts node number ticket owner cmd) =
+    λ one. if one == node then ticket else tickets one
+ticket_after tickets (passes node number) = tickets
+ticket_after tickets waits = tickets
+ticket_after tickets (steps ticket owner deed time) = tickets
+ticket_after tickets (ends node number owner ended) = tickets
+ticket_after tickets (leaves ticket owner) = tickets
+
+abbrev pub build_after : Work → run.Tasks → Build → Item → Build
+build_after work tasks build item = record {
+  run = run.after_all (rules_of work) tasks build.run (reported item);
+  seen = seen_after build.seen item;
+  ticket = ticket_after build.ticket item;
+}
+
+abbrev pub build_after_all : Work → run.Tasks → Build → List Item → Build
+build_after_all work tasks build [] = build
+build_after_all work tasks build (item ∷ items) =
+    build_after_all work tasks (build_after work tasks build item) items
+
+abbrev pub source_names : Work → ℕ → List (List ℕ)
+source_names work node = names_at work.plan (node_at work.plan node).sources
+
+abbrev pub seen_at : List (List ℕ) → List When → List Seen
+seen_at [] times = []
+seen_at (name ∷ names) [] = []
+seen_at (name ∷ names) (time ∷ times) = record { path = name; when = time } ∷ seen_at names times
+
+-- the looks by which a node is decided: one at its target, and then one at each source
+pub record Sight (work : Work) (node : ℕ) (seen : List Seen) : Type 0 where
+  pub target : When
+  pub sources : List When
+  pub are : seen ≡ record { path = (node_at work.plan node).name; when = target }
+      ∷ seen_at (source_names work node) sources
+  pub each : length sources ≡ length (source_names work node)
+
+-- the task of a node, by the times of these looks
+abbrev pub task_by : Work → ℕ → When → List When → Result Task TaskFault
+task_by work node target sources =
+    task_of work.variables work.plan node
+    (newer_names target (source_names work node) sources) work.flags
+
+-- A node is kept where it has no commands, or where it has a task and is not out of date.
+abbrev pub IsKept : Work → ℕ → List Seen → Type 0
+IsKept work node seen =
+    ((node_at work.plan node).commands ≡ [])
+    ⊎ ((sight : Sight work node seen) × (task : Task)
+    × (task_by work node sight.target sight.sources ≡ Ok task)
+    × (is_stale sight.target sight.sources ≡ false))
+
+-- Its lines are started where it has a task, which they are, and is out of date.
+abbrev pub IsBegun : Work → ℕ → List Seen → List TaskLine → Type 0
+IsBegun work node seen lines =
+    (sight : Sight work node seen) × (task : Task)
+    × (task_by work node sight.target sight.sources ≡ Ok task)
+    × (is_stale sight.target sight.sources ≡ true) × (lines ≡ task.lines)
+
+-- It is refused where it has no task, by the first line that is at fault.
+abbrev pub IsRefused : Work → ℕ → List Seen → ℕ → Type 0
+IsRefused work node seen number =
+    (sight : Sight work node seen) × (what : ExpandFault)
+    × (task_by work node sight.target sight.sources
+    ≡ Err (record { line = number; what = what }))
+
+-- the command of a line
+abbrev pub command_of : Work → TaskLine → Cmd
+command_of work one = record { text = one.text; cwd = work.variables.cwd; exports = [] }
+
+abbrev pub IsCommandOf : Work → Option TaskLine → Cmd → Type 0
+IsCommandOf work None cmd = ⊥
+IsCommandOf work (Some one) cmd = (run.is_empty one.text ≡ false) × (cmd ≡ command_of work one)
+
+-- a node that may be looked at: it is undecided, and all that it needs is settled
+abbrev pub IsWaiting : Work → run.State → ℕ → Type 0
+IsWaiting work state node =
+    (slice_get state.nodes node ≡ Some Undecided)
+    × (all_settled state.nodes (node_at work.plan node).before ≡ true)
+
+-- the first line of a node is started for a reason
+abbrev pub HasReason : Work → run.Tasks → Build → ℕ → ℕ → Type 0
+HasReason work tasks build node number =
+    number ≡ 1 → IsBegun work node (build.seen node) (tasks node)
+
+abbrev pub MayMake : Work → run.Tasks → Build → Item → Type 0
+MayMake work tasks build (looks node path when) = IsWaiting work build.run node
+MayMake work tasks build (keeps node) = IsKept work node (build.seen node)
+MayMake work tasks build (refuses node number) = IsRefused work node (build.seen node) number
+MayMake work tasks build (starts node number ticket owner cmd) =
+    HasReason work tasks build node number
+    × IsCommandOf work (run.line_of (tasks node) number) cmd × (owner ≡ 0)
+MayMake work tasks build (passes node number) = HasReason work tasks build node number
+MayMake work tasks build waits = Unit {0}
+MayMake work tasks build (steps ticket owner deed time) = Unit {0}
+MayMake work tasks build (ends node number owner ended) = build.ticket node ≡ ended.ticket.0
+MayMake work tasks build (leaves ticket owner) = Unit {0}
+
+-- Each item follows those before it by the rules of runs, and for its reason.
+abbrev pub Makes : Work → run.Tasks → Build → List Item → Type 0
+Makes work tasks build [] = Unit {0}
+Makes work tasks build (item ∷ items) =
+    run.MayAll (rules_of work) tasks build.run (reported item) × MayMake work tasks build item
+    × Makes work tasks (build_after work tasks build item) items
+
+abbrev pub job_of : Work → run.Tasks → Job
+job_of work tasks = record { plan = work.plan; tasks = tasks; many = false }
+
+-- a world, standard output and a report, at one moment
+pub record Moment : Type 0 where
+  pub history : Option History
+  pub out : Option (List ℕ)
+  pub events : List Event
+
+-- how standard output grew: by these bytes, or by a part of them where a write failed
+abbrev pub Prints : Bool → Moment → Moment → List ℕ → Type 0
+Prints true first last bytes = GainsPart first.out last.out bytes
+Prints false first last bytes = Gains first.out last.out bytes
+
+-- A build from one moment to another: there is one list of items whose events are those of the
+-- report, which the history tells where the world does, and whose output was printed. Each child
+-- that was started was taken in or given up.
+pub record IsBuild (meaning : Meaning) (work : Work) (cut : Bool) (first last : Moment)
+    (Stands : run.Tasks → Build → Option Event → Type 0) : Type 0 where
+  pub tasks : run.Tasks
+  pub items : List Item
+  pub reported : last.events ≡ reported_all items
+  pub legal : run.IsCutRun (rules_of work) tasks last.events
+  pub makes : Makes work tasks (first_build work) items
+  pub told : Told first.history last.history (Happened meaning items)
+  pub settled : Told first.history last.history (λ old new. EachSettled (happened_all items))
+  pub printed : Prints cut first last (output (job_of work tasks) (outputs_of items) last.events)
+  pub stands : Stands tasks (build_after_all work tasks (first_build work) items)
+      (run.first_failure tasks last.events)

@@ -1,0 +1,12 @@
+pub mod Builds
+pub mod Calls
+pub mod Ends
+pub mod Items
+pub mod Makers
+pub mod Output
+pub mod Progress
+pub mod Runs
+pub mod Settled
+pub mod Sights
+pub mod Steps
+pub mod Tests

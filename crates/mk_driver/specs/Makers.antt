@@ -1,0 +1,22 @@
+-- What a build goes by, and its moments.
+use Rattle.std.specs.Prelude.{ℕ, List, Option}
+use Rattle.mk_world.specs.declared.history.History.{History}
+use Rattle.mk_flags.specs.declared.Flags.{Flags}
+use Rattle.mk_graph.specs.declared.Made.{Made}
+use Rattle.mk_plan.specs.declared.plan.PlanNode.{PlanNode}
+use Rattle.mk_driver.specs.Builds.{Work, Moment}
+use Rattle.mk_driver.specs.declared.event.Event.{Event}
+use Rattle.mk_driver.specs.declared.maker.Maker.{Maker}
+
+abbrev pub work_on : List PlanNode → Made → Flags → Work
+work_on plan made flags = record { plan = plan; variables = made.scopes; flags = flags }
+
+abbrev pub work_of : Maker → Work
+work_of maker = record {
+  plan = maker.plan.now;
+  variables = maker.made.now.scopes;
+  flags = maker.flags.now;
+}
+
+abbrev pub moment : Option History → Option (List ℕ) → List Event → Moment
+moment history out events = record { history = history; out = out; events = events }

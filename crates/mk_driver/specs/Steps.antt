@@ -1,0 +1,27 @@
+-- How a build goes on by the items of one call.
+use Rattle.std.specs.Prelude.{◌≡◌, ℕ, List, ◌++◌, length, Option, Bool}
+use Rattle.mk_driver.specs.Builds.{Work, Build, Moment, Makes, Prints, build_after_all, job_of}
+use Rattle.mk_driver.specs.Items.{Item, reported_all, outputs_of}
+use Rattle.mk_driver.specs.Output.{Printed, printed_all}
+use Rattle.mk_driver.specs.Progress.{Standing}
+use Rattle.mk_driver.specs.Runs as run
+use Rattle.mk_driver.specs.declared.event.Event.{Event}
+
+-- items that may be made next, and how they leave a build
+pub record GoesOn (work : Work) (tasks : run.Tasks) (build : Build) (failure : Option Event)
+    (own : List Item) (Stands : Standing) : Type 0 where
+  pub makes : Makes work tasks build own
+  pub stands : Stands tasks (build_after_all work tasks build own)
+      (run.or_next failure (run.first_failure tasks (reported_all own)))
+
+-- what these items print behind all that was printed
+pub record PrintsOwn (work : Work) (tasks : run.Tasks) (cut : Bool) (now next : Moment)
+    (own : List Item) : Type 0 where
+  pub text : List ℕ
+  pub grows : Prints cut now next text
+  pub bytes : (outputs : List (List ℕ)) (p : Printed) → p.ended ≡ length outputs
+      → (printed_all (job_of work tasks) (outputs ++ outputs_of own) p (reported_all own)).bytes
+      ≡ p.bytes ++ text
+  pub ended : (outputs : List (List ℕ)) (p : Printed) → p.ended ≡ length outputs
+      → (printed_all (job_of work tasks) (outputs ++ outputs_of own) p (reported_all own)).ended
+      ≡ length (outputs ++ outputs_of own)
