@@ -1,1 +1,4 @@
+pub mod BuildingLemmas
+pub mod MessageLemmas
 pub mod MeaningLemmas
+pub mod PrintLemmas

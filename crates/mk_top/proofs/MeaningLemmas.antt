@@ -1,11 +1,131 @@
--- The meaning of a run, by its first step.
-use Rattle.std.proofs.Common.{◌≡◌, List, ℕ, Some, Err, refl}
+-- The meaning of a run, by its first steps.
+use Rattle.std.proofs.Common.{◌≡◌, ◌⊎◌, ℕ, List, [], Option, Some, None, Result, Ok, Err}
+use Rattle.std.proofs.Common.{inl, inr, refl, sym, ap, subst, arith}
+use Rattle.std.proofs.Math.Nat.{lt_irrefl}
+use Rattle.std.proofs.lemmas.List.{append-nil}
+use Rattle.mk_bytes.specs.Agrees.{AgreesErr, AgreesBut}
+use Rattle.mk_cli.specs.declared.order.Order.{Order}
+use Rattle.mk_graph.specs.declared.Made.{Made}
+use Rattle.mk_plan.specs.Plans.{planned}
+use Rattle.mk_plan.specs.Refusals.{IsRefusedBy}
+use Rattle.mk_plan.specs.declared.fault.PlanFault.{PlanFault}
+use Rattle.mk_plan.specs.declared.fault.PlanFault.TheVariants as plan
+use Rattle.mk_reader.specs.Looks.{LooksAlong}
+use Rattle.mk_reader.specs.Reading as reader
+use Rattle.mk_reader.specs.declared.fault.ReadFault.{ReadFault}
 use Rattle.mk_scopes.specs.declared.scopes.Env.{Env}
+use Rattle.mk_reader.proofs.FaultLemmas.{HasCause-same}
+use Rattle.mk_world.specs.Causes.{HasCause}
 use Rattle.mk_world.specs.Deeds.{Store}
-use Rattle.mk_top.specs.Meaning.{meaning}
-use Rattle.mk_top.specs.Words.{refused}
-use Rattle.mk_top.specs.declared.report.End.TheVariants.{Usage}
+use Rattle.mk_world.specs.Runs.{Same}
+use Rattle.mk_world.specs.Talks.{Meaning}
+use Rattle.mk_world.specs.Told.{Told}
+use Rattle.mk_world.specs.declared.history.History.{History}
+use Rattle.mk_plan.proofs.LookLemmas.{OnLooks-none}
+use Rattle.mk_world.proofs.SinkLemmas.{Gains-nothing}
+use Rattle.mk_top.specs.Building.{point, unbuilt}
+use Rattle.mk_top.specs.Causes.{EndCause}
+use Rattle.mk_top.specs.Ends.{IsOutside, of_plan, of_read}
+use Rattle.mk_top.specs.Meaning.{Outcome, Meant, only, builds, ended, asked, meant, by_reading}
+use Rattle.mk_top.specs.Runs.{Printed, Goes, end_of}
+use Rattle.mk_top.specs.declared.report.End.{End}
+use Rattle.mk_top.specs.declared.report.End.TheVariants.{NoMemory, WorldFault}
+use Rattle.mk_top.proofs.PrintLemmas.{held, Printed-ended, Printed-stopped}
 
-pub meaning-refused : (words : List (List ℕ)) (env : Env) (files : Store) (i : ℕ)
-    → refused words ≡ Some i → meaning words env files ≡ Err (Usage i)
-meaning-refused words env files i is = rw is refl
+-- nothing was looked at
+pub LooksAlong-none : (h : Option History) (paths : List (List ℕ)) → Told h h (LooksAlong paths)
+LooksAlong-none None paths = tt
+LooksAlong-none (Some h) paths = record {
+  base = refl;
+  first = [];
+  others = paths;
+  in_order = refl;
+  events = sym (append-nil h.events);
+}
+
+-- nothing happened in between
+pub Same-told : (h : Option History) → Told h h Same
+Same-told None = tt
+Same-told (Some h) = record { base = refl; events = refl }
+
+-- what is printed is all that happens
+pub Goes-only : (meaning : Meaning) (outcome : Outcome) (h : Option History) (a b : Option (List ℕ))
+    (end : End) → Printed outcome (held a b) end
+    → Goes meaning (only outcome) (point h a) (point h b) (unbuilt end)
+Goes-only meaning outcome h a b end printed =
+    record { printed = printed; unbuilt = refl; same = Same-told h }
+
+-- an end without a line
+pub Goes-ended : (meaning : Meaning) (end : End) (h : Option History) (a : Option (List ℕ))
+    → Goes meaning (only (ended end)) (point h a) (point h a) (unbuilt end)
+Goes-ended meaning end h a = Goes-only meaning (ended end) h a a end (Printed-ended end a)
+
+-- how the outside refuses a plan
+outside_fault : (end : End) → IsOutside end
+    → (fault : PlanFault) × (end ≡ of_plan fault)
+    × ((fault ≡ plan.Failed) ⊎ (fault ≡ plan.NoMemory))
+outside_fault end (inl failed) = (plan.Failed, failed, inl refl)
+outside_fault end (inr want) = (plan.NoMemory, want, inr refl)
+
+-- the outside or want of memory may end a run before it does what is meant
+pub Goes-stopped : (meaning : Meaning) (meant : Meant) (end : End) (h : Option History)
+    (a : Option (List ℕ)) → IsOutside end
+    → Goes meaning meant (point h a) (point h a) (unbuilt end)
+Goes-stopped meaning (only outcome) end h a outside =
+    Goes-only meaning outcome h a a end (Printed-stopped outcome end a outside)
+Goes-stopped meaning (builds made flags) end h a outside =
+    let refused = outside_fault end outside in
+    inl (record {
+      fault = refused.0;
+      refused = OnLooks-none h
+          (λ files. IsRefusedBy refused.0 (planned files made.rule flags.requested))
+          (λ files. inl refused.2);
+      is = ap unbuilt refused.1;
+      printed = Gains-nothing a;
+    })
+
+-- the words end the run
+pub Goes-asked : (meaning : Meaning) (words : List (List ℕ)) (env : Env) (files : Store)
+    (fault : End) (h : Option History) (a : Option (List ℕ))
+    → AgreesErr NoMemory fault (asked env.cwd words)
+    → Goes meaning (meant words env files) (point h a) (point h a) (unbuilt fault)
+Goes-asked meaning words env files fault h a (inl want) =
+    Goes-stopped meaning (meant words env files) fault h a (inr want)
+Goes-asked meaning words env files fault h a (inr is) = rw is (Goes-ended meaning fault h a)
+
+-- the makefiles end the run
+pub Goes-read : (meaning : Meaning) (env : Env) (files : Store) (order : Order) (fault : ReadFault)
+    (h : Option History) (a : Option (List ℕ))
+    → AgreesBut {X = Made} reader.IsOutside (λ made. made) (Err fault)
+    (reader.reading files env order)
+    → Goes meaning (by_reading order (reader.reading files env order)) (point h a) (point h a)
+    (unbuilt (of_read fault))
+Goes-read meaning env files order fault h a (inl (inl failed)) =
+    Goes-stopped meaning (by_reading order (reader.reading files env order)) (of_read fault) h a
+    (inl (ap of_read failed))
+Goes-read meaning env files order fault h a (inl (inr want)) =
+    Goes-stopped meaning (by_reading order (reader.reading files env order)) (of_read fault) h a
+    (inr (ap of_read want))
+Goes-read meaning env files order fault h a (inr defined) =
+    rw defined (Goes-ended meaning (of_read fault) h a)
+
+-- an end that is not this object's, where its count stands still
+pub EndCause-never : (failed end : End) (n : ℕ) → (end ≡ failed → ⊥) → EndCause failed n n end
+EndCause-never failed end n never = record {
+  kept = grind (arith);
+  answered = λ rose. absurd (lt_irrefl n rose);
+  rose = λ is. absurd (never is);
+}
+
+-- prints do not end with a failure of the world
+pub end_of-never : (r : Result (Unit {0}) End) → (r ≡ Err WorldFault → ⊥) → end_of r ≡ WorldFault
+    → ⊥
+end_of-never (Ok done) never is = cc
+end_of-never (Err end) never is = never (ap Err is)
+
+-- what ends a run behind a call that went well
+pub EndCause-behind : {A E : Type 0} (other : E) (failed end : End) (before mid after : ℕ)
+    (given : A) → HasCause other before mid (Ok given) → EndCause failed mid after end
+    → EndCause failed before after end
+EndCause-behind other failed end before mid after given cause behind =
+    subst (λ n. EndCause failed n after end) (HasCause-same other before mid given cause) behind

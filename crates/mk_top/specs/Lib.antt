@@ -1,3 +1,5 @@
+pub mod Building
+pub mod Causes
 pub mod Ends
 pub mod Meaning
 pub mod Messages

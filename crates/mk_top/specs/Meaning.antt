@@ -1,36 +1,107 @@
--- What a run means: what it prints, or how it ends.
-use Rattle.std.specs.Prelude.{ℕ, List, [], ◌∷◌, ◌++◌, Option, Some, None, Result, Ok, Err}
-use Rattle.mk_bytes.specs.Agrees.{◌>>=◌}
-use Rattle.mk_bytes.specs.Bytes.{newline}
-use Rattle.mk_expand.specs.Value.{value}
+-- What a run means: what it prints and how it ends, or what it builds.
+use Rattle.std.specs.Prelude.{ℕ, ◌+◌, false, List, [], ◌∷◌, Option, Some, None, Result, Ok, Err}
+use Rattle.std.specs.Prelude.{min, unwrap_or, if◌then◌else◌}
+use Rattle.mk_cli.specs.Unbuilt.{first_unbuilt}
+use Rattle.mk_cli.specs.Words as cli
+use Rattle.mk_cli.specs.declared.order.Order.{Order}
+use Rattle.mk_cli.specs.declared.order.Print.{Print}
+use Rattle.mk_cli.specs.declared.order.Usage.{Usage}
+use Rattle.mk_cli.specs.declared.order.Usage.TheVariants as usage
+use Rattle.mk_expand.specs.Locals.{no_locals}
+use Rattle.mk_expand.specs.Names.{known}
+use Rattle.mk_expand.specs.Texts.{has_dollar, name_tree}
+use Rattle.mk_expand.specs.Value.{value, value_of_text}
 use Rattle.mk_expand.specs.declared.fault.ExpandFault.{ExpandFault}
-use Rattle.mk_expand.specs.declared.part.Part.TheVariants.{Reference}
-use Rattle.mk_reader.specs.Reading.{Read, reading}
+use Rattle.mk_expand.specs.declared.fault.ExpandFault.TheVariants as expand
+use Rattle.mk_flags.specs.declared.Flags.{Flags}
+use Rattle.mk_graph.specs.declared.Made.{Made}
+use Rattle.mk_reader.specs.Files.{Read}
+use Rattle.mk_reader.specs.Reading.{reading, sought}
 use Rattle.mk_scopes.specs.Scopes.{Variables}
 use Rattle.mk_scopes.specs.declared.scopes.Env.{Env}
+use Rattle.mk_top.specs.Building.{is_plain}
 use Rattle.mk_top.specs.Ends.{of_read}
-use Rattle.mk_top.specs.Words.{word_at, refused}
 use Rattle.mk_top.specs.declared.report.End.{End}
-use Rattle.mk_top.specs.declared.report.End.TheVariants.{Usage, Print}
+use Rattle.mk_top.specs.declared.report.End.TheVariants as end
 use Rattle.mk_world.specs.Deeds.{Store}
 
--- the line that prints a variable: its value and a newline; the print counts as one reference
-abbrev pub value_line : Variables → List ℕ → Result (List ℕ) ExpandFault
-value_line s name = value s (Reference name ∷ []) >>= λ bytes. Ok (bytes ++ newline ∷ [])
+-- the lines that a run prints, without their newlines, and its end
+pub record Outcome : Type 0 where
+  pub lines : List (List ℕ)
+  pub end : End
 
-abbrev pub of_print : Result (List ℕ) ExpandFault → Result (List ℕ) End
-of_print (Ok line) = Ok line
-of_print (Err fault) = Err (Print 0 fault)
+-- an end without a line
+abbrev pub ended : End → Outcome
+ended end = record { lines = []; end = end }
 
-abbrev pub of_reading : List ℕ → Read → Result (List ℕ) End
-of_reading name (Ok s) = of_print (value_line s name)
-of_reading name (Err fault) = Err (of_read fault)
+-- one line before all others
+abbrev pub line_first : List ℕ → Outcome → Outcome
+line_first line others = record { lines = line ∷ others.lines; end = others.end }
 
-abbrev pub of_words : List (List ℕ) → Env → Store → Option ℕ → Result (List ℕ) End
-of_words words env files (Some i) = Err (Usage i)
-of_words words env files None = of_reading (word_at words 3) (reading files env (word_at words 1))
+-- What a print shows: a text with a `$` expanded, and else the value of the name, which is the raw
+-- one for `-V`, or nothing, and for `-v` that of one reference to it.
+abbrev pub shown : Variables → Print → Result (List ℕ) ExpandFault
+shown variables print =
+    if has_dollar print.text then value_of_text variables no_locals false print.text
+    else (if print.full then value variables no_locals false (name_tree print.text)
+    else Ok (unwrap_or (known variables print.text) []))
 
--- The meaning of a run of these words, in this environment, on these files: the bytes that it
--- prints, or how it ends without printing. First come the words, then the makefile, then the print.
-abbrev pub meaning : List (List ℕ) → Env → Store → Result (List ℕ) End
-meaning words env files = of_words words env files (refused words)
+-- the end at a print's fault; want of memory is what it is everywhere
+abbrev pub print_end : ℕ → ExpandFault → End
+print_end i expand.NoMemory = end.NoMemory
+print_end i fault = end.Print i fault
+
+-- the print at place `i`, and those behind it
+abbrev pub before_others : ℕ → Result (List ℕ) ExpandFault → Outcome → Outcome
+before_others i (Ok line) others = line_first line others
+before_others i (Err fault) others = ended (print_end i fault)
+
+-- Prints from place `i` on, each on its line, up to the first that has a fault.
+unfoldable pub printed : Variables → ℕ → List Print → Outcome
+printed variables i [] = ended end.Done
+printed variables i (print ∷ prints) =
+    before_others i (shown variables print) (printed variables (i + 1) prints)
+
+-- What is meant: an outcome, or a build of what makefiles say.
+pub data Meant : Type 0 where
+  only : (outcome : Outcome) → Meant
+  builds : (made : Made) → (flags : Flags) → Meant
+
+-- what is done with the makefiles: prints, where there are some, and else a build
+abbrev pub by_mode : Made → Order → List Print → Meant
+by_mode made order [] =
+    if is_plain order.flags then builds made order.flags else only (ended (end.Usage 0))
+by_mode made order (print ∷ prints) = only (printed made.scopes 0 (print ∷ prints))
+
+abbrev pub by_reading : Order → Read Made → Meant
+by_reading order (Ok made) = by_mode made order order.prints
+by_reading order (Err fault) = only (ended (of_read fault))
+
+-- a refused word, or one before it with an option that is not built
+abbrev pub first_place : Option ℕ → ℕ → ℕ
+first_place None refused = refused
+first_place (Some unbuilt) refused = min refused unbuilt
+
+abbrev pub only_built : Option ℕ → Result Order Usage → Result Order End
+only_built None (Ok order) = Ok order
+only_built (Some unbuilt) (Ok order) = Err (end.Usage unbuilt)
+only_built unbuilt (Err (usage.Word refused)) = Err (end.Usage (first_place unbuilt refused))
+only_built unbuilt (Err usage.NoMemory) = Err end.NoMemory
+
+-- what the words ask for; the first that is refused or not built ends the run
+abbrev pub asked : List ℕ → List (List ℕ) → Result Order End
+asked cwd words = only_built (first_unbuilt words) (cli.order cwd words)
+
+abbrev pub by_order : Env → Store → Result Order End → Meant
+by_order env files (Ok order) = by_reading order (reading files env order)
+by_order env files (Err end) = only (ended end)
+
+-- The meaning of a run of these words, in this environment, on these files. First come the words,
+-- then the makefiles, then the prints or the build.
+abbrev pub meant : List (List ℕ) → Env → Store → Meant
+meant words env files = by_order env files (asked env.cwd words)
+
+-- The paths of the makefiles that a run seeks, in order.
+abbrev pub sought_by : List ℕ → Result Order End → List (List ℕ)
+sought_by cwd (Ok order) = sought cwd order.files
+sought_by cwd (Err end) = []

@@ -1,38 +1,78 @@
 -- The lines on standard error.
 use Rattle.std.specs.Prelude.{ℕ, List, [], ◌∷◌, ◌++◌, decimal, codes}
-use Rattle.mk_bytes.specs.Bytes.{newline}
+use Rattle.mk_ast.specs.declared.fault.AstFault.{AstFault}
+use Rattle.mk_ast.specs.declared.fault.AstFault.TheVariants as tree
+use Rattle.mk_bytes.specs.Bytes.{newline, space}
+use Rattle.mk_bytes.specs.declared.kind.Kind.{Kind}
+use Rattle.mk_bytes.specs.declared.kind.Kind.TheVariants.{Names, Lines, Includes}
 use Rattle.mk_expand.specs.declared.fault.ExpandFault.{ExpandFault}
 use Rattle.mk_expand.specs.declared.fault.ExpandFault.TheVariants as expand
 use Rattle.mk_reader.specs.declared.fault.What.{What}
-use Rattle.mk_reader.specs.declared.fault.What.TheVariants.{Unbuilt}
+use Rattle.mk_reader.specs.declared.fault.What.TheVariants as what
 use Rattle.mk_top.specs.Words.{word_at}
 use Rattle.mk_top.specs.declared.report.End.{End}
-use Rattle.mk_top.specs.declared.report.End.TheVariants.{Done, Usage, NoFile, Bad, Print, WorldFault, SinkFault, NoMemory}
+use Rattle.mk_top.specs.declared.report.End.TheVariants.{Done, Usage, NoFile, Bad, Print, NoTarget, NoRule, Cycle, Limit, Expand, JobFailed, WorldFault, SinkFault, NoMemory}
 
-abbrev pub what_text : What → List ℕ
-what_text Unbuilt = codes "form is not built yet"
+-- a fault of the grammar, with its place
+abbrev pub tree_text : AstFault → List ℕ
+tree_text (tree.Unclosed at) = codes "unclosed reference at " ++ decimal at
+tree_text (tree.UnknownModifier at) = codes "unknown modifier at " ++ decimal at
+tree_text (tree.BadModifier at) = codes "bad modifier at " ++ decimal at
+tree_text (tree.TooDeep at) = codes "nested too deeply at " ++ decimal at
+tree_text tree.NoMemory = codes "out of memory"
 
 abbrev pub fault_text : ExpandFault → List ℕ
 fault_text (expand.Recursive name) = codes "variable " ++ (name ++ codes " is recursive")
 fault_text expand.TooDeep = codes "nested too deeply"
 fault_text expand.TooManyReferences = codes "too many references"
 fault_text expand.TooLong = codes "value too long"
+fault_text (expand.Tree fault) = tree_text fault
 fault_text expand.Unbuilt = codes "form is not built yet"
 fault_text expand.NoMemory = codes "out of memory"
+
+abbrev pub what_text : What → List ℕ
+what_text what.TooLong = codes "line too long"
+what_text what.Zero = codes "zero byte"
+what_text what.LostCommand = codes "command without target"
+what_text what.EmptyName = codes "empty variable name"
+what_text (what.Expand fault) = fault_text fault
+what_text what.Unbuilt = codes "form is not built yet"
 
 abbrev pub place_text : List ℕ → List ℕ → List ℕ → List ℕ
 place_text file number wrong =
     codes "\"" ++ (file ++ (codes "\" line " ++ (number ++ (codes ": " ++ wrong))))
 
 abbrev pub bad_text : List ℕ → ℕ → What → List ℕ
-bad_text file line what = place_text file (decimal line) (what_text what)
+bad_text file line wrong = place_text file (decimal line) (what_text wrong)
+
+-- names, each behind a space
+abbrev pub spaced : List (List ℕ) → List ℕ
+spaced [] = []
+spaced (name ∷ names) = (space ∷ []) ++ name ++ spaced names
+
+abbrev pub kind_text : Kind → List ℕ
+kind_text Names = codes "limit of names "
+kind_text Lines = codes "limit of lines "
+kind_text Includes = codes "limit of includes "
+
+-- what is wrong with a command line of a target
+abbrev pub command_text : List ℕ → List ℕ → List ℕ → List ℕ
+command_text name number wrong =
+    codes "target " ++ (name ++ (codes " command " ++ (number ++ (codes ": " ++ wrong))))
 
 -- what stands between `bmake: ` and the newline of a line
 abbrev pub text_of : List (List ℕ) → End → List ℕ
 text_of words (Usage i) = codes "bad word: " ++ word_at words i
 text_of words (NoFile file) = codes "no makefile " ++ file
-text_of words (Bad file line what) = bad_text file line what
+text_of words (Bad file line wrong) = bad_text file line wrong
 text_of words (Print i fault) = fault_text fault
+text_of words NoTarget = codes "no target to make"
+text_of words (NoRule name) = codes "don't know how to make " ++ name
+text_of words (Cycle names) = codes "graph cycles through" ++ spaced names
+text_of words (Limit kind most) = kind_text kind ++ decimal most
+text_of words (Expand name number fault) = command_text name (decimal number) (fault_text fault)
+text_of words (JobFailed name number status) =
+    command_text name (decimal number) (codes "status " ++ decimal status)
 text_of words WorldFault = codes "an outside call failed"
 text_of words NoMemory = codes "out of memory"
 text_of words Done = []
@@ -45,9 +85,20 @@ as_line text = codes "bmake: " ++ text ++ newline ∷ []
 abbrev pub line_of : List (List ℕ) → End → List ℕ
 line_of words Done = []
 line_of words SinkFault = []
-line_of words (Usage i) = as_line (text_of words (Usage i))
-line_of words (NoFile file) = as_line (text_of words (NoFile file))
-line_of words (Bad file line what) = as_line (text_of words (Bad file line what))
-line_of words (Print i fault) = as_line (text_of words (Print i fault))
-line_of words WorldFault = as_line (text_of words WorldFault)
-line_of words NoMemory = as_line (text_of words NoMemory)
+line_of words end = as_line (text_of words end)
+
+-- the place that a text shows, or 0 where it shows none
+abbrev pub tree_place : AstFault → ℕ
+tree_place (tree.Unclosed at) = at
+tree_place (tree.UnknownModifier at) = at
+tree_place (tree.BadModifier at) = at
+tree_place (tree.TooDeep at) = at
+tree_place tree.NoMemory = 0
+
+abbrev pub fault_place : ExpandFault → ℕ
+fault_place (expand.Tree fault) = tree_place fault
+fault_place fault = 0
+
+abbrev pub what_place : What → ℕ
+what_place (what.Expand fault) = fault_place fault
+what_place wrong = 0

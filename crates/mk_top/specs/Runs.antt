@@ -1,64 +1,116 @@
 -- How a run ends, what its sinks gain, and the causes of its faults.
-use Rattle.std.specs.Prelude.{◌≡◌, ◌⊎◌, ℕ, ◌<◌, ◌≤◌, List, [], Option, Result, Ok, Err}
-use Rattle.mk_bytes.specs.Agrees.{AgreesBut}
-use Rattle.mk_world.specs.Causes.{Rose}
+use Rattle.std.specs.Prelude.{◌≡◌, ◌⊎◌, ℕ, List, [], ◌∷◌, ◌++◌, Option}
+use Rattle.std.specs.Prelude.{Result, Ok, Err}
+use Rattle.mk_bytes.specs.Bytes.{newline}
+use Rattle.mk_expand.specs.declared.fault.ExpandFault.{ExpandFault}
+use Rattle.mk_cli.specs.declared.order.Order.{Order}
+use Rattle.mk_reader.specs.Looks.{LooksAlong}
+use Rattle.mk_reader.specs.Reading.{reading, sought}
+use Rattle.mk_scopes.specs.declared.scopes.Env.{Env}
+use Rattle.mk_world.specs.Runs.{OnFiles, Same}
 use Rattle.mk_world.specs.Sinks.{Gains, GainsPart}
+use Rattle.mk_world.specs.Talks.{Meaning}
+use Rattle.mk_world.specs.Told.{Told}
+use Rattle.mk_world.specs.declared.history.History.{History}
+use Rattle.mk_top.specs.Building.{Point, point, Builds, unbuilt}
 use Rattle.mk_top.specs.Ends.{IsOutside}
+use Rattle.mk_top.specs.Meaning.{Outcome, Meant, only, builds, meant, by_reading, asked, sought_by}
 use Rattle.mk_top.specs.Messages.{line_of}
+use Rattle.mk_top.specs.declared.building.Went.{Went}
 use Rattle.mk_top.specs.declared.report.End.{End}
-use Rattle.mk_top.specs.declared.report.End.TheVariants.{Done, WorldFault, SinkFault}
+use Rattle.mk_top.specs.declared.report.End.TheVariants.{Done, SinkFault}
+use Rattle.mk_top.specs.declared.report.Report.{Report}
 
--- the end of a run that has come to this: bytes to print, or an end without printing
-abbrev pub end_of : Result (List ℕ) End → End
-end_of (Ok bytes) = Done
-end_of (Err end) = end
-
--- what it prints
-abbrev pub out_of : Result (List ℕ) End → List ℕ
-out_of (Ok bytes) = bytes
-out_of (Err end) = []
+-- lines, each with its newline
+abbrev pub bytes_of : List (List ℕ) → List ℕ
+bytes_of [] = []
+bytes_of (line ∷ lines) = line ++ newline ∷ bytes_of lines
 
 -- what a sink held before and after a run, where it tells
 pub record Held : Type 0 where
   pub before : Option (List ℕ)
   pub after : Option (List ℕ)
 
--- every write went well: standard output has what is printed, standard error the line of the end
-pub record Written (words : List (List ℕ)) (stood : Result (List ℕ) End) (out err : Held)
-    (end : End) : Type 0 where
-  pub is : end ≡ end_of stood
-  pub printed : Gains out.before out.after (out_of stood)
-  pub line : Gains err.before err.after (line_of words (end_of stood))
+-- A call of the world failed or memory ran out: the lines until then are the first ones of what is
+-- meant.
+pub record Stopped (stood meant : Outcome) : Type 0 where
+  pub outside : IsOutside stood.end
+  pub others : List (List ℕ)
+  pub first : meant.lines ≡ stood.lines ++ others
 
--- a write failed: both have a part of that, from the beginning
-pub record CutOff (words : List (List ℕ)) (stood : Result (List ℕ) End) (out err : Held)
-    (end : End) : Type 0 where
+-- a run came to what is meant, or was stopped before
+abbrev pub Stands : Outcome → Outcome → Type 0
+Stands stood meant = (stood ≡ meant) ⊎ Stopped stood meant
+
+-- every line that the run came to is on standard output
+pub record Whole (meant : Outcome) (out : Held) (end : End) : Type 0 where
+  pub stood : Outcome
+  pub stands : Stands stood meant
+  pub is : end ≡ stood.end
+  pub printed : Gains out.before out.after (bytes_of stood.lines)
+
+-- a write of a line failed: standard output has a part of all lines, from their beginning
+pub record CutShort (meant : Outcome) (out : Held) (end : End) : Type 0 where
   pub is : end ≡ SinkFault
-  pub printed : GainsPart out.before out.after (out_of stood)
-  pub line : GainsPart err.before err.after (line_of words (end_of stood))
+  pub printed : GainsPart out.before out.after (bytes_of meant.lines)
 
-abbrev pub Finished : List (List ℕ) → Result (List ℕ) End → Held → Held → End → Type 0
-Finished words stood out err end = Written words stood out err end ⊎ CutOff words stood out err end
+-- What standard output has, and the end, before the line of the end is written.
+abbrev pub Printed : Outcome → Held → End → Type 0
+Printed meant out end = Whole meant out end ⊎ CutShort meant out end
 
--- A run with this meaning: before any write it came to what is meant, or to a fault of the outside
--- or of memory in its place; then it printed, and wrote the line of its end.
-pub record EndsBy (words : List (List ℕ)) (meant : Result (List ℕ) End) (out err : Held)
-    (end : End) : Type 0 where
-  pub stood : Result (List ℕ) End
-  pub stands : AgreesBut IsOutside (λ bytes. bytes) stood meant
-  pub finished : Finished words stood out err end
+-- a print went well: its line and a newline are on standard output
+pub record PrintedLine (shown : Result (List ℕ) ExpandFault) (out : Held) : Type 0 where
+  pub line : List ℕ
+  pub is : shown ≡ Ok line
+  pub gains : Gains out.before out.after (line ++ newline ∷ [])
 
--- The world's count of faults over a run: `WorldFault` comes only where it rose or is at its end,
--- and a rise is answered by it, or by a failed write behind it.
-pub record WorldCause (before after : ℕ) (end : End) : Type 0 where
-  pub kept : before ≤ after
-  pub rose : end ≡ WorldFault → Rose before after
-  pub answered : before < after → (end ≡ WorldFault) ⊎ (end ≡ SinkFault)
+-- The line of an end is written last: standard error has it, or a part of it from its beginning.
+abbrev pub Closed : List (List ℕ) → End → Held → End → Type 0
+Closed words before err end =
+    ((end ≡ before) × Gains err.before err.after (line_of words before))
+    ⊎ ((end ≡ SinkFault) × GainsPart err.before err.after (line_of words before))
 
--- The sinks' counts: `SinkFault` comes only where one of them rose or is at its end, and a rise is
--- answered by it.
-pub record SinkCause (out_before out_after err_before err_after : ℕ) (end : End) : Type 0 where
-  pub kept_out : out_before ≤ out_after
-  pub kept_err : err_before ≤ err_after
-  pub rose : end ≡ SinkFault → Rose out_before out_after ⊎ Rose err_before err_after
-  pub answered : (out_before < out_after) ⊎ (err_before < err_after) → end ≡ SinkFault
+-- the end of a run that went so far
+abbrev pub end_of : Result (Unit {0}) End → End
+end_of (Ok done) = Done
+end_of (Err end) = end
+
+-- a run that prints, or ends before it builds: it builds nothing, and nothing in the world changes
+pub record Only (outcome : Outcome) (first last : Point) (went : Went) : Type 0 where
+  pub printed : Printed outcome (record { before = first.out; after = last.out }) went.end
+  pub unbuilt : went ≡ unbuilt went.end
+  pub same : Told first.history last.history Same
+
+-- what a run of this meaning does behind the reading
+abbrev pub Goes : Meaning → Meant → Point → Point → Went → Type 0
+Goes meaning (only outcome) first last went = Only outcome first last went
+Goes meaning (builds made flags) first last went = Builds meaning made flags first last went
+
+-- Reading looks at the makefiles alone, in order; what follows depends on the files that it finds.
+pub record Followed (meaning : Meaning) (env : Env) (order : Order) (first last : Point)
+    (went : Went) : Type 0
+  where
+    pub read_at : Option History
+    pub looks : Told first.history read_at (LooksAlong (sought env.cwd order.files))
+    pub goes : OnFiles first.history read_at (λ files.
+        Goes meaning (by_reading order (reading files env order)) (point read_at first.out) last went)
+
+-- All of a run but the line of its end. Reading looks at the makefiles alone, in order; what is
+-- meant depends on the files that it finds.
+pub record Carried (meaning : Meaning) (words : List (List ℕ)) (env : Env) (first last : Point)
+    (went : Went) : Type 0
+  where
+    pub read_at : Option History
+    pub looks : Told first.history read_at (LooksAlong (sought_by env.cwd (asked env.cwd words)))
+    pub goes : OnFiles first.history read_at
+        (λ files. Goes meaning (meant words env files) (point read_at first.out) last went)
+
+-- A run: what it did is in its report, and the line of its end is written last.
+pub record IsRun (meaning : Meaning) (words : List (List ℕ)) (env : Env) (first last : Point)
+    (err : Held) (report : Report) : Type 0
+  where
+    pub went : Went
+    pub carried : Carried meaning words env first last went
+    pub closed : Closed words went.end err report.end
+    pub plan : report.plan ≡ went.plan
+    pub events : report.events ≡ went.events

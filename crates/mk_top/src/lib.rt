@@ -1,12 +1,15 @@
 //! The top call: all that the program does, but for the few lines that make the real world.
 #![tactic(auto)]
 
+mod building;
 mod message;
+mod print;
 mod report;
 mod running;
 #[cfg(test)]
 mod tests;
 mod words;
 
-pub use report::{End, Event, Events, Report};
+pub use mk_driver::{Event, Events};
+pub use report::{End, Report};
 pub use running::run;

@@ -1,5 +1,5 @@
 //! The line on standard error with which a run ends.
-ghost use Rattle.std.specs.Prelude.{◌≡◌, ◌++◌, OnOk, OnErr};
+ghost use Rattle.std.specs.Prelude.{◌≡◌, ◌++◌, codes, decimal, OnOk, OnErr};
 ghost use Rattle.mk_top.specs.Messages as spec;
 ghost use Rattle.mk_world.specs.Causes.{HasCause};
 ghost use Rattle.mk_world.specs.Sinks.{Gains, GainsPart, all_of};
@@ -8,21 +8,59 @@ ghost use Rattle.mk_world.specs.declared.fault.SinkFault.TheVariants.{Failed};
 use crate::report::End;
 use crate::words::word_at;
 use itoa::Buffer;
-use mk_bytes::Texts;
+use mk_ast::AstFault;
+use mk_bytes::{Kind, Texts};
 use mk_expand::ExpandFault;
 use mk_reader::What;
 use mk_world::{Sink, SinkFault, write_all};
 
-fn what_text(what: What) -> &'static [u8]
-    ensures { result.now ≡ spec.what_text what }
+// The place that the text of a fault shows, or 0.
+fn tree_place(fault: &AstFault) -> usize
+    ensures { result ≡ spec.tree_place fault.now }
 {
-    match what {
-        What::Unbuilt => b"form is not built yet",
+    match fault {
+        AstFault::Unclosed(at) => *at,
+        AstFault::UnknownModifier(at) => *at,
+        AstFault::BadModifier(at) => *at,
+        AstFault::TooDeep(at) => *at,
+        AstFault::NoMemory => 0,
     }
 }
 
-// The text of a fault in three pieces.
-fn fault_text(fault: &ExpandFault) -> [&[u8]; 3]
+fn fault_place(fault: &ExpandFault) -> usize
+    ensures { result ≡ spec.fault_place fault.now }
+{
+    match fault {
+        ExpandFault::Tree(tree) => tree_place(tree),
+        _ => 0,
+    }
+}
+
+fn what_place(what: &What) -> usize
+    ensures { result ≡ spec.what_place what.now }
+{
+    match what {
+        What::Expand(fault) => fault_place(fault),
+        _ => 0,
+    }
+}
+
+// The text of a fault in three pieces, with its place in decimal.
+fn tree_text<'t>(fault: &AstFault, at: &'t [u8]) -> [&'t [u8]; 3]
+    requires { at.now ≡ decimal (spec.tree_place fault.now) }
+    ensures { all_of result ≡ spec.tree_text fault.now }
+{
+    match fault {
+        AstFault::Unclosed(_) => [b"unclosed reference at ", at, b""],
+        AstFault::UnknownModifier(_) => [b"unknown modifier at ", at, b""],
+        AstFault::BadModifier(_) => [b"bad modifier at ", at, b""],
+        AstFault::TooDeep(_) => [b"nested too deeply at ", at, b""],
+        AstFault::NoMemory => [b"out of memory", b"", b""],
+    }
+}
+
+fn fault_text<'t>(fault: &'t ExpandFault, at: &'t [u8]) -> [&'t [u8]; 3]
+    requires { at.now ≡ decimal (spec.fault_place fault.now) }
     ensures { all_of result ≡ spec.fault_text fault.now }
 {
     match fault {
@@ -30,8 +68,23 @@ fn fault_text(fault: &ExpandFault) -> [&[u8]; 3]
         ExpandFault::TooDeep => [b"nested too deeply", b"", b""],
         ExpandFault::TooManyReferences => [b"too many references", b"", b""],
         ExpandFault::TooLong => [b"value too long", b"", b""],
+        ExpandFault::Tree(tree) => tree_text(tree, at),
         ExpandFault::Unbuilt => [b"form is not built yet", b"", b""],
         ExpandFault::NoMemory => [b"out of memory", b"", b""],
+    }
+}
+
+fn what_text<'t>(what: &'t What, at: &'t [u8]) -> [&'t [u8]; 3]
+    requires { at.now ≡ decimal (spec.what_place what.now) }
+    ensures { all_of result ≡ spec.what_text what.now }
+{
+    match what {
+        What::TooLong => [b"line too long", b"", b""],
+        What::Zero => [b"zero byte", b"", b""],
+        What::LostCommand => [b"command without target", b"", b""],
+        What::EmptyName => [b"empty variable name", b"", b""],
+        What::Expand(fault) => fault_text(fault, at),
+        What::Unbuilt => [b"form is not built yet", b"", b""],
     }
 }
 
@@ -53,43 +106,186 @@ fn write_text<'t, S: Sink>(
     write_all(sink, &[b"bmake: ", before, name, after, b"\n"])
 }
 
-// Writes the line of a file, a number in decimal, and what is wrong there.
+// Writes the line of a file, a number in decimal, and what is wrong there, with its place in decimal.
 fn write_place<'t, S: Sink>(
     sink: &mut S,
     file: &'t [u8],
     number: &'t [u8],
-    wrong: &'t [u8],
+    what: &'t What,
+    at: &'t [u8],
 ) -> Result<(), SinkFault>
+    requires { at.now ≡ decimal (spec.what_place what.now) }
+    ensures done { OnOk result (Gains (S.held sink.old) (S.held sink.new)
+        (spec.as_line (spec.place_text file.now number.now (spec.what_text what.now)))) }
+    ensures cut { OnErr result (GainsPart (S.held sink.old) (S.held sink.new)
+        (spec.as_line (spec.place_text file.now number.now (spec.what_text what.now)))) }
+    ensures cause { HasCause Failed (S.faults sink.old) (S.faults sink.new) result }
+{
+    let [before, name, after] = what_text(what, at);
+    write_all(
+        sink,
+        &[
+            b"bmake: \"",
+            file,
+            b"\" line ",
+            number,
+            b": ",
+            before,
+            name,
+            after,
+            b"\n",
+        ],
+    )
+}
+
+fn write_bad<S: Sink>(sink: &mut S, file: &[u8], line: u32, what: &What) -> Result<(), SinkFault>
     ensures done { OnOk result
         (Gains (S.held sink.old) (S.held sink.new)
-        (spec.as_line (spec.place_text file.now number.now wrong.now))) }
+        (spec.as_line (spec.bad_text file.now line what.now))) }
     ensures cut { OnErr result
         (GainsPart (S.held sink.old) (S.held sink.new)
-        (spec.as_line (spec.place_text file.now number.now wrong.now))) }
+        (spec.as_line (spec.bad_text file.now line what.now))) }
+    ensures cause { HasCause Failed (S.faults sink.old) (S.faults sink.new) result }
+{
+    let mut lines = Buffer::new();
+    let mut places = Buffer::new();
+    let number = lines.format(line).as_bytes();
+    let at = places.format(what_place(what)).as_bytes();
+    write_place(sink, file, number, what, at)
+}
+
+fn write_fault<S: Sink>(sink: &mut S, fault: &ExpandFault) -> Result<(), SinkFault>
+    ensures done { OnOk result
+        (Gains (S.held sink.old) (S.held sink.new) (spec.as_line (spec.fault_text fault.now))) }
+    ensures cut { OnErr result
+        (GainsPart (S.held sink.old) (S.held sink.new) (spec.as_line (spec.fault_text fault.now))) }
+    ensures cause { HasCause Failed (S.faults sink.old) (S.faults sink.new) result }
+{
+    let mut places = Buffer::new();
+    let at = places.format(fault_place(fault)).as_bytes();
+    let [before, name, after] = fault_text(fault, at);
+    write_text(sink, before, name, after)
+}
+
+fn kind_text(kind: &Kind) -> &[u8]
+    ensures { result.now ≡ spec.kind_text kind.now }
+{
+    match kind {
+        Kind::Names => b"limit of names ",
+        Kind::Lines => b"limit of lines ",
+        Kind::Includes => b"limit of includes ",
+    }
+}
+
+fn write_limit<S: Sink>(sink: &mut S, kind: &Kind, most: u64) -> Result<(), SinkFault>
+    ensures done { OnOk result (Gains (S.held sink.old) (S.held sink.new)
+        (spec.as_line (spec.kind_text kind.now ++ decimal most))) }
+    ensures cut { OnErr result (GainsPart (S.held sink.old) (S.held sink.new)
+        (spec.as_line (spec.kind_text kind.now ++ decimal most))) }
+    ensures cause { HasCause Failed (S.faults sink.old) (S.faults sink.new) result }
+{
+    let mut numbers = Buffer::new();
+    let number = numbers.format(most).as_bytes();
+    write_text(sink, kind_text(kind), number, b"")
+}
+
+// Writes names, each behind a space.
+fn write_names<S: Sink>(sink: &mut S, names: &Texts) -> Result<(), SinkFault>
+    ensures done { OnOk result
+        (Gains (S.held sink.old) (S.held sink.new) (spec.spaced names.now)) }
+    ensures cut { OnErr result
+        (GainsPart (S.held sink.old) (S.held sink.new) (spec.spaced names.now)) }
+    ensures cause { HasCause Failed (S.faults sink.old) (S.faults sink.new) result }
+{
+    for name in names.as_slice() {
+        write_all(sink, &[b" ", name.bytes()])?;
+    }
+    Ok(())
+}
+
+fn write_cycle<S: Sink>(sink: &mut S, names: &Texts) -> Result<(), SinkFault>
+    ensures done { OnOk result (Gains (S.held sink.old) (S.held sink.new)
+        (spec.as_line (codes "graph cycles through" ++ spec.spaced names.now))) }
+    ensures cut { OnErr result (GainsPart (S.held sink.old) (S.held sink.new)
+        (spec.as_line (codes "graph cycles through" ++ spec.spaced names.now))) }
+    ensures cause { HasCause Failed (S.faults sink.old) (S.faults sink.new) result }
+{
+    write_all(sink, &[b"bmake: graph cycles through"])?;
+    write_names(sink, names)?;
+    write_all(sink, &[b"\n"])
+}
+
+// Writes what is wrong with a command line of a target, in three pieces.
+fn write_command<'t, S: Sink>(
+    sink: &mut S,
+    name: &'t [u8],
+    number: &'t [u8],
+    before: &'t [u8],
+    middle: &'t [u8],
+    after: &'t [u8],
+) -> Result<(), SinkFault>
+    ensures done { OnOk result (Gains (S.held sink.old) (S.held sink.new)
+        (spec.as_line (spec.command_text name.now number.now
+        (before.now ++ (middle.now ++ after.now))))) }
+    ensures cut { OnErr result (GainsPart (S.held sink.old) (S.held sink.new)
+        (spec.as_line (spec.command_text name.now number.now
+        (before.now ++ (middle.now ++ after.now))))) }
     ensures cause { HasCause Failed (S.faults sink.old) (S.faults sink.new) result }
 {
     write_all(
         sink,
-        &[b"bmake: \"", file, b"\" line ", number, b": ", wrong, b"\n"],
+        &[
+            b"bmake: target ",
+            name,
+            b" command ",
+            number,
+            b": ",
+            before,
+            middle,
+            after,
+            b"\n",
+        ],
     )
 }
 
-fn write_bad<S: Sink>(sink: &mut S, file: &[u8], line: u32, what: What) -> Result<(), SinkFault>
-    ensures done { OnOk result
-        (Gains (S.held sink.old) (S.held sink.new)
-        (spec.as_line (spec.bad_text file.now line what))) }
-    ensures cut { OnErr result
-        (GainsPart (S.held sink.old) (S.held sink.new)
-        (spec.as_line (spec.bad_text file.now line what))) }
+fn write_expand<S: Sink>(
+    sink: &mut S,
+    name: &[u8],
+    line: u32,
+    fault: &ExpandFault,
+) -> Result<(), SinkFault>
+    ensures done { OnOk result (Gains (S.held sink.old) (S.held sink.new)
+        (spec.as_line (spec.command_text name.now (decimal line) (spec.fault_text fault.now)))) }
+    ensures cut { OnErr result (GainsPart (S.held sink.old) (S.held sink.new)
+        (spec.as_line (spec.command_text name.now (decimal line) (spec.fault_text fault.now)))) }
     ensures cause { HasCause Failed (S.faults sink.old) (S.faults sink.new) result }
 {
-    let mut buffer = Buffer::new();
-    write_place(sink, file, buffer.format(line).as_bytes(), what_text(what))
+    let mut lines = Buffer::new();
+    let mut places = Buffer::new();
+    let number = lines.format(line).as_bytes();
+    let at = places.format(fault_place(fault)).as_bytes();
+    let [before, middle, after] = fault_text(fault, at);
+    write_command(sink, name, number, before, middle, after)
+}
+
+fn write_failed<S: Sink>(sink: &mut S, name: &[u8], line: u32, status: u8) -> Result<(), SinkFault>
+    ensures done { OnOk result (Gains (S.held sink.old) (S.held sink.new) (spec.as_line
+        (spec.command_text name.now (decimal line) (codes "status " ++ decimal status)))) }
+    ensures cut { OnErr result (GainsPart (S.held sink.old) (S.held sink.new) (spec.as_line
+        (spec.command_text name.now (decimal line) (codes "status " ++ decimal status)))) }
+    ensures cause { HasCause Failed (S.faults sink.old) (S.faults sink.new) result }
+{
+    let mut lines = Buffer::new();
+    let mut statuses = Buffer::new();
+    let number = lines.format(line).as_bytes();
+    let text = statuses.format(status).as_bytes();
+    write_command(sink, name, number, b"status ", text, b"")
 }
 
 /// Writes the line of an end, if it has one. Takes no memory.
 pub fn write_line<S: Sink>(sink: &mut S, words: &Texts, end: &End) -> Result<(), SinkFault>
-    ensures done { OnOk result (Gains (S.held sink.old) (S.held sink.new) (spec.line_of words.now end.now)) }
+    ensures done { OnOk result
+        (Gains (S.held sink.old) (S.held sink.new) (spec.line_of words.now end.now)) }
     ensures cut { OnErr result
         (GainsPart (S.held sink.old) (S.held sink.new) (spec.line_of words.now end.now)) }
     ensures cause { HasCause Failed (S.faults sink.old) (S.faults sink.new) result }
@@ -98,11 +294,14 @@ pub fn write_line<S: Sink>(sink: &mut S, words: &Texts, end: &End) -> Result<(),
         End::Done | End::SinkFault => Ok(()),
         End::Usage(i) => write_text(sink, b"bad word: ", word_at(words, *i), b""),
         End::NoFile(file) => write_text(sink, b"no makefile ", file.bytes(), b""),
-        End::Bad(file, line, what) => write_bad(sink, file.bytes(), *line, *what),
-        End::Print(_, fault) => {
-            let [before, name, after] = fault_text(fault);
-            write_text(sink, before, name, after)
-        }
+        End::Bad(file, line, what) => write_bad(sink, file.bytes(), *line, what),
+        End::Print(_, fault) => write_fault(sink, fault),
+        End::NoTarget => write_text(sink, b"no target to make", b"", b""),
+        End::NoRule(name) => write_text(sink, b"don't know how to make ", name.bytes(), b""),
+        End::Cycle(names) => write_cycle(sink, names),
+        End::Limit(kind, most) => write_limit(sink, kind, *most),
+        End::Expand(name, line, fault) => write_expand(sink, name.bytes(), *line, fault),
+        End::JobFailed(name, line, status) => write_failed(sink, name.bytes(), *line, *status),
         End::WorldFault => write_text(sink, b"an outside call failed", b"", b""),
         End::NoMemory => write_text(sink, b"out of memory", b"", b""),
     }

@@ -1,20 +1,38 @@
-use mk_bytes::{Items, Text, Texts};
+use mk_bytes::{Kind, Text, Texts};
+use mk_driver::Events;
 use mk_expand::ExpandFault;
+use mk_plan::PlanFault;
 use mk_reader::{ReadFault, What};
+use mk_world::SinkFault;
 
 /// How a run ends.
 #[derive(Debug, Drop)]
 pub enum End {
     /// All went well. Status 0.
     Done,
-    /// The word at this place, counted from 0, is the first that is refused. Status 2.
+    /// The word at this place, counted from 0, is the first that is refused or asks for what is not
+    /// built yet. Status 2.
     Usage(u32),
-    /// A makefile, named as on the command line, is missing. Status 2.
+    /// A makefile, named as on the command line, is missing; without `-f` it is `makefile`, where
+    /// both default ones are missing. Status 2.
     NoFile(Text),
-    /// A makefile, a line of it, counted from 1, and what is wrong there first. Status 2.
+    /// A makefile, a line of it, counted from 1, and what is wrong there first. For an assignment
+    /// of the command line the name is empty and the line is 0. Status 2.
     Bad(Text, u32, What),
     /// The print at this place, counted from 0, has this fault. Status 2.
     Print(u32, ExpandFault),
+    /// No target was asked for, and the makefiles have none. Status 2.
+    NoTarget,
+    /// There is no way to make this name, and no file of it. Status 2.
+    NoRule(Text),
+    /// These names, of which the last is the first again, are each made from the next. Status 2.
+    Cycle(Texts),
+    /// More than so many of these came up. Status 2.
+    Limit(Kind, u64),
+    /// This command line of this node, counted from 1, could not be expanded. Status 2.
+    Expand(Text, u32, ExpandFault),
+    /// This command line of this node, counted from 1, ended with this status. Status 1.
+    JobFailed(Text, u32, u8),
     /// A call of the world failed. Status 3.
     WorldFault,
     /// A write to standard output or standard error failed. Status 3.
@@ -22,27 +40,6 @@ pub enum End {
     /// Memory ran out. Status 4.
     NoMemory,
 }
-
-/// What a build did with a node, which is named by its place in the plan, and with its lines,
-/// which are counted from 1.
-#[derive(Clone, Copy, Debug, PartialEq, Eq)]
-pub enum Event {
-    /// The node was up to date.
-    Kept(u32),
-    /// This line of the node could not be expanded.
-    Refused(u32, u32),
-    /// This line of the node was shown by a dry run.
-    Shown(u32, u32),
-    /// This line of the node was started.
-    Start(u32, u32),
-    /// This line of the node ended with this status.
-    End(u32, u32, u8),
-    /// Make waited for a child.
-    Wait,
-}
-
-/// What a build did, in order.
-pub type Events = Items<Event>;
 
 /// What a run answers: its exit status, how it ended, the names of the nodes in plan order, and what
 /// the build did. Both lists are empty where there was no build.
@@ -70,6 +67,35 @@ impl From<ReadFault> for End {
     }
 }
 
+impl From<PlanFault> for End {
+    ghost use Rattle.std.specs.Prelude.{◌≡◌};
+    ghost use Rattle.mk_top.specs.Ends.{of_plan};
+
+    ghost from_gives = { λ fault end. end ≡ of_plan fault };
+
+    fn from(fault: PlanFault) -> End {
+        match fault {
+            PlanFault::NoTarget => End::NoTarget,
+            PlanFault::NoRule(name) => End::NoRule(name),
+            PlanFault::Cycle(names) => End::Cycle(names),
+            PlanFault::Limit(kind, most) => End::Limit(kind, most),
+            PlanFault::Failed => End::WorldFault,
+            PlanFault::NoMemory => End::NoMemory,
+        }
+    }
+}
+
+impl From<SinkFault> for End {
+    ghost use Rattle.std.specs.Prelude.{◌≡◌};
+    ghost use Rattle.mk_top.specs.declared.report.End.TheVariants.{SinkFault as sink_failed};
+
+    ghost from_gives = { λ _ end. end ≡ sink_failed };
+
+    fn from(_: SinkFault) -> End {
+        End::SinkFault
+    }
+}
+
 impl End {
     ghost use Rattle.std.specs.Prelude.{◌≡◌};
     ghost use Rattle.mk_top.specs.Ends.{status_of};
@@ -80,7 +106,10 @@ impl End {
     {
         match self {
             End::Done => 0,
+            End::JobFailed(_, _, _) => 1,
             End::Usage(_) | End::NoFile(_) | End::Bad(_, _, _) | End::Print(_, _) => 2,
+            End::NoTarget | End::NoRule(_) | End::Cycle(_) | End::Limit(_, _) => 2,
+            End::Expand(_, _, _) => 2,
             End::WorldFault | End::SinkFault => 3,
             End::NoMemory => 4,
         }

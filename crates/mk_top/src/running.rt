@@ -1,96 +1,135 @@
 //! A run: the words of the command line, a world and two sinks in; a report out.
-ghost use Rattle.std.specs.Prelude.{◌≡◌, ◌≢◌, [], Err, IsTrue};
-ghost use Rattle.mk_bytes.specs.Agrees.{Agrees, AgreesBut};
-ghost use Rattle.mk_bytes.specs.Paths.{clean, is_clean_directory};
-ghost use Rattle.mk_expand.specs.declared.fault.ExpandFault.TheVariants.{NoMemory as no_memory};
+ghost use Rattle.std.specs.Prelude.{◌≡◌, [], IsTrue};
+ghost use Rattle.mk_bytes.specs.Paths.{is_clean_directory};
+ghost use Rattle.mk_top.specs.Building.{point};
+ghost use Rattle.mk_top.specs.Causes.{EndCause, LineCause, WorldCause, SinkCause};
 ghost use Rattle.mk_top.specs.Ends as ends;
 ghost use Rattle.mk_top.specs.Meaning as spec;
 ghost use Rattle.mk_top.specs.Runs as runs;
-ghost use Rattle.mk_top.specs.Words.{word_at};
 ghost use Rattle.mk_top.specs.declared.report.End.TheVariants.{
   WorldFault as world_failed,
-  SinkFault
-      as sink_failed,
+  SinkFault as sink_failed,
 };
-ghost use Rattle.mk_world.specs.Causes.{HasCause};
-ghost use Rattle.mk_world.specs.Runs.{LooksAt, OnFiles};
-ghost use Rattle.mk_world.specs.Told.{Told};
 
+use crate::building::{Went, build_targets, is_plain, unbuilt};
 use crate::message::write_line;
+use crate::print::print_all;
 use crate::report::{End, Report};
-use crate::words::{refused, word_at};
-use mk_bytes::{Items, Text, Texts};
-use mk_expand::{ExpandFault, Part, expand};
+use crate::words::asked;
+use mk_bytes::Texts;
+use mk_cli::Order;
+use mk_graph::Made;
 use mk_reader::read;
-use mk_scopes::{Env, Scopes};
-use mk_world::{Sink, World, write_all};
+use mk_scopes::Env;
+use mk_world::{Sink, World};
 use std::alloc::Global;
 
-// The line that prints a variable.
-fn value_line(alloc: Global, scopes: &Scopes, name: &[u8]) -> Result<Text, ExpandFault>
-    ensures { Agrees no_memory (λ line. line) result (spec.value_line scopes.now name.now) }
+// The end of a run that went so far.
+fn end_of(went: Result<(), End>) -> End
+    ensures { result ≡ runs.end_of went }
 {
-    let mut parts = Items::new(alloc, 1)?;
-    parts.push(Part::Reference(Text::from_bytes(alloc, name)?))?;
-    let mut line = expand(alloc, scopes, &parts)?;
-    line.push(b"\n")?;
-    Ok(line)
+    match went {
+        Ok(()) => End::Done,
+        Err(end) => end,
+    }
 }
 
-// What is printed, or the end of a run that prints nothing.
-fn printed<W: World>(alloc: Global, words: &Texts, env: &Env, world: &mut W) -> Result<Text, End>
-    requires directory { IsTrue (is_clean_directory env.now.cwd) }
+// Does with the makefiles what the words ask for: prints, where there are some, and else a build.
+fn by_mode<W: World, S: Sink>(
+    alloc: Global,
+    made: &Made,
+    order: &Order,
+    world: &mut W,
+    out: &mut S,
+) -> Went
     requires idle { W.runs world.old [] }
-    ensures meaning { OnFiles (W.history world.old) (W.history world.new)
-        (λ files. AgreesBut ends.IsOutside (λ line. line) result
-        (spec.meaning words.now env.now files)) }
-    ensures looks { Told (W.history world.old) (W.history world.new)
-        (LooksAt (clean env.now.cwd (word_at words.now 1))) }
-    ensures cause { HasCause world_failed (W.faults world.old) (W.faults world.new) result }
-    ensures no_write { result ≢ Err sink_failed }
+    ensures goes { runs.Goes W.meaning (spec.by_mode made.now order.now order.now.prints)
+        (point (W.history world.old) (S.held out.old))
+        (point (W.history world.new) (S.held out.new)) result }
+    ensures world_cause { EndCause world_failed (W.faults world.old) (W.faults world.new)
+        result.end }
+    ensures sink_cause { EndCause sink_failed (S.faults out.old) (S.faults out.new) result.end }
     ensures idle { W.runs world.new [] }
 {
-    if let Some(i) = refused(words) {
-        return Err(End::Usage(i));
+    if !order.prints.is_empty() {
+        return unbuilt(
+            alloc,
+            end_of(print_all(alloc, &made.scopes, &order.prints, out)),
+        );
     }
-    let scopes = read(alloc, world, word_at(words, 1), env)?;
-    match value_line(alloc, &scopes, word_at(words, 3)) {
-        Ok(line) => Ok(line),
-        Err(ExpandFault::NoMemory) => Err(End::NoMemory),
-        Err(fault) => Err(End::Print(0, fault)),
+    if !is_plain(&order.flags) {
+        return unbuilt(alloc, End::Usage(0));
+    }
+    build_targets(alloc, made, &order.flags, world, out)
+}
+
+// What a run does whose words ask for this: it reads, and then prints or builds.
+fn follow<W: World, S: Sink>(
+    alloc: Global,
+    order: &Order,
+    env: &Env,
+    world: &mut W,
+    out: &mut S,
+) -> Went
+    requires directory { IsTrue (is_clean_directory env.now.cwd) }
+    requires idle { W.runs world.old [] }
+    ensures goes { runs.Followed W.meaning env.now order.now
+        (point (W.history world.old) (S.held out.old))
+        (point (W.history world.new) (S.held out.new)) result }
+    ensures world_cause { EndCause world_failed (W.faults world.old) (W.faults world.new)
+        result.end }
+    ensures sink_cause { EndCause sink_failed (S.faults out.old) (S.faults out.new) result.end }
+    ensures idle { W.runs world.new [] }
+{
+    match read(alloc, world, order, env) {
+        Ok(made) => by_mode(alloc, &made, order, world, out),
+        Err(fault) => unbuilt(alloc, End::from(fault)),
     }
 }
 
-// Prints what a run has come to, writes the line of its end, and gives the end.
-fn finish<S: Sink>(words: &Texts, stood: Result<Text, End>, out: &mut S, err: &mut S) -> End
-    requires { stood ≢ Err sink_failed }
-    ensures ends { runs.Finished words.now stood
-        (record { before = S.held out.old; after = S.held out.new })
-        (record { before = S.held err.old; after = S.held err.new }) result }
-    ensures cause { runs.SinkCause (S.faults out.old) (S.faults out.new) (S.faults err.old)
-        (S.faults err.new) result }
+// All of a run but the line of its end.
+fn carry_out<W: World, S: Sink>(
+    alloc: Global,
+    words: &Texts,
+    env: &Env,
+    world: &mut W,
+    out: &mut S,
+) -> Went
+    requires directory { IsTrue (is_clean_directory env.now.cwd) }
+    requires idle { W.runs world.old [] }
+    ensures carried { runs.Carried W.meaning words.now env.now
+        (point (W.history world.old) (S.held out.old))
+        (point (W.history world.new) (S.held out.new)) result }
+    ensures world_cause { EndCause world_failed (W.faults world.old) (W.faults world.new)
+        result.end }
+    ensures sink_cause { EndCause sink_failed (S.faults out.old) (S.faults out.new) result.end }
+    ensures idle { W.runs world.new [] }
 {
-    let end = match stood {
-        Ok(line) => {
-            if write_all(out, &[line.bytes()]).is_err() {
-                return End::SinkFault;
-            }
-            End::Done
-        }
-        Err(end) => end,
-    };
-    if write_line(err, words, &end).is_err() {
+    match asked(alloc, words, env.cwd.bytes()) {
+        Ok(order) => follow(alloc, &order, env, world, out),
+        Err(end) => unbuilt(alloc, end),
+    }
+}
+
+// Writes the line of an end, and gives the end of the run.
+fn finish<S: Sink>(words: &Texts, went: End, err: &mut S) -> End
+    ensures ends { runs.Closed words.now went
+        (record { before = S.held err.old; after = S.held err.new }) result }
+    ensures cause { LineCause (S.faults err.old) (S.faults err.new) went result }
+{
+    if write_line(err, words, &went).is_err() {
         return End::SinkFault;
     }
-    end
+    went
 }
 
 /// Does all that the program does. The words are those of the command line without the program's
 /// name; the environment's directory is absolute and clean.
 ///
-/// It reads the makefile that the words name, and prints the value of the variable that they name
-/// on `out`, with a newline. Every end but `Done` and `SinkFault` has its line on `err`, which is
-/// written last.
+/// It reads the words, then the makefiles, and then prints on `out` what the words ask for, each
+/// print on its line as soon as it is evaluated. Where they ask for no print it makes a plan of the
+/// targets and builds it, with one job and by times. Every end but `Done` and `SinkFault` has its
+/// line on `err`, which is written last.
 pub fn run<W: World, S: Sink>(
     alloc: Global,
     words: &Texts,
@@ -101,30 +140,26 @@ pub fn run<W: World, S: Sink>(
 ) -> Report
     requires directory { IsTrue (is_clean_directory env.now.cwd) }
     requires idle { W.runs world.old [] }
-    ensures ends { OnFiles (W.history world.old) (W.history world.new) (λ files.
-        runs.EndsBy words.now (spec.meaning words.now env.now files)
-        (record { before = S.held out.old; after = S.held out.new })
-        (record { before = S.held err.old; after = S.held err.new }) result.end) }
+    ensures ran { runs.IsRun W.meaning words.now env.now
+        (point (W.history world.old) (S.held out.old))
+        (point (W.history world.new) (S.held out.new))
+        (record { before = S.held err.old; after = S.held err.new }) result }
     ensures status { result.status ≡ ends.status_of result.end }
-    ensures plan { result.plan ≡ [] }
-    ensures events { result.events ≡ [] }
 
     // A fault of the outside comes only where a count rose, and a rise is always answered.
-    ensures world_fault { runs.WorldCause (W.faults world.old) (W.faults world.new) result.end }
-    ensures sink_fault { runs.SinkCause (S.faults out.old) (S.faults out.new) (S.faults err.old)
+    ensures world_fault { WorldCause (W.faults world.old) (W.faults world.new) result.end }
+    ensures sink_fault { SinkCause (S.faults out.old) (S.faults out.new) (S.faults err.old)
         (S.faults err.new) result.end }
 
-    // Nothing in the world changes: a print looks at its makefile alone.
-    ensures looks { Told (W.history world.old) (W.history world.new)
-        (LooksAt (clean env.now.cwd (word_at words.now 1))) }
+    // No child is left.
     ensures idle { W.runs world.new [] }
 {
-    let stood = printed(alloc, words, env, world);
-    let end = finish(words, stood, out, err);
+    let went = carry_out(alloc, words, env, world, out);
+    let end = finish(words, went.end, err);
     Report {
         status: end.status(),
         end,
-        plan: Items::new(alloc, 0).unwrap(),
-        events: Items::new(alloc, 0).unwrap(),
+        plan: went.plan,
+        events: went.events,
     }
 }

@@ -5,6 +5,7 @@ ghost use Rattle.mk_bytes.specs.Paths.{is_clean_directory};
 ghost use Rattle.mk_world.specs.Causes.{Rose};
 
 use crate::running::run;
+use itoa::Buffer;
 use mk_bytes::{Items, NoMemory, Pair, Pairs, Text, Texts};
 use mk_scopes::Env;
 use mk_world::{Cmd, Ended, Kids, Sink, SinkFault, Ticket, Time, When, World, WorldFault};
@@ -115,7 +116,7 @@ impl Sink for SmallSink {
 
 struct Case {
     shows: &'static str,
-    // the file `m`, if there is one
+    // the file `makefile`, if there is one
     makefile: Option<&'static [u8]>,
     words: &'static [&'static [u8]],
     out: &'static [u8],
@@ -123,125 +124,165 @@ struct Case {
     status: u8,
 }
 
-const CASES: [Case; 15] = [
+const CASES: [Case; 20] = [
     Case {
-        shows: "the last assignment counts, when the value is used",
-        makefile: Some(b"B=1\nA=${B}\nB=2\n"),
-        words: &[b"-f", b"m", b"-v", b"A"],
-        out: b"2\n",
+        shows: "an undefined variable is an empty line",
+        makefile: Some(b""),
+        words: &[b"-V", b"X"],
+        out: b"\n",
         err: b"",
         status: 0,
     },
     Case {
-        shows: "a variable of itself",
-        makefile: Some(b"A=$(A)\n"),
-        words: &[b"-f", b"m", b"-v", b"A"],
-        out: b"",
-        err: b"bmake: variable A is recursive\n",
-        status: 2,
+        shows: "raw values and expanded ones, and a value that is expanded when it is set",
+        makefile: Some(b"B=1\nA=${B}\nC:=${B}\nB=2\n"),
+        words: &[b"-V", b"A", b"-v", b"A", b"-v", b"C"],
+        out: b"${B}\n2\n1\n",
+        err: b"",
+        status: 0,
     },
     Case {
-        shows: "a line that is not built yet",
-        makefile: Some(b"A=1\nt: s\n"),
-        words: &[b"-f", b"m", b"-v", b"A"],
-        out: b"",
-        err: b"bmake: \"m\" line 2: form is not built yet\n",
-        status: 2,
+        shows: "a text with a dollar is expanded by both options",
+        makefile: Some(b"A=a\nB=$A$A\n"),
+        words: &[b"-V", b"<${B}>", b"-v", b"$A$$"],
+        out: b"<aa>\na$\n",
+        err: b"",
+        status: 0,
     },
     Case {
-        shows: "a missing makefile, named as the word has it",
-        makefile: None,
-        words: &[b"-f", b"./m", b"-v", b"A"],
-        out: b"",
-        err: b"bmake: no makefile ./m\n",
-        status: 2,
-    },
-    Case {
-        shows: "an undefined variable",
+        shows: "the empty name is undefined, whatever sets it",
         makefile: Some(b""),
-        words: &[b"-f", b"m", b"-v", b"X"],
-        out: b"\n",
+        words: &[b"-D", b"", b"-V", b"", b"-v", b""],
+        out: b"\n\n",
+        err: b"",
+        status: 0,
+    },
+    Case {
+        shows: "words set variables of the command line, and the environment counts for a default",
+        makefile: Some(b"A=x\nE?=x\nN?=y\n"),
+        words: &[b"A=w", b"-DD", b"-vA", b"-vE", b"-vN", b"-vD"],
+        out: b"w\n<>\ny\n1\n",
         err: b"",
         status: 0,
     },
     Case {
         shows: "a makefile is read at its cleaned path",
         makefile: Some(b"A=1"),
-        words: &[b"-f", b"d/../../w//m", b"-v", b"A"],
+        words: &[b"-f", b"d/../../w//makefile", b"-v", b"A"],
         out: b"1\n",
         err: b"",
         status: 0,
     },
     Case {
-        shows: "a global stands above the environment, of which the last value counts",
-        makefile: Some(b"A=global\n"),
-        words: &[b"-f", b"m", b"-v", b"A"],
-        out: b"global\n",
-        err: b"",
-        status: 0,
+        shows: "a variable of itself",
+        makefile: Some(b"A=${A}\n"),
+        words: &[b"-v", b"A"],
+        out: b"",
+        err: b"bmake: variable A is recursive\n",
+        status: 2,
     },
     Case {
-        shows: "the environment's value is expanded too",
-        makefile: Some(b"C=c\n\n"),
-        words: &[b"-f", b"m", b"-v", b"E"],
-        out: b"<c>\n",
-        err: b"",
-        status: 0,
+        shows: "the lines before the first fault are printed",
+        makefile: Some(b"A=1\nB=${A:Q1}\n"),
+        words: &[b"-V", b"A", b"-v", b"B", b"-V", b"A"],
+        out: b"1\n",
+        err: b"bmake: unknown modifier at 4\n",
+        status: 2,
     },
     Case {
-        shows: "a modifier in the environment",
-        makefile: Some(b"C=c\n"),
-        words: &[b"-f", b"m", b"-v", b"M"],
+        shows: "a modifier that is not built yet",
+        makefile: Some(b"A=1\n"),
+        words: &[b"-v", b"${A:H}"],
         out: b"",
         err: b"bmake: form is not built yet\n",
         status: 2,
     },
     Case {
-        shows: "blanks before a value, and dollars in it",
-        makefile: Some(b"D_1= \t$$x $ $y$(z)$"),
-        words: &[b"-f", b"m", b"-v", b"D_1"],
-        out: b"$x $ $\n",
-        err: b"",
-        status: 0,
-    },
-    Case {
-        shows: "no words",
-        makefile: Some(b""),
-        words: &[],
-        out: b"",
-        err: b"bmake: bad word: \n",
-        status: 2,
-    },
-    Case {
-        shows: "another option in the first place",
-        makefile: Some(b""),
-        words: &[b"-z", b"m", b"-v", b"A"],
+        shows: "an unknown letter",
+        makefile: None,
+        words: &[b"-z"],
         out: b"",
         err: b"bmake: bad word: -z\n",
         status: 2,
     },
     Case {
-        shows: "another option in the third place",
+        shows: "a missing argument",
         makefile: None,
-        words: &[b"-f", b"m", b"-V", b"A"],
-        out: b"",
-        err: b"bmake: bad word: -V\n",
-        status: 2,
-    },
-    Case {
-        shows: "a name with a dollar",
-        makefile: None,
-        words: &[b"-f", b"m", b"-v", b"$A"],
-        out: b"",
-        err: b"bmake: bad word: $A\n",
-        status: 2,
-    },
-    Case {
-        shows: "five words",
-        makefile: None,
-        words: &[b"-f", b"m", b"-v", b"A", b"B"],
+        words: &[b"-f"],
         out: b"",
         err: b"bmake: bad word: -f\n",
+        status: 2,
+    },
+    Case {
+        shows: "an option that is not built yet, before a word that is refused",
+        makefile: None,
+        words: &[b"-V", b"-z", b"-en", b"-z"],
+        out: b"",
+        err: b"bmake: bad word: -en\n",
+        status: 2,
+    },
+    Case {
+        shows: "a word that is refused, before an option that is not built yet",
+        makefile: None,
+        words: &[b"-z", b"-n"],
+        out: b"",
+        err: b"bmake: bad word: -z\n",
+        status: 2,
+    },
+    Case {
+        shows: "no makefile",
+        makefile: None,
+        words: &[],
+        out: b"",
+        err: b"bmake: no makefile makefile\n",
+        status: 2,
+    },
+    Case {
+        shows: "the first missing makefile, named as the word has it",
+        makefile: Some(b""),
+        words: &[b"-f", b"makefile", b"-f", b"./n", b"-V", b"A"],
+        out: b"",
+        err: b"bmake: no makefile ./n\n",
+        status: 2,
+    },
+    Case {
+        shows: "a fault of the words, before a missing makefile",
+        makefile: None,
+        words: &[b"A:=${X"],
+        out: b"",
+        err: b"bmake: \"\" line 0: unclosed reference at 0\n",
+        status: 2,
+    },
+    Case {
+        shows: "a command without a target, named as the word has it",
+        makefile: Some(b"A=1\n\tx\n"),
+        words: &[b"-f", b"./makefile", b"-v", b"A"],
+        out: b"",
+        err: b"bmake: \"./makefile\" line 2: command without target\n",
+        status: 2,
+    },
+    Case {
+        shows: "an empty name",
+        makefile: Some(b"${X}=1\n"),
+        words: &[b"-V", b"A"],
+        out: b"",
+        err: b"bmake: \"makefile\" line 1: empty variable name\n",
+        status: 2,
+    },
+    Case {
+        shows: "a zero byte",
+        makefile: Some(b"A=1\nB=\x00\n"),
+        words: &[b"-V", b"A"],
+        out: b"",
+        err: b"bmake: \"makefile\" line 2: zero byte\n",
+        status: 2,
+    },
+    Case {
+        shows: "a makefile without a target has nothing to make",
+        makefile: Some(b""),
+        words: &[],
+        out: b"",
+        err: b"bmake: no target to make\n",
         status: 2,
     },
 ];
@@ -262,11 +303,10 @@ fn texts(alloc: Global, words: &[&[u8]]) -> Result<Texts, NoMemory> {
 }
 
 fn variables(alloc: Global) -> Result<Pairs, NoMemory> {
-    let mut vars = Items::new(alloc, 4)?;
+    let mut vars = Items::new(alloc, 3)?;
     vars.push(pair(alloc, b"A", b"first")?)?;
     vars.push(pair(alloc, b"A", b"last")?)?;
     vars.push(pair(alloc, b"E", b"<$C>")?)?;
-    vars.push(pair(alloc, b"M", b"${C:H}")?)?;
     Ok(vars)
 }
 
@@ -281,7 +321,7 @@ fn environment(alloc: Global) -> Result<Env, NoMemory>
 fn world(alloc: Global, makefile: Option<&[u8]>, fails: bool) -> Result<SmallWorld, NoMemory> {
     let mut files = Items::new(alloc, 1)?;
     if let Some(bytes) = makefile {
-        files.push(pair(alloc, b"m", bytes)?)?;
+        files.push(pair(alloc, b"makefile", bytes)?)?;
     }
     Ok(SmallWorld {
         files,
@@ -315,12 +355,22 @@ fn run_case(
     out_room: usize,
     err_room: usize,
 ) -> Result<Ran, NoMemory> {
-    let words = texts(alloc, case.words)?;
-    let env = environment(alloc)?;
     let mut world = world(alloc, case.makefile, fails)?;
+    run_over(alloc, &mut world, case.words, out_room, err_room)
+}
+
+fn run_over(
+    alloc: Global,
+    world: &mut SmallWorld,
+    words: &[&[u8]],
+    out_room: usize,
+    err_room: usize,
+) -> Result<Ran, NoMemory> {
+    let words = texts(alloc, words)?;
+    let env = environment(alloc)?;
     let mut out = sink(alloc, out_room);
     let mut err = sink(alloc, err_room);
-    let report = run(alloc, &words, &env, &mut world, &mut out, &mut err);
+    let report = run(alloc, &words, &env, world, &mut out, &mut err);
     Ok(Ran {
         status: report.status,
         looks: world.looks,
@@ -355,12 +405,48 @@ fn failed_read_ends_the_run(rt: HostRuntime) -> Result<(), Fail> {
 
 #[test]
 fn failed_writes_leave_a_part(rt: HostRuntime) -> Result<(), Fail> {
-    let printed = run_case(rt.alloc(), &CASES[0], false, 1, 1000)?;
-    assert_eq!(rt; printed.out.held.bytes(), b"2".as_slice());
+    let printed = run_case(rt.alloc(), &CASES[1], false, 6, 1000)?;
+    assert_eq!(rt; printed.out.held.bytes(), b"${B}\n2".as_slice());
     assert_eq!(rt; printed.err.held.len(), 0);
     assert_eq!(rt; printed.status, 3);
-    let refused = run_case(rt.alloc(), &CASES[1], false, 1000, 9)?;
+    let refused = run_case(rt.alloc(), &CASES[6], false, 1000, 9)?;
     assert_eq!(rt; refused.err.held.bytes(), b"bmake: va".as_slice());
     assert_eq!(rt; refused.status, 3);
+    Ok(())
+}
+
+fn push_number(text: &mut Text, number: u32) -> Result<(), NoMemory> {
+    let mut buffer = Buffer::new();
+    text.push(buffer.format(number).as_bytes())
+}
+
+// Variables `A0`, `A1` and so on, each of which refers to the next one, up to that of a last number.
+fn chain(alloc: Global, last: u32) -> Result<SmallWorld, NoMemory> {
+    let mut text = Text::new(alloc);
+    for i in 0..last {
+        text.push(b"A")?;
+        push_number(&mut text, i)?;
+        text.push(b"=${A")?;
+        push_number(&mut text, i.saturating_add(1))?;
+        text.push(b"}\n")?;
+    }
+    text.push(b"A")?;
+    push_number(&mut text, last)?;
+    text.push(b"=x\n")?;
+    world(alloc, Some(text.bytes()), false)
+}
+
+#[test]
+fn references_are_open_256_deep(rt: HostRuntime) -> Result<(), Fail> {
+    let mut deepest = chain(rt.alloc(), 255)?;
+    let ran = run_over(rt.alloc(), &mut deepest, &[b"-v", b"A0"], 1000, 1000)?;
+    assert_eq!(rt; ran.out.held.bytes(), b"x\n".as_slice());
+    let mut too_deep = chain(rt.alloc(), 256)?;
+    let ran = run_over(rt.alloc(), &mut too_deep, &[b"-v", b"A0"], 1000, 1000)?;
+    assert_eq!(rt;
+        ran.err.held.bytes(),
+        b"bmake: nested too deeply\n".as_slice()
+    );
+    assert_eq!(rt; ran.status, 2);
     Ok(())
 }

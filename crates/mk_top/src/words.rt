@@ -1,9 +1,15 @@
-//! The words of the command line.
-ghost use Rattle.std.specs.Prelude.{◌≡◌, ◌<◌, length, None};
-ghost use Rattle.std.specs.List.{list_any};
+//! The words of the command line, and what they ask for.
+ghost use Rattle.std.specs.Prelude.{◌≡◌, IsTrue};
+ghost use Rattle.mk_bytes.specs.Agrees.{Agrees};
+ghost use Rattle.mk_bytes.specs.Paths.{is_clean_directory};
+ghost use Rattle.mk_top.specs.Meaning as meaning;
 ghost use Rattle.mk_top.specs.Words as spec;
+ghost use Rattle.mk_top.specs.declared.report.End.TheVariants.{NoMemory as no_memory};
 
+use crate::report::End;
 use mk_bytes::Texts;
+use mk_cli::{Order, Usage, first_unbuilt};
+use std::alloc::Global;
 
 /// The word at a place, or nothing behind the last one.
 pub fn word_at(words: &Texts, i: u32) -> &[u8]
@@ -15,25 +21,29 @@ pub fn word_at(words: &Texts, i: u32) -> &[u8]
     }
 }
 
-fn holds_dollar(word: &[u8]) -> bool
-    ensures { result ≡ list_any spec.is_dollar word.now }
+// The place of a refused word, or of one before it with an option that is not built.
+fn first_place(unbuilt: Option<u32>, refused: u32) -> u32
+    ensures { result ≡ meaning.first_place unbuilt refused }
 {
-    word.iter().any(|byte| *byte == b'$')
+    match unbuilt {
+        None => refused,
+        Some(unbuilt) => refused.min(unbuilt),
+    }
 }
 
-/// The place of the first word that is refused: accepted are the four words `-f FILE -v NAME`,
-/// where the name holds no dollar.
-pub fn refused(words: &Texts) -> Option<u32>
-    ensures { result ≡ spec.refused words.now }
+/// What the words ask for. `Usage` has the place of the first word that is refused, or that asks
+/// for an option that is not built yet.
+pub fn asked(alloc: Global, words: &Texts, cwd: &[u8]) -> Result<Order, End>
+    requires { IsTrue (is_clean_directory cwd.now) }
+    ensures { Agrees no_memory (λ order. order) result (meaning.asked cwd.now words.now) }
 {
-    if words.len() != 4 || word_at(words, 0) != b"-f".as_slice() {
-        return Some(0);
+    let unbuilt = first_unbuilt(words);
+    match mk_cli::words(alloc, words, cwd) {
+        Ok(order) => match unbuilt {
+            None => Ok(order),
+            Some(i) => Err(End::Usage(i)),
+        },
+        Err(Usage::Word(refused)) => Err(End::Usage(first_place(unbuilt, refused))),
+        Err(Usage::NoMemory) => Err(End::NoMemory),
     }
-    if word_at(words, 2) != b"-v".as_slice() {
-        return Some(2);
-    }
-    if holds_dollar(word_at(words, 3)) {
-        return Some(3);
-    }
-    None
 }
