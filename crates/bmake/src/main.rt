@@ -12,15 +12,25 @@ use std::io::{Print, Stdout};
 use std::process::ExitCode;
 use std::str;
 
-const HELP: &[u8] = b"usage: bmake -f FILE -v NAME
+const HELP: &[u8] = b"usage: bmake [options] [NAME=VALUE ..] [TARGET ..]
 
-  -f FILE      read this makefile
-  -v NAME      print the value of this variable
-  --help       print this text
-  --version    print the version
+  -f FILE      read this makefile; without -f, makefile or Makefile
+  -I DIR       seek makefiles in quotes here
+  -m DIR       seek makefiles in angle brackets here
+  -D NAME      set this variable to 1
+  -V NAME      print the raw value of this variable, or a text with a $ expanded
+  -v NAME      print the expanded value of this variable, or a text with a $ expanded
+  -e           the environment stands above the makefiles' variables
+  --           the words after it are no options
+  NAME=VALUE   set this variable above all others; also with +=, ?= and :=
+  TARGET       make this target; without one, the makefile's first is made
+  --help       print this text, where it is the only word
+  --version    print the version, where it is the only word
 
-Exit status: 0 where all went well, 2 for a bad word or a fault in a makefile, 3 where an
-outside call failed, 4 where memory ran out.
+Commands of targets are not started yet: a build that has something to do ends with status 3.
+
+Exit status: 0 where all went well, 1 where a command failed, 2 for a bad word, a fault in a
+makefile or a target that cannot be made, 3 where an outside call failed, 4 where memory ran out.
 ";
 
 const VERSION: &[u8] = b"bmake 0.1.0\n";
