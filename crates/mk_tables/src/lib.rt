@@ -8,6 +8,10 @@ mod command_line;
 #[cfg(test)]
 mod lines;
 #[cfg(test)]
+mod memory_commands;
+#[cfg(test)]
+mod memory_world;
+#[cfg(test)]
 mod numbers;
 #[cfg(test)]
 mod paths;
@@ -18,7 +22,11 @@ mod pool;
 #[cfg(test)]
 mod references;
 #[cfg(test)]
+mod runs;
+#[cfg(test)]
 mod texts;
+#[cfg(test)]
+mod values;
 #[cfg(test)]
 mod variables;
 #[cfg(test)]

@@ -2,7 +2,6 @@ ghost use Rattle.std.specs.Prelude.{IsTrue, IfOk};
 ghost use Rattle.mk_bytes.specs.Paths.{is_clean_directory};
 
 use mk_bytes::{Items, NoMemory, Pair, Text};
-use mk_expand::{expand, parse};
 use mk_scopes::{Class, Env, Scopes};
 use std::alloc::Global;
 use std::test::Fail;
@@ -14,7 +13,8 @@ fn pair(alloc: Global, name: &[u8], value: &[u8]) -> Result<Pair, NoMemory> {
     })
 }
 
-fn environment(alloc: Global) -> Result<Env, NoMemory>
+/// An environment with the variable `A`, whose value is `1`, and the directory `/w`.
+pub fn environment(alloc: Global) -> Result<Env, NoMemory>
     ensures { IfOk result (λ env. IsTrue (is_clean_directory env.cwd)) }
 {
     let mut vars = Items::new(alloc, 1)?;
@@ -53,32 +53,6 @@ fn variables_have_their_precedence(rt: HostRuntime) -> Result<(), Fail> {
         };
         assert_eq!(rt; raw, value, "{shows}");
         assert_eq!(rt; scopes.cwd(), b"/w".as_slice());
-    }
-    Ok(())
-}
-
-const VALUES: [(&str, &[u8], Option<&[u8]>); 6] = [
-    ("every form of reference", b"$A${C}$(C)$$", Some(b"233$")),
-    ("a dollar by itself", b"$ $:$)$}$", Some(b"$ $:$)$}$")),
-    ("undefined names", b"[$B${}]", Some(b"[]")),
-    ("a modifier", b"${A:H}", None),
-    ("a reference without its closer", b"${A", None),
-    ("a name in a name", b"${A$A}", None),
-];
-
-#[test]
-fn texts_have_values(rt: HostRuntime) -> Result<(), Fail> {
-    let scopes = scopes(rt.alloc(), false)?;
-    for (shows, text, wanted) in VALUES {
-        let value = match parse(rt.alloc(), text) {
-            Ok(parts) => expand(rt.alloc(), &scopes, &parts).ok(),
-            Err(_) => None,
-        };
-        let bytes = match &value {
-            Some(value) => Some(value.bytes()),
-            None => None,
-        };
-        assert_eq!(rt; bytes, wanted, "{shows}");
     }
     Ok(())
 }

@@ -1,0 +1,277 @@
+//! Values: of texts as they stand and as `:=` keeps them, of local names, and at the limits.
+use crate::variables::environment;
+use mk_ast::AstFault::{self, Unclosed};
+use mk_bytes::{Items, NoMemory, Text, Texts};
+use mk_expand::{ExpandFault, Locals, expand, name_tree, value_of_text};
+use mk_scopes::{Class, Scopes};
+use std::alloc::Global;
+use std::test::Fail;
+
+const VARIABLES: [(&[u8], &[u8]); 10] = [
+    (b"A", b"2"),
+    (b"B", b"<$A>"),
+    (b"D", b"$$"),
+    (b"K", b"${U}|$D"),
+    (b"N", b"a${"),
+    (b"P", b"$Q"),
+    (b"Q", b"${P}"),
+    (b"R", b"${R} x"),
+    (b"x$", b"name"),
+    (b"@", b"global"),
+];
+
+fn scopes(alloc: Global) -> Result<Scopes, NoMemory> {
+    let env = environment(alloc)?;
+    let mut scopes = Scopes::new(alloc, &env, false)?;
+    for (name, value) in VARIABLES {
+        scopes.assign(Class::Global, name, value)?;
+    }
+    Ok(scopes)
+}
+
+fn has_value(
+    alloc: Global,
+    scopes: &Scopes,
+    locals: &Locals,
+    keep: bool,
+    text: &[u8],
+    wanted: &[u8],
+) -> bool {
+    match value_of_text(alloc, scopes, locals, text, keep) {
+        Ok(value) => value.bytes() == wanted,
+        Err(_) => false,
+    }
+}
+
+// What a row shows, the text, its value, and what `:=` keeps of it.
+type ValueRow = (&'static str, &'static [u8], &'static [u8], &'static [u8]);
+
+const VALUES: [ValueRow; 8] = [
+    ("no reference", b"a b", b"a b", b"a b"),
+    ("every form", b"$A${A}$(A)$$", b"222$", b"222$$"),
+    (
+        "a dollar by itself",
+        b"$ $:$)$}$",
+        b"$ $:$)$}$",
+        b"$ $:$)$}$",
+    ),
+    ("undefined names", b"[$U${}$(U)]", b"[]", b"[$U${}$(U)]"),
+    ("a value of a value", b"${B}", b"<2>", b"<2>"),
+    ("a value with dollars", b"$D$K", b"$|$", b"$$${U}|$$"),
+    ("names in names", b"${x$$}${x$D}", b"namename", b"namename"),
+    ("empty modifiers", b"${A:}${U::}", b"2", b"2${U::}"),
+];
+
+#[test]
+fn texts_have_values(rt: HostRuntime) -> Result<(), Fail> {
+    let alloc = rt.alloc();
+    let scopes = scopes(alloc)?;
+    let locals = Locals::none(alloc)?;
+    for (shows, text, value, kept) in VALUES {
+        assert!(rt;
+            has_value(alloc, &scopes, &locals, false, text, value),
+            "{shows}"
+        );
+        assert!(rt;
+            has_value(alloc, &scopes, &locals, true, text, kept),
+            "kept: {shows}"
+        );
+    }
+    Ok(())
+}
+
+/// The fault that a row wants.
+#[derive(Clone, Copy)]
+enum Wanted {
+    Recursive(&'static [u8]),
+    TooDeep,
+    TooManyReferences,
+    TooLong,
+    Tree(AstFault),
+    Unbuilt,
+}
+
+fn is_wanted(fault: &ExpandFault, wanted: Wanted) -> bool {
+    match (fault, wanted) {
+        (ExpandFault::Recursive(name), Wanted::Recursive(other)) => name.bytes() == other,
+        (ExpandFault::TooDeep, Wanted::TooDeep) => true,
+        (ExpandFault::TooManyReferences, Wanted::TooManyReferences) => true,
+        (ExpandFault::TooLong, Wanted::TooLong) => true,
+        (ExpandFault::Tree(fault), Wanted::Tree(other)) => *fault == other,
+        (ExpandFault::Unbuilt, Wanted::Unbuilt) => true,
+        _ => false,
+    }
+}
+
+fn has_fault(alloc: Global, scopes: &Scopes, locals: &Locals, text: &[u8], wanted: Wanted) -> bool {
+    match value_of_text(alloc, scopes, locals, text, false) {
+        Ok(_) => false,
+        Err(fault) => is_wanted(&fault, wanted),
+    }
+}
+
+const FAULTS: [(&str, &[u8], Wanted); 9] = [
+    ("a variable of itself", b"${R}", Wanted::Recursive(b"R")),
+    ("a way back", b"$A$P", Wanted::Recursive(b"P")),
+    ("no closer", b"${A", Wanted::Tree(Unclosed(0))),
+    (
+        "a text is read as a whole",
+        b"$R${",
+        Wanted::Tree(Unclosed(2)),
+    ),
+    (
+        "a value without its closer",
+        b"$N",
+        Wanted::Tree(Unclosed(1)),
+    ),
+    (
+        "the first of two faults",
+        b"$N$R",
+        Wanted::Tree(Unclosed(1)),
+    ),
+    ("the other way round", b"$R$N", Wanted::Recursive(b"R")),
+    ("a modifier", b"$A${A::H}$R", Wanted::Unbuilt),
+    (
+        "a value comes before its modifiers",
+        b"${R:H}",
+        Wanted::Recursive(b"R"),
+    ),
+];
+
+#[test]
+fn texts_have_faults(rt: HostRuntime) -> Result<(), Fail> {
+    let alloc = rt.alloc();
+    let scopes = scopes(alloc)?;
+    let locals = Locals::none(alloc)?;
+    for (shows, text, wanted) in FAULTS {
+        assert!(rt; has_fault(alloc, &scopes, &locals, text, wanted), "{shows}");
+    }
+    Ok(())
+}
+
+fn texts(alloc: Global, words: &[&[u8]]) -> Result<Texts, NoMemory> {
+    let mut texts = Items::new(alloc, 0)?;
+    for word in words {
+        texts.push(Text::from_bytes(alloc, word)?)?;
+    }
+    Ok(texts)
+}
+
+fn locals(alloc: Global) -> Result<Locals, NoMemory> {
+    Ok(Locals {
+        target: Text::from_bytes(alloc, b"out/a$D.o")?,
+        all: texts(alloc, &[b"a.c", b"b.h"])?,
+        implied: Text::new(alloc),
+        prefix: Text::from_bytes(alloc, b"a")?,
+        oodate: texts(alloc, &[])?,
+        some: true,
+    })
+}
+
+const LOCAL_VALUES: [(&str, &[u8], &[u8]); 5] = [
+    ("a local name stands above a variable", b"$@", b"out/a$.o"),
+    ("the long form", b"${.TARGET}", b"out/a$.o"),
+    ("a list", b"$> ${.ALLSRC} ${.OODATE}.", b"a.c b.h a.c b.h ."),
+    ("texts", b"[$<] $* ${.IMPSRC}${.PREFIX}", b"[] a a"),
+    ("a longer name is a plain one", b"[${.TARGETD}]", b"[]"),
+];
+
+#[test]
+fn local_names_have_values(rt: HostRuntime) -> Result<(), Fail> {
+    let alloc = rt.alloc();
+    let scopes = scopes(alloc)?;
+    let locals = locals(alloc)?;
+    for (shows, text, value) in LOCAL_VALUES {
+        assert!(rt;
+            has_value(alloc, &scopes, &locals, false, text, value),
+            "{shows}"
+        );
+    }
+    assert!(rt; has_fault(alloc, &scopes, &locals, b"$@${@D}", Wanted::Unbuilt));
+    Ok(())
+}
+
+fn name_has_value(alloc: Global, scopes: &Scopes, name: &[u8], wanted: &[u8]) -> bool {
+    let (Ok(locals), Ok(tree)) = (Locals::none(alloc), name_tree(alloc, name)) else {
+        return false;
+    };
+    match expand(alloc, scopes, &locals, &tree, false) {
+        Ok(value) => value.bytes() == wanted,
+        Err(_) => false,
+    }
+}
+
+#[test]
+fn names_have_values(rt: HostRuntime) -> Result<(), Fail> {
+    let scopes = scopes(rt.alloc())?;
+    assert!(rt; name_has_value(rt.alloc(), &scopes, b"x$", b"name"));
+    Ok(())
+}
+
+// From `first` to `last` each variable is twice the next, and the last has this value.
+fn assign_doubles(scopes: &mut Scopes, first: u8, last: u8, value: &[u8]) -> Result<(), NoMemory> {
+    for byte in first..last {
+        scopes.assign(Class::Global, &[byte], &[b'$', byte + 1, b'$', byte + 1])?;
+    }
+    scopes.assign(Class::Global, &[last], value)
+}
+
+fn link(n: u8) -> [u8; 2] {
+    [b'a' + n / 16, b'a' + n % 16]
+}
+
+// The 256 variables `aa` to `pp`, of which each has the value of the next.
+fn assign_chain(scopes: &mut Scopes) -> Result<(), NoMemory> {
+    for n in 0..255 {
+        let [first, second] = link(n + 1);
+        scopes.assign(Class::Global, &link(n), &[b'$', b'{', first, second, b'}'])?;
+    }
+    scopes.assign(Class::Global, b"pp", b"x")
+}
+
+fn long_scopes(alloc: Global) -> Result<Scopes, NoMemory> {
+    let env = environment(alloc)?;
+    let mut scopes = Scopes::new(alloc, &env, false)?;
+    assign_doubles(&mut scopes, b'a', b't', b"")?;
+    assign_doubles(&mut scopes, b'A', b'M', &[b'x'; 1024])?;
+    assign_chain(&mut scopes)?;
+    scopes.assign(Class::Global, b"Z", b"${aa}")?;
+    Ok(scopes)
+}
+
+fn has_length(alloc: Global, scopes: &Scopes, locals: &Locals, text: &[u8], length: usize) -> bool {
+    match value_of_text(alloc, scopes, locals, text, false) {
+        Ok(value) => value.len() == length,
+        Err(_) => false,
+    }
+}
+
+const LENGTHS: [(&str, &[u8], usize); 3] = [
+    ("256 open references", b"${aa}", 1),
+    ("1048576 references", b"$a$U", 0),
+    ("4194304 bytes", b"$A", 4_194_304),
+];
+
+const EXCESSES: [(&str, &[u8], Wanted); 4] = [
+    ("257 open references", b"$Z", Wanted::TooDeep),
+    ("1048577 references", b"$a$U$U", Wanted::TooManyReferences),
+    ("one byte more", b"$A.", Wanted::TooLong),
+    ("a name of one byte more", b"${$A.}", Wanted::TooLong),
+];
+
+#[test]
+fn values_have_limits(rt: HostRuntime) -> Result<(), Fail> {
+    let alloc = rt.alloc();
+    let scopes = long_scopes(alloc)?;
+    let locals = Locals::none(alloc)?;
+    for (shows, text, length) in LENGTHS {
+        assert!(rt;
+            has_length(alloc, &scopes, &locals, text, length),
+            "{shows}"
+        );
+    }
+    for (shows, text, wanted) in EXCESSES {
+        assert!(rt; has_fault(alloc, &scopes, &locals, text, wanted), "{shows}");
+    }
+    Ok(())
+}
