@@ -10,6 +10,12 @@ newline = 10
 abbrev pub space : ℕ
 space = 32
 
+abbrev pub exclamation : ℕ
+exclamation = 33
+
+abbrev pub quote_mark : ℕ
+quote_mark = 34
+
 abbrev pub hash : ℕ
 hash = 35
 
@@ -43,8 +49,14 @@ slash = 47
 abbrev pub colon : ℕ
 colon = 58
 
+abbrev pub less_than : ℕ
+less_than = 60
+
 abbrev pub equals_sign : ℕ
 equals_sign = 61
+
+abbrev pub greater_than : ℕ
+greater_than = 62
 
 abbrev pub question_mark : ℕ
 question_mark = 63
@@ -69,6 +81,9 @@ underscore = 95
 
 abbrev pub curly_open : ℕ
 curly_open = 123
+
+abbrev pub bar : ℕ
+bar = 124
 
 abbrev pub curly_close : ℕ
 curly_close = 125

@@ -78,6 +78,20 @@ impl Text {
         Ok(())
     }
 
+    /// Appends bytes behind others, or neither of them.
+    pub fn push_both(&mut self, first: &[u8], second: &[u8]) -> Result<(), NoMemory>
+        ensures ok { OnOk result (self.new ≡ self.old ++ (first.now ++ second.now)) }
+        ensures err { OnErr result (self.new ≡ self.old) }
+    {
+        let before = self.bytes.len();
+        self.push(first)?;
+        if self.push(second).is_err() {
+            self.bytes.truncate(before);
+            return Err(NoMemory);
+        }
+        Ok(())
+    }
+
     /// A text of the same bytes.
     pub fn copy(&self, alloc: Global) -> Result<Text, NoMemory>
         ensures { IfOk result (λ text. text ≡ self.now) }
