@@ -1,3 +1,4 @@
+pub mod PieceLemmas
 pub mod ReadAgain
 pub mod ReadParts
 mod ReadRows

@@ -27,7 +27,7 @@ use Rattle.mk_ast.proofs.ReadParts.{suffix-reads, text-reads, ref-reads}
 mutual
   unfolding FitsTree spell mods_at
 
-  tree-reads : (total depth : ℕ) (place : Place) (tree : Tree) (more : List ℕ) (turns : ℕ)
+  pub tree-reads : (total depth : ℕ) (place : Place) (tree : Tree) (more : List ℕ) (turns : ℕ)
       → FitsTree depth place tree more
       → length (spell tree ++ more) ≤ turns
       → text_at (ref_at total depth) place turns (spell tree ++ more) ≡ Ok (tree, more)
@@ -87,7 +87,7 @@ mutual
       (opener-reads refs place round bytes fits.1 ∙ inside) in
       rw same (fits.0, shorter, reads)
 
-  mods-read : (total depth opened : ℕ) (round : Bool) (mods : Mods) (more : List ℕ) (turns : ℕ)
+  pub mods-read : (total depth opened : ℕ) (round : Bool) (mods : Mods) (more : List ℕ) (turns : ℕ)
       → FitsMods depth round mods (closer round ∷ more)
       → length (spell_mods mods ++ closer round ∷ more) ≤ turns
       → mods_at (ref_at total depth) total opened round turns

@@ -54,14 +54,14 @@ mods_at-spelled depth refs good total opened round (suc turns) (byte ∷ bytes) 
     (λ other. (ap (λ d. d ∷ bytes) (end-closer round byte bytes ends other), omega arith, tt))
 
 -- a name with its modifiers, and the closer
-abbrev NamedOf : ℕ → Bool → List ℕ → Tree × Mods → List ℕ → Type 0
+abbrev pub NamedOf : ℕ → Bool → List ℕ → Tree × Mods → List ℕ → Type 0
 NamedOf depth round bytes named rest =
     (bytes ≡ spell named.0 ++ (spell_mods named.1 ++ closer round ∷ rest))
     × (length rest ≤ length bytes)
     × FitsTree depth (Name round 0) named.0 (spell_mods named.1 ++ closer round ∷ rest)
     × FitsMods depth round named.1 (closer round ∷ rest)
 
-named_at-spelled : (depth : ℕ) (refs : Refs) → RefsSpell depth refs
+pub named_at-spelled : (depth : ℕ) (refs : Refs) → RefsSpell depth refs
     → (total opened : ℕ) (round : Bool) (bytes : List ℕ)
     → OnRead (NamedOf depth round bytes) (named_at refs total opened round bytes)
 named_at-spelled depth refs good total opened round bytes =
@@ -78,7 +78,7 @@ named_at-spelled depth refs good total opened round bytes =
       g.2,
     )))
 
-ref_at-spelled : (total depth : ℕ) → RefsSpell depth (ref_at total depth)
+pub ref_at-spelled : (total depth : ℕ) → RefsSpell depth (ref_at total depth)
 unfolding ref_at spell FitsTree
 ref_at-spelled total zero place round bytes goes other = tt
 ref_at-spelled total (suc depth) place round bytes goes other =

@@ -1,4 +1,5 @@
 pub mod Modifiers
+pub mod Pieces
 pub mod Places
 pub mod References
 pub mod Rows

@@ -1,17 +1,35 @@
 -- Where a text ends, and which backslashes in it are escapes, by the place where it stands.
 use Rattle.std.specs.Prelude.{ℕ, ◌+◌, ◌-◌, ◌==◌, ◌||◌, ◌&&◌, Bool, true, false, if◌then◌else◌, List}
 use Rattle.std.specs.Prelude.{[], ◌∷◌}
-use Rattle.mk_bytes.specs.Bytes.{dollar, ampersand, colon, equals_sign, at_sign, square_close}
-use Rattle.mk_bytes.specs.Bytes.{backslash, caret}
+use Rattle.mk_bytes.specs.Bytes.{is_blank, exclamation, quote_mark, dollar, ampersand, round_close}
+use Rattle.mk_bytes.specs.Bytes.{colon, less_than, equals_sign, greater_than, at_sign, square_close}
+use Rattle.mk_bytes.specs.Bytes.{backslash, caret, bar}
 use Rattle.mk_ast.specs.Spell.{opener, closer}
 use Rattle.mk_ast.specs.declared.place.Place.{Place}
 use Rattle.mk_ast.specs.declared.place.Place.TheVariants.{Whole, Name, Pattern, From, To, Select}
 use Rattle.mk_ast.specs.declared.place.Place.TheVariants.{Count, Value, IfTrue, IfFalse, Body, Old}
-use Rattle.mk_ast.specs.declared.place.Place.TheVariants.{New}
+use Rattle.mk_ast.specs.declared.place.Place.TheVariants.{New, Piece as InCondition}
+use Rattle.mk_ast.specs.declared.place.Piece.{Piece}
+use Rattle.mk_ast.specs.declared.place.Piece.TheVariants.{Word, Quoted, Argument}
 
 -- the bytes that end a modifier
 abbrev pub ends_modifier : Bool → ℕ → Bool
 ends_modifier round byte = byte == colon || byte == closer round
+
+-- In a condition a word ends at blanks and at the signs of conditions, a quoted text at its quote,
+-- and an argument of a function at the parenthesis.
+abbrev pub ends_piece : Piece → ℕ → Bool
+ends_piece Word byte =
+    is_blank byte || byte == round_close || byte == ampersand || byte == bar || byte == equals_sign
+    || byte == exclamation || byte == less_than || byte == greater_than
+ends_piece Quoted byte = byte == quote_mark
+ends_piece Argument byte = byte == round_close
+
+-- in a quoted text a backslash escapes every byte
+abbrev pub escapes_in_piece : Piece → Bool
+escapes_in_piece Word = false
+escapes_in_piece Quoted = true
+escapes_in_piece Argument = false
 
 -- A name ends at a `:` or closer that is not nested, an argument at the end of its row.
 abbrev pub ends : Place → ℕ → Bool
@@ -28,6 +46,7 @@ ends (IfFalse round) byte = byte == closer round
 ends Body byte = byte == at_sign
 ends (Old round) byte = byte == equals_sign || byte == closer round
 ends (New round) byte = byte == closer round
+ends (InCondition piece) byte = ends_piece piece byte
 
 -- whether nothing of the text at this place is left
 abbrev pub is_over : Place → List ℕ → Bool
@@ -59,6 +78,7 @@ escapes (IfFalse round) byte = in_value round byte
 escapes Body byte = false
 escapes (Old round) byte = in_value round byte || byte == equals_sign
 escapes (New round) byte = in_value round byte || byte == equals_sign
+escapes (InCondition piece) byte = escapes_in_piece piece
 
 -- whether a byte before these is the backslash of an escape
 abbrev pub is_escape : Place → ℕ → List ℕ → Bool

@@ -1,14 +1,16 @@
 -- Reading references, and with them a whole text.
-use Rattle.std.specs.Prelude.{ℕ, zero, suc, ◌+◌, ◌-◌, ◌==◌, Bool, if◌then◌else◌, List, [], ◌∷◌}
+use Rattle.std.specs.Prelude.{ℕ, zero, suc, ◌+◌, ◌-◌, ◌==◌, Bool, true, if◌then◌else◌, List, []}
+use Rattle.std.specs.Prelude.{◌∷◌}
 use Rattle.std.specs.Prelude.{length, drop, Result, Ok, Err}
 use Rattle.mk_bytes.specs.Agrees.{◌>>=◌}
 use Rattle.mk_bytes.specs.Bytes.{colon}
-use Rattle.mk_ast.specs.Tree.{Tree, Part, Mods, ref, no_mods, mod_then}
+use Rattle.mk_ast.specs.Tree.{Tree, Part, Mods, end, part, ref, no_mods, mod_then}
 use Rattle.mk_ast.specs.Text.{Read, Refs, text_in, dollar_at}
 use Rattle.mk_ast.specs.Modifiers.{modifier_at}
 use Rattle.mk_ast.specs.declared.fault.AstFault.{AstFault}
 use Rattle.mk_ast.specs.declared.fault.AstFault.TheVariants.{Unclosed, TooDeep}
-use Rattle.mk_ast.specs.declared.place.Place.TheVariants.{Whole, Name}
+use Rattle.mk_ast.specs.declared.place.Place.TheVariants.{Whole, Name, Piece as InCondition}
+use Rattle.mk_ast.specs.declared.place.Piece.{Piece}
 
 -- The modifiers up to the closer, which is passed. The number bounds them; the length of the bytes
 -- is always enough.
@@ -60,3 +62,14 @@ form_at total bytes = dollar_at (ref_at total max_open) Whole bytes
 abbrev pub end_of_form : List ℕ → ℕ → Result ℕ AstFault
 end_of_form text at = form_at (length text) (drop (at + 1) text)
     >>= λ p. Ok (length text - length p.1)
+
+-- A piece of a condition that is `total` bytes long. It ends before the byte that ends it, and
+-- begins with no open reference.
+abbrev pub piece_at : ℕ → Piece → List ℕ → Read Tree
+piece_at total piece bytes = text_in (ref_at total max_open) (InCondition piece) bytes
+
+-- A reference without its `$` and opener, up to its parenthesis, which is passed, in a text that is
+-- `total` bytes long. As it has no `$`, a missing parenthesis is told by the end of the text.
+abbrev pub bare_reference_at : ℕ → List ℕ → Read Tree
+bare_reference_at total bytes = named_at (ref_at total (max_open - 1)) total total true bytes
+    >>= λ n. Ok (part (ref true n.0.0 n.0.1) end, n.1)

@@ -9,6 +9,7 @@
 mod fault;
 mod literal;
 mod modifier;
+mod piece;
 mod place;
 mod read;
 mod row;
@@ -19,6 +20,8 @@ mod tree;
 mod whole;
 
 pub use fault::AstFault;
+pub use piece::{bare_reference_at, piece_at};
+pub use place::Piece;
 pub use spelling::{print, print_part};
 pub use tree::{ModTree, ModTrees, Part, Tree};
 pub use whole::{parse, reference_end};

@@ -3,6 +3,21 @@
 ghost use Rattle.std.specs.Prelude.{◌≡◌, ◌+◌, ◌^◌, ◌<◌, ◌≤◌, true, false, length};
 ghost use Rattle.mk_ast.specs.Spell as spell;
 ghost use Rattle.mk_ast.specs.Places as spec;
+ghost use Rattle.mk_ast.specs.declared.place.Piece.TheVariants as piece;
+
+/// The texts that a condition is made of.
+#[derive(Clone, Copy)]
+pub enum Piece {
+    /// An unquoted word, up to a blank or a sign of conditions: one of `)`, `&`, `|`, `=`, `!`, `<`
+    /// and `>`.
+    Word,
+
+    /// A quoted text, behind its first quote. A backslash escapes the next byte.
+    Quoted,
+
+    /// The argument of a function, up to its closing parenthesis.
+    Argument,
+}
 
 /// The places that a text can stand in.
 #[derive(Clone, Copy)]
@@ -45,6 +60,9 @@ pub enum Place {
 
     /// What stands after the `=` of `:old=new`.
     New { round: bool },
+
+    /// In a condition.
+    Piece(Piece),
 }
 
 /// What begins a reference after its `$`.
@@ -68,6 +86,31 @@ pub fn ends_modifier(round: bool, byte: u8) -> bool
     byte == b':' || byte == closer(round)
 }
 
+// Whether a byte ends a word of a condition.
+fn ends_word(byte: u8) -> bool
+    ensures { result ≡ spec.ends_piece piece.Word byte }
+{
+    byte == b' '
+        || byte == b'\t'
+        || byte == b')'
+        || byte == b'&'
+        || byte == b'|'
+        || byte == b'='
+        || byte == b'!'
+        || byte == b'<'
+        || byte == b'>'
+}
+
+fn ends_piece(piece: Piece, byte: u8) -> bool
+    ensures { result ≡ spec.ends_piece piece byte }
+{
+    match piece {
+        Piece::Word => ends_word(byte),
+        Piece::Quoted => byte == b'"',
+        Piece::Argument => byte == b')',
+    }
+}
+
 fn ends(place: Place, byte: u8) -> bool
     ensures { result ≡ spec.ends place byte }
 {
@@ -85,6 +128,7 @@ fn ends(place: Place, byte: u8) -> bool
         Place::Body => byte == b'@',
         Place::Old { round } => byte == b'=' || byte == closer(round),
         Place::New { round } => byte == closer(round),
+        Place::Piece(piece) => ends_piece(piece, byte),
     }
 }
 
@@ -123,6 +167,7 @@ fn escapes(place: Place, byte: u8) -> bool
         Place::IfFalse { round } => in_value(round, byte),
         Place::Old { round } => in_value(round, byte) || byte == b'=',
         Place::New { round } => in_value(round, byte) || byte == b'=',
+        Place::Piece(piece) => matches!(piece, Piece::Quoted),
         Place::Whole
         | Place::Name {
             round: _,

@@ -136,9 +136,9 @@ fn ref_at<'t>(
     Ok((Part::Ref { round, name, mods }, rest))
 }
 
-// The modifiers of the reference at `opened`, up to its closer, which is passed.
+/// The modifiers of the reference at `opened`, up to its closer, which is passed.
 #[cycle(read)]
-fn mods_at<'t>(
+pub fn mods_at<'t>(
     alloc: Global,
     level: Level,
     opened: usize,

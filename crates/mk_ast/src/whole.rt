@@ -16,7 +16,7 @@ use crate::tree::Tree;
 use std::alloc::Global;
 
 /// How many references may be open at once.
-const MAX_OPEN: usize = 256;
+pub const MAX_OPEN: usize = 256;
 
 /// The tree of a text, or the first fault that a reading forwards meets, with its place. In the
 /// tree neighbouring plain bytes are one part, and no plain part is empty.
