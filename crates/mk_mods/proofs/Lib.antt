@@ -1,0 +1,9 @@
+pub mod ChainLemmas
+pub mod NumberLemmas
+pub mod OrderLemmas
+pub mod PieceLemmas
+pub mod ReplaceLemmas
+mod Rows
+pub mod SearchLemmas
+pub mod TextLemmas
+pub mod WordLemmas

@@ -1,0 +1,225 @@
+-- Places that a search finds.
+use Rattle.std.proofs.Common.{◌≡◌, ℕ, zero, suc, ◌+◌, ◌<◌, ◌≤◌, Bool, true, false, cond, List, [], ◌∷◌, Option, Some, None, option_map, length, take, drop, get_or, refl, sym, ap, subst, ◌∙◌, inl, inr, ⊎_elim, ◌⊎◌, arith}
+use Rattle.std.proofs.lemmas.Bool.{true≢false, cases_order}
+use Rattle.std.proofs.lemmas.Grind.{common_steps}
+use Rattle.std.proofs.lemmas.Slice.Eq.{bytes_eq-Decides}
+use Rattle.std.specs.List.{starts_with}
+use Rattle.std.specs.Prelude.{nat_eq}
+use Rattle.std.specs.Str.{bytes_eq}
+use Rattle.memchr.specs.Find.{IsLastByte, FindsNeedle, OccursAt}
+use Rattle.memchr.proofs.lemmas.MatchLemmas.{OccursAt-part, OccursAt-from_part}
+use Rattle.mk_mods.specs.Parts.{last_place, found_after}
+use Rattle.mk_mods.specs.Substitution.{first_place}
+
+-- a later byte that passes a test is the last one
+found_none : (later here : Option ℕ) → found_after later here ≡ None → (later ≡ None) × (here ≡ None)
+found_none None here is = (refl, is)
+found_none (Some at) here is = cc
+
+here_none : (test : Bool) → cond test (Some zero) None ≡ None → test ≡ false
+here_none true is = cc
+here_none false is = refl
+
+none_passes : (test : ℕ → Bool) (bytes : List ℕ) → last_place test bytes ≡ None
+    → (k : ℕ) → k < length bytes → test (get_or bytes k 0) ≡ false
+none_passes test [] is k within = absurd (omega arith)
+none_passes test (byte ∷ bytes) is zero within =
+    here_none (test byte) (found_none (last_place test bytes) _ is).1
+none_passes test (byte ∷ bytes) is (suc k) within =
+    none_passes test bytes (found_none (last_place test bytes) _ is).0 k (omega (arith, within))
+
+-- the byte at a place passes a test, and none behind it does
+record IsLastPlace (test : ℕ → Bool) (bytes : List ℕ) (at : ℕ) : Type 0 where
+  within : at < length bytes
+  passes : test (get_or bytes at 0) ≡ true
+  after : (k : ℕ) → at < k → k < length bytes → test (get_or bytes k 0) ≡ false
+
+passes_here : (test : Bool) (at : ℕ) → cond test (Some zero) None ≡ Some at
+    → (test ≡ true) × (zero ≡ at)
+passes_here true at is = (refl, cc)
+passes_here false at is = cc
+
+after_here : (test : ℕ → Bool) (byte : ℕ) (bytes : List ℕ) → last_place test bytes ≡ None
+    → (k : ℕ) → zero < k → k < length (byte ∷ bytes) → test (get_or (byte ∷ bytes) k 0) ≡ false
+after_here test byte bytes none zero some within = absurd (omega (arith, some))
+after_here test byte bytes none (suc k) some within =
+    none_passes test bytes none k (omega (arith, within))
+
+after_there : (test : ℕ → Bool) (byte : ℕ) (bytes : List ℕ) (at : ℕ) → IsLastPlace test bytes at
+    → (k : ℕ) → suc at < k → k < length (byte ∷ bytes) → test (get_or (byte ∷ bytes) k 0) ≡ false
+after_there test byte bytes at last zero later within = absurd (omega (arith, later))
+after_there test byte bytes at last (suc k) later within =
+    last.after k (omega (arith, later)) (omega (arith, within))
+
+found_some : (later : Option ℕ) (test : Bool) (at : ℕ)
+    → found_after later (cond test (Some zero) None) ≡ Some at
+    → ((later ≡ None) × (test ≡ true) × (zero ≡ at))
+    ⊎ ((there : ℕ) × (later ≡ Some there) × (suc there ≡ at))
+found_some None true at is = inl (refl, refl, cc)
+found_some None false at is = cc
+found_some (Some there) test at is = inr (there, refl, cc)
+
+last_is : (test : ℕ → Bool) (bytes : List ℕ) (at : ℕ) → last_place test bytes ≡ Some at
+    → IsLastPlace test bytes at
+last_is test [] at is = cc
+last_is test (byte ∷ bytes) at is =
+    ⊎_elim
+    (λ here. subst (IsLastPlace test (byte ∷ bytes)) here.2 (record {
+      within = omega arith;
+      passes = here.1;
+      after = after_here test byte bytes here.0;
+    }))
+    (λ later.
+    let last = last_is test bytes later.0 later.1 in
+    subst (IsLastPlace test (byte ∷ bytes)) later.2 (record {
+      within = omega (arith, last.within);
+      passes = last.passes;
+      after = after_there test byte bytes later.0 last;
+    }))
+    (found_some (last_place test bytes) (test byte) at is)
+
+last_found : (test : ℕ → Bool) (bytes : List ℕ) (found : Option ℕ) → last_place test bytes ≡ found
+    → (answer : Option ℕ) → IsLastByte test bytes answer → answer ≡ found
+last_found test bytes None none None nowhere = refl
+last_found test bytes None none (Some k) last =
+    absurd (true≢false (sym last.1 ∙ none_passes test bytes none k last.0.high))
+last_found test bytes (Some at) some None nowhere =
+    let found = last_is test bytes at some in
+    absurd (nowhere at (omega arith) found.within found.passes)
+last_found test bytes (Some at) some (Some k) last =
+    let found = last_is test bytes at some in
+    ⊎_elim (λ same. ap Some same)
+    (λ apart. ⊎_elim
+    (λ before. absurd (last.0.after at (omega (arith, before)) found.within found.passes))
+    (λ behind. absurd (true≢false (sym last.1 ∙ found.after k behind last.0.high)))
+    apart)
+    (cases_order k at)
+
+-- a search from the end finds the last place
+pub last_place-is : (test : ℕ → Bool) (bytes : List ℕ) (answer : Option ℕ)
+    → IsLastByte test bytes answer → answer ≡ last_place test bytes
+last_place-is test bytes answer last =
+    last_found test bytes (last_place test bytes) refl answer last
+
+pub last_place-within : (test : ℕ → Bool) (bytes : List ℕ) (at : ℕ)
+    → last_place test bytes ≡ Some at → at < length bytes
+last_place-within test bytes at is = (last_is test bytes at is).within
+
+from_occurs : (word text : List ℕ) (at : ℕ) → OccursAt word text at
+    → starts_with nat_eq (drop at word) text ≡ true
+from_occurs word text at occurs =
+    (bytes_eq-Decides text (take (length text) (drop at word))).1
+    (sym (OccursAt-part word text at occurs))
+
+to_occurs : (word text : List ℕ) (at : ℕ) → at ≤ length word
+    → starts_with nat_eq (drop at word) text ≡ true → OccursAt word text at
+to_occurs word text at within stands =
+    let same = (bytes_eq-Decides text (take (length text) (drop at word))).0 stands in
+    let len : length text ≡ length (take (length text) (drop at word)) = ap length same in
+    OccursAt-from_part word text at (grind (arith, common_steps, len)) (sym same)
+
+mapped_none : (found : Option ℕ) → option_map suc found ≡ None → found ≡ None
+mapped_none None is = refl
+mapped_none (Some at) is = cc
+
+cond_none : {A : Type 0} (test : Bool) (there : A) (later : Option A)
+    → cond test (Some there) later ≡ None
+    → (test ≡ false) × (later ≡ None)
+cond_none true there later is = cc
+cond_none false there later is = (refl, is)
+
+nothing_there : (text : List ℕ) → bytes_eq text [] ≡ false → starts_with nat_eq [] text ≡ false
+nothing_there [] is = is
+nothing_there (byte ∷ bytes) is = refl
+
+something_there : (text : List ℕ) → bytes_eq text [] ≡ true → starts_with nat_eq [] text ≡ true
+something_there [] is = is
+something_there (byte ∷ bytes) is = is
+
+nowhere_before : (text word : List ℕ) → first_place text word ≡ None → (k : ℕ) → k ≤ length word
+    → starts_with nat_eq (drop k word) text ≡ false
+nowhere_before text [] is zero within = nothing_there text (cond_none _ _ _ is).0
+nowhere_before text [] is (suc k) within = absurd (omega (arith, within))
+nowhere_before text (byte ∷ bytes) is zero within = (cond_none _ _ _ is).0
+nowhere_before text (byte ∷ bytes) is (suc k) within =
+    nowhere_before text bytes (mapped_none _ (cond_none _ _ _ is).1) k (omega (arith, within))
+
+record IsFirstPlace (text word : List ℕ) (at : ℕ) : Type 0 where
+  within : at ≤ length word
+  stands : starts_with nat_eq (drop at word) text ≡ true
+  before : (k : ℕ) → k < at → starts_with nat_eq (drop k word) text ≡ false
+
+cond_some : (test : Bool) (later : Option ℕ) (at : ℕ)
+    → cond test (Some zero) (option_map suc later) ≡ Some at
+    → ((test ≡ true) × (zero ≡ at))
+    ⊎ ((test ≡ false) × (there : ℕ) × (later ≡ Some there) × (suc there ≡ at))
+cond_some true later at is = inl (refl, cc)
+cond_some false None at is = cc
+cond_some false (Some there) at is = inr (refl, there, refl, cc)
+
+before_zero : (text word : List ℕ) (k : ℕ) → k < zero → starts_with nat_eq (drop k word) text ≡ false
+before_zero text word k below = absurd (omega (arith, below))
+
+before_suc : (text : List ℕ) (byte : ℕ) (bytes : List ℕ) (at : ℕ)
+    → starts_with nat_eq (byte ∷ bytes) text ≡ false
+    → ((k : ℕ) → k < at → starts_with nat_eq (drop k bytes) text ≡ false)
+    → (k : ℕ) → k < suc at → starts_with nat_eq (drop k (byte ∷ bytes)) text ≡ false
+before_suc text byte bytes at here there zero below = here
+before_suc text byte bytes at here there (suc k) below = there k (omega (arith, below))
+
+first_is : (text word : List ℕ) (at : ℕ) → first_place text word ≡ Some at → IsFirstPlace text word at
+first_is text [] at is =
+    let here = passes_here (bytes_eq text []) at is in
+    subst (IsFirstPlace text []) here.1 (record {
+      within = omega arith;
+      stands = something_there text here.0;
+      before = before_zero text [];
+    })
+first_is text (byte ∷ bytes) at is =
+    ⊎_elim
+    (λ here. subst (IsFirstPlace text (byte ∷ bytes)) here.1 (record {
+      within = omega arith;
+      stands = here.0;
+      before = before_zero text (byte ∷ bytes);
+    }))
+    (λ later.
+    let first = first_is text bytes later.1 later.2 in
+    subst (IsFirstPlace text (byte ∷ bytes)) later.3 (record {
+      within = omega (arith, first.within);
+      stands = first.stands;
+      before = before_suc text byte bytes later.1 later.0 first.before;
+    }))
+    (cond_some (starts_with nat_eq (byte ∷ bytes) text) (first_place text bytes) at is)
+
+first_found : (text word : List ℕ) (found : Option ℕ) → first_place text word ≡ found
+    → (answer : Option ℕ) → FindsNeedle word text 0 answer → answer ≡ found
+first_found text word None none None nowhere = refl
+first_found text word None none (Some k) first =
+    let stands = from_occurs word text k first.1 in
+    absurd (true≢false (sym stands ∙ nowhere_before text word none k (omega (arith, first.0.high))))
+first_found text word (Some at) some None nowhere =
+    let found = first_is text word at some in
+    absurd (nowhere at (omega arith) (omega (arith, found.within))
+    (to_occurs word text at found.within found.stands))
+first_found text word (Some at) some (Some k) first =
+    let found = first_is text word at some in
+    ⊎_elim (λ same. ap Some same)
+    (λ apart. ⊎_elim
+    (λ before. absurd (true≢false (sym (from_occurs word text k first.1) ∙ found.before k before)))
+    (λ behind. absurd (first.0.before at (omega arith) behind
+    (to_occurs word text at found.within found.stands)))
+    apart)
+    (cases_order k at)
+
+-- a search from the beginning finds the first place
+pub first_place-is : (text word : List ℕ) (answer : Option ℕ) → FindsNeedle word text 0 answer
+    → answer ≡ first_place text word
+first_place-is text word answer first =
+    first_found text word (first_place text word) refl answer first
+
+-- the text that is found lies in the word
+pub first_place-fits : (text word : List ℕ) (at : ℕ) → first_place text word ≡ Some at
+    → at + length text ≤ length word
+first_place-fits text word at is =
+    let found = first_is text word at is in
+    (to_occurs word text at found.within found.stands).fits

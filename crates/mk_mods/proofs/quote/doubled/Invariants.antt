@@ -1,0 +1,7 @@
+use Rattle.std.proofs.Common.{◌≡◌, ◌++◌, drop}
+use Rattle.mk_mods.specs.Quotes.{doubled}
+use Rattle.mk_mods.proofs.quote.doubled.Given as goal
+
+-- the bytes so far, and those of the text that is left
+abbrev pub invariant-loop-byte : goal.invariant-loop-byte
+invariant-loop-byte l = l.out ++ doubled (drop l.byte-index l.text) ≡ doubled l.text

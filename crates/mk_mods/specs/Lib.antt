@@ -1,0 +1,10 @@
+pub mod Change
+pub mod Limits
+pub mod Modifiers
+pub mod Order
+pub mod Parts
+pub mod Pieces
+pub mod Places
+pub mod Quotes
+pub mod State
+pub mod Substitution

@@ -1,0 +1,24 @@
+//! The modifiers of words in references to variables (make(1), "VARIABLE ASSIGNMENTS").
+//!
+//! A chain of modifiers works on a [`Val`]: items, what stands between them in the printed text,
+//! and whether that text is one word. Its items are pieces of a region, so that modifiers which
+//! choose, cut or order words place no bytes. Contracts see it as a state of plain texts
+//! (`specs/State.antt`), on which each modifier is a function (`specs/Modifiers.antt`).
+#![tactic(auto)]
+
+mod chain;
+mod choice;
+mod fault;
+mod modifier;
+mod order;
+mod part;
+mod piece;
+mod places;
+mod quote;
+mod replace;
+mod val;
+
+pub use chain::apply;
+pub use fault::ModFault;
+pub use modifier::Mod;
+pub use val::{Separator, Val, text, with_items, words_of};
