@@ -1,5 +1,5 @@
 //! The running children, as make holds them.
-ghost use Rattle.std.specs.Prelude.{◌≡◌, ◌<◌, [], ◌∷◌, ◌++◌, length, slice_index, remove, false, nat_eq, ◌↔◌, IsTrue, IfOk};
+ghost use Rattle.std.specs.Prelude.{◌≡◌, ◌<◌, [], ◌∷◌, ◌++◌, length, slice_index, slice_get, Some, remove, false, nat_eq, ◌↔◌, IsTrue, IfOk};
 ghost use Rattle.std.specs.List.{list_any};
 
 use crate::time::Ticket;
@@ -8,7 +8,8 @@ use std::alloc::Global;
 use std::marker::Model;
 
 /// The children that were started and not taken in. It must be spent: `finish` is its only end, and
-/// asks that no child is left. Contracts see their tickets in the order of start, and the room.
+/// asks that no child is left. Contracts see the tickets and the children in the order of start, and
+/// the room.
 pub struct Kids<K> {
     tickets: Vec<u32>,
     kids: Vec<K>,
@@ -19,9 +20,9 @@ impl<K> Model for Kids<K> {
     ghost use Rattle.std.specs.Prelude.{◌≡◌, ◌≤◌, vec_len, vec_capacity};
     ghost use Rattle.mk_world.specs.Held.{Held};
 
-    ghost Value = { Held };
+    ghost Value = { Held K };
 
-    ghost view = { λ kids. record { tickets = kids.tickets.items; room = kids.room } };
+    ghost view = { λ kids. record { tickets = kids.tickets.items; kids = kids.kids.items; room = kids.room } };
 
     ghost invariant = { λ kids. (vec_len kids.kids ≡ vec_len kids.tickets) × (kids.room ≤ vec_capacity kids.kids) × (kids.room ≤ vec_capacity kids.tickets) };
 }
@@ -32,7 +33,7 @@ impl<K> Kids<K> {
 
     /// No children, with room for so many.
     pub fn new(alloc: Global, room: usize) -> Result<Self, NoMemory>
-        ensures { IfOk result (λ kids. kids ≡ record { tickets = []; room = room }) }
+        ensures { IfOk result (λ kids. kids ≡ record { tickets = []; kids = []; room = room }) }
     {
         let tickets = Vec::with_capacity(alloc, room)?;
         match Vec::with_capacity(alloc, room) {
@@ -79,16 +80,18 @@ impl<K> Kids<K> {
         requires room { length self.old.tickets < self.old.room }
         requires fresh { list_any (nat_eq ticket.0) self.old.tickets ≡ false }
         ensures tickets { self.new.tickets ≡ self.old.tickets ++ ticket.0 ∷ [] }
+        ensures kids { self.new.kids ≡ self.old.kids ++ kid ∷ [] }
         ensures room { self.new.room ≡ self.old.room }
     {
         self.tickets.push(ticket.0).unwrap();
         self.kids.push(kid).unwrap();
     }
 
-    /// The child at a place, to be changed.
+    /// The child at a place, to be changed. The others, the tickets and the room stay.
     pub fn kid(&mut self, i: usize) -> &mut K
         requires { i < length self.old.tickets }
-        ensures* { sem 𝓛 (LendsKid K.row self.entry result) }
+        ensures* writes_back { sem 𝓛 (LendsKid K.row self.entry i result) }
+        ensures value { Some result.now ≡ slice_get self.old.kids i }
     {
         &mut self.kids[i]
     }
@@ -97,7 +100,9 @@ impl<K> Kids<K> {
     pub fn take(&mut self, i: usize) -> (Ticket, K)
         requires { i < length self.old.tickets }
         ensures ticket { result.0.0 ≡ slice_index self.old.tickets i }
+        ensures kid { Some result.1 ≡ slice_get self.old.kids i }
         ensures tickets { self.new.tickets ≡ remove self.old.tickets i }
+        ensures kids { self.new.kids ≡ remove self.old.kids i }
         ensures room { self.new.room ≡ self.old.room }
     {
         let ticket = Ticket(self.tickets.remove(i));
