@@ -70,11 +70,10 @@ impl Table {
         ensures ok { OnOk result (self.new ≡ spec.appended_at self.old place value.now) }
         ensures err { OnErr result (self.new ≡ self.old) }
     {
-        let spaced = joined(self.alloc, b"", value)?;
-        match self.values.get_index_mut(place) {
-            Some(text) => text.push(spaced.bytes()),
-            None => Ok(()),
-        }
+        let Some(text) = self.values.get_index_mut(place) else {
+            return Ok(());
+        };
+        text.push_both(b" ", value)
     }
 
     // Appends to a name without a value.
