@@ -1,0 +1,10 @@
+mod ConditionRows
+pub mod Given
+pub mod ReadAgain
+pub mod ReadConditions
+mod Refused
+pub mod Turns
+pub mod Views
+pub mod Words
+pub mod Written
+pub mod WrittenConditions
