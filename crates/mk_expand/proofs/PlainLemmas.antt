@@ -18,11 +18,12 @@ use Rattle.mk_scopes.specs.Scopes.{Variables}
 use Rattle.mk_expand.specs.Limits.{max_open, appended}
 use Rattle.mk_expand.specs.Names.{Context, context}
 use Rattle.mk_expand.specs.Texts.{has_dollar, with_fault, parsed}
-use Rattle.mk_expand.specs.Value.{Counted, Evaluator, text_value, joined, value_at, inside}
+use Rattle.mk_expand.specs.Evaluators.{Counted, Evaluator}
+use Rattle.mk_expand.specs.Value.{text_value, joined, value_at, inside}
 use Rattle.mk_expand.specs.Value.{value_of_text}
 use Rattle.mk_expand.specs.declared.fault.ExpandFault.{ExpandFault}
 use Rattle.mk_expand.specs.declared.local.Locals.{Locals}
-use Rattle.mk_expand.proofs.ValueLemmas.{value_at-joined}
+use Rattle.mk_expand.proofs.ValueLemmas.{value_at_joined}
 
 -- what is found, with a number of references
 abbrev pub counted : {A : Type 0} → ℕ → Result A ExpandFault → Counted A
@@ -78,10 +79,10 @@ pub text_value-plain : (room : ℕ) (c : Context) (count : ℕ) (text : List ℕ
     → has_dollar text ≡ false
     → text_value (value_at room) c count text ≡ counted count (appended [] text)
 unfolding joined text_at
-text_value-plain room c count [] none = value_at-joined room c count end
+text_value-plain room c count [] none = value_at_joined room c count end
 text_value-plain room c count (byte ∷ bytes) none =
     let tree = part (plain (byte ∷ bytes)) end in
-    rw (parsed-plain byte bytes none, value_at-joined room c count tree)
+    rw (parsed-plain byte bytes none, value_at_joined room c count tree)
     (joined-plain (inside room) c count (byte ∷ bytes))
 
 counted-count : (count : ℕ) (found : Result (List ℕ) ExpandFault)
@@ -90,9 +91,9 @@ counted-count count (Ok text) = refl
 counted-count count (Err fault) = refl
 
 -- the whole value of a text without any `$`
-pub value_of_text-plain : (variables : Variables) (locals : Locals) (keep : Bool) (text : List ℕ)
+pub value_of_text_plain : (variables : Variables) (locals : Locals) (keep : Bool) (text : List ℕ)
     → has_dollar text ≡ false
     → value_of_text variables locals keep text ≡ appended [] text
-value_of_text-plain variables locals keep text none =
+value_of_text_plain variables locals keep text none =
     rw (text_value-plain max_open (context variables locals [] keep) 0 text none)
     (counted-count 0 (appended [] text))

@@ -5,12 +5,14 @@ use Rattle.mk_ast.specs.Text.{text_at}
 use Rattle.mk_ast.specs.Rows.{begins, is_word, is_left_out_word}
 use Rattle.mk_ast.specs.References.{mods_at, ref_at}
 use Rattle.mk_ast.specs.Spell.{spell}
+use Rattle.mk_mods.specs.Substitution.{replaced}
 use Rattle.mk_ast.specs.declared.fault.AstFault.TheVariants.{Unclosed}
 use Rattle.mk_expand.specs.Chains.{all_modified}
 use Rattle.mk_expand.specs.Locals.{no_locals}
+use Rattle.mk_expand.specs.Substitutions.{at_end, without_end, old_in_tree}
 use Rattle.mk_expand.specs.Value.{value_of_text, value_at, joined}
 use Rattle.mk_expand.specs.declared.fault.ExpandFault.{ExpandFault}
-use Rattle.mk_expand.specs.declared.fault.ExpandFault.TheVariants.{Recursive, Unbuilt, Tree}
+use Rattle.mk_expand.specs.declared.fault.ExpandFault.TheVariants.{Recursive, Unbuilt, BadPlace, Tree}
 use Rattle.mk_expand.specs.declared.local.Locals.{Locals}
 
 abbrev variables : Variables
@@ -24,6 +26,11 @@ variables = record {
       ∷ record { name = codes "K"; value = codes "${U}|$V" }
       ∷ record { name = codes "M"; value = codes "${B:H}" }
       ∷ record { name = codes "N"; value = codes "${" }
+      ∷ record { name = codes "P"; value = codes "d/x.tar.gz" }
+      ∷ record { name = codes "W"; value = codes "a b c" }
+      ∷ record { name = codes "C"; value = codes "^" }
+      ∷ record { name = codes "D"; value = codes "&" }
+      ∷ record { name = codes "F"; value = codes "x.c y.h" }
       ∷ record { name = codes "@"; value = codes "global" }
       ∷ record { name = codes "x$$"; value = codes "kept in a name" }
       ∷ record { name = codes "x$"; value = codes "of a name" } ∷ [];
@@ -92,14 +99,58 @@ first_fault : value (codes "$N$R") ≡ Err (Tree (Unclosed 0))
 unfolding text_at mods_at ref_at begins is_word is_left_out_word value_at joined all_modified spell
 first_fault = refl
 
--- the name and the value come before the first modifier that is not built
-value_before_modifiers : value (codes "${R::H}") ≡ Err (Recursive (codes "R"))
+-- the name and the value come before the first modifier
+value_before_modifiers : value (codes "${R:[0x]:H}") ≡ Err (Recursive (codes "R"))
 unfolding text_at mods_at ref_at begins is_word is_left_out_word value_at joined all_modified spell
 value_before_modifiers = refl
 
-modifier_not_built : value (codes "${B::}${B::H}$R") ≡ Err Unbuilt
+modifier_not_built : value (codes "${B::}${B:?x:y}$R") ≡ Err Unbuilt
 unfolding text_at mods_at ref_at begins is_word is_left_out_word value_at joined all_modified spell
 modifier_not_built = refl
+
+texts_that_are_chosen : value (codes "${U:Uq}${U:Dq}|${B:U$R}${B:D<$B>}|${U:Da:Ub}|${n:L:tu}")
+    ≡ Ok (codes "q|1<1>||N")
+unfolding text_at mods_at ref_at begins is_word is_left_out_word value_at joined all_modified spell
+texts_that_are_chosen = refl
+
+-- what is chosen is defined, and nothing of it stays as it is written
+chosen_and_kept : kept (codes "${U:Da}${U:U$$}$U") ≡ Ok (codes "$$U")
+unfolding text_at mods_at ref_at begins is_word is_left_out_word value_at joined all_modified spell
+chosen_and_kept = refl
+
+parts_of_a_path : value (codes "${P:H} ${P:T} ${P:R} ${P:E}") ≡ Ok (codes "d x.tar.gz d/x.tar gz")
+unfolding text_at mods_at ref_at begins is_word is_left_out_word value_at joined all_modified spell
+parts_of_a_path = refl
+
+-- the modifiers of an undefined value are applied, and it stays empty
+undefined_words : value (codes "[${U:S/^$/x/W}]") ≡ Ok (codes "[]")
+unfolding text_at mods_at ref_at begins is_word is_left_out_word value_at joined all_modified at_end
+    without_end old_in_tree replaced
+undefined_words = refl
+
+undefined_place : value (codes "${U:[0x]}") ≡ Err BadPlace
+unfolding text_at mods_at ref_at begins is_word is_left_out_word value_at joined all_modified spell
+undefined_place = refl
+
+written_anchors : value (codes "${W:S/^b/x/} ${W:S/${C}b/x/} ${W:S/b$/<&>/}")
+    ≡ Ok (codes "a x c a b c a <b> c")
+unfolding text_at mods_at ref_at begins is_word is_left_out_word value_at joined all_modified at_end
+    without_end old_in_tree replaced
+written_anchors = refl
+
+both_anchors_and_a_value : value (codes "${W:S/^b$/${D}\\&/}") ≡ Ok (codes "a && c")
+unfolding text_at mods_at ref_at begins is_word is_left_out_word value_at joined all_modified at_end
+    without_end old_in_tree replaced
+both_anchors_and_a_value = refl
+
+separators : value (codes "${W:ts,}${W:ts\\n}${W:ts\\x2d}${W:ts\\052}${W:ts}")
+    ≡ Ok (codes "a,b,ca\nb\nca-b-ca*b*cabc")
+unfolding text_at mods_at ref_at begins is_word is_left_out_word value_at joined all_modified spell
+separators = refl
+
+end_of_words : value (codes "${F:.c=.${B}} ${F:%.c=<%>}") ≡ Ok (codes "x.1 y.h <x> y.h")
+unfolding text_at mods_at ref_at begins is_word is_left_out_word value_at joined all_modified spell
+end_of_words = refl
 
 local_names : task (codes "$@ ${.ALLSRC} $< $* ${.OODATE}") ≡ Ok (codes "out/a.o a.c b.h a.c a b.h")
 unfolding text_at mods_at ref_at begins is_word is_left_out_word value_at joined all_modified spell

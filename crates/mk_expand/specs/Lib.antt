@@ -1,6 +1,10 @@
 pub mod Chains
+pub mod Evaluators
 pub mod Limits
 pub mod Locals
 pub mod Names
+pub mod Separators
+pub mod Substitutions
 pub mod Texts
 pub mod Value
+pub mod View

@@ -5,7 +5,8 @@ use Rattle.mk_bytes.specs.Agrees.{◌>>=◌}
 use Rattle.mk_bytes.specs.Bytes.{dollar}
 use Rattle.mk_ast.specs.Tree.{Tree, Part, Mods, end, part, plain, escaped, double, lone, short, ref}
 use Rattle.mk_scopes.specs.Scopes.{Variables}
-use Rattle.mk_expand.specs.Chains.{undefined, defined_as, all_modified, shown}
+use Rattle.mk_expand.specs.Chains.{undefined, defined_as, chained, shown}
+use Rattle.mk_expand.specs.Evaluators.{Counted, Evaluator}
 use Rattle.mk_expand.specs.Limits.{max_open, max_references, appended}
 use Rattle.mk_expand.specs.Names.{Context, context, in_name, while_open, is_among, raw_of}
 use Rattle.mk_expand.specs.Texts.{parsed}
@@ -14,14 +15,6 @@ use Rattle.mk_expand.specs.declared.fault.ExpandFault.{ExpandFault}
 use Rattle.mk_expand.specs.declared.fault.ExpandFault.TheVariants.{Recursive, TooDeep}
 use Rattle.mk_expand.specs.declared.fault.ExpandFault.TheVariants.{TooManyReferences}
 use Rattle.mk_expand.specs.declared.local.Locals.{Locals}
-
--- what is found, with the number of references evaluated so far, or the first fault
-abbrev pub Counted : Type 0 → Type 0
-Counted A = Result (A × ℕ) ExpandFault
-
--- values of trees, by what names mean and the number of references evaluated before
-abbrev pub Evaluator : Type 0
-Evaluator = Context → ℕ → Tree → Counted (List ℕ)
 
 -- a text is read as a whole before any of it is evaluated
 abbrev pub text_value : Evaluator → Context → ℕ → List ℕ → Counted (List ℕ)
@@ -42,13 +35,13 @@ variable evaluate c count name =
     if is_among c.open_names name then Err (Recursive name)
     else (raw_of c name >>= λ raw. expanded evaluate c count name raw)
 
--- the name is expanded first, then the variable's value, and then come the modifiers
+-- The name is expanded first, then the variable's value, and then come the modifiers. Nothing of the
+-- name and the modifiers stays as it is written.
 abbrev pub reference : Evaluator → Context → ℕ → Tree → Mods → Counted Found
 reference evaluate c count name mods =
     evaluate (in_name c) count name
     >>= λ n. variable evaluate c n.1 n.0
-    >>= λ v. all_modified v.0 mods
-    >>= λ found. Ok (found, v.1)
+    >>= λ v. chained evaluate (in_name c) v.1 n.0 v.0 mods
 
 -- a reference is counted and opened before anything of it is evaluated, where there is room for it
 abbrev pub opened : Option Evaluator → ℕ → (Evaluator → ℕ → Counted Found) → Counted Found

@@ -1,14 +1,20 @@
-//! What a reference has found, through its modifiers.
-ghost use Rattle.mk_ast.specs.View.{mod_view, mods_view, part_view};
+//! What a reference has found, and the modifiers whose texts are evaluated.
+ghost use Rattle.std.specs.Prelude.{◌≡◌, ◌≤◌, length, IfOk};
+ghost use Rattle.mk_ast.specs.View.{mod_view, part_view};
 ghost use Rattle.mk_bytes.specs.Agrees.{Agrees};
 ghost use Rattle.mk_expand.specs.Chains as spec;
 ghost use Rattle.mk_expand.specs.Limits.{appended};
+ghost use Rattle.mk_expand.specs.View.{chain_view};
+ghost use Rattle.mk_mods.specs.Pieces.{end_of, Begins};
 ghost use Rattle.mk_expand.specs.declared.fault.ExpandFault.TheVariants.{NoMemory as no_memory};
 
 use crate::fault::ExpandFault;
 use crate::limit::append;
-use mk_ast::{ModTree, ModTrees, Part, print_part};
-use mk_bytes::Text;
+use crate::separator::separator_of;
+use mk_ast::{ModTree, Part, print_part};
+use mk_bytes::{Items, NoMemory, Text};
+use mk_mods::{Mod, Val, with_items};
+use mk_pool::Region;
 use std::alloc::Global;
 
 /// A value, and whether it is defined.
@@ -18,23 +24,58 @@ pub struct Found {
     pub defined: bool,
 }
 
-/// The modifiers one after the other, up to the first that is not built.
-pub fn all_modified(found: Found, mods: &ModTrees) -> Result<Found, ExpandFault>
-    ensures { Agrees no_memory (λ found. found) result
-        (spec.all_modified found (mods_view mods.now)) }
-{
-    let mut found = found;
-    for one in mods.as_slice() {
-        found = modified(found, one)?;
-    }
-    Ok(found)
+/// What a chain of modifiers works on: a value as pieces of a region, and whether it is defined.
+#[derive(Drop)]
+pub struct Chain {
+    pub val: Val,
+    pub defined: bool,
 }
 
+/// A text in place of the value: its one item, or none where it is empty. It is defined.
+pub fn given(
+    alloc: Global,
+    region: &mut Region,
+    chain: Chain,
+    text: Text,
+) -> Result<Chain, NoMemory>
+    ensures value { IfOk result (λ new. chain_view region.new.bytes new
+        ≡ spec.given_as (chain_view region.old.bytes chain) text) }
+    ensures within { IfOk result (λ new. end_of new.val ≤ length region.new.bytes) }
+    ensures begins { Begins region.old.bytes region.new.bytes }
+{
+    let mut items = Items::new(alloc, 1)?;
+    if !text.is_empty() {
+        items.push(text)?;
+    }
+    Ok(Chain {
+        val: with_items(alloc, region, chain.val, &items)?,
+        defined: true,
+    })
+}
+
+/// A modifier without a text that has to be evaluated. The empty one does nothing, and `:?` and `:@`
+/// are not built yet.
 #[tactic(auto, using(mk_ast::proofs::Views::views))]
-fn modified(found: Found, one: &ModTree) -> Result<Found, ExpandFault>
-    ensures { Agrees no_memory (λ found. found) result (spec.modified found (mod_view one.now)) }
+pub fn textless(alloc: Global, one: &ModTree) -> Result<Option<Mod>, ExpandFault>
+    ensures { Agrees no_memory (λ found. found) result (spec.textless (mod_view one.now)) }
 {
     match one {
+        ModTree::Head => Ok(Some(Mod::Head)),
+        ModTree::Tail => Ok(Some(Mod::Tail)),
+        ModTree::Root => Ok(Some(Mod::Root)),
+        ModTree::Extension => Ok(Some(Mod::Extension)),
+        ModTree::Sort => Ok(Some(Mod::Sort)),
+        ModTree::SortBack => Ok(Some(Mod::SortBack)),
+        ModTree::Unique => Ok(Some(Mod::Unique)),
+        ModTree::Lower => Ok(Some(Mod::Lower)),
+        ModTree::Upper => Ok(Some(Mod::Upper)),
+        ModTree::Quote => Ok(Some(Mod::Quote)),
+        ModTree::QuoteDollar => Ok(Some(Mod::QuoteDollar)),
+        ModTree::Separator(written) => { Ok(Some(Mod::Separator(separator_of(written.bytes())))) }
+        ModTree::OneWord(_) => Ok(Some(Mod::OneWord)),
+        ModTree::ManyWords(_) => Ok(Some(Mod::ManyWords)),
+        ModTree::Range(None) => Ok(Some(Mod::Range(Text::from_bytes(alloc, b"0")?))),
+        ModTree::Empty => Ok(None),
         ModTree::Keep(_) => Err(ExpandFault::Unbuilt),
         ModTree::Without(_) => Err(ExpandFault::Unbuilt),
         ModTree::Subst {
@@ -43,30 +84,14 @@ fn modified(found: Found, one: &ModTree) -> Result<Found, ExpandFault>
             to: _,
             flags: _,
         } => Err(ExpandFault::Unbuilt),
-        ModTree::Head => Err(ExpandFault::Unbuilt),
-        ModTree::Tail => Err(ExpandFault::Unbuilt),
-        ModTree::Root => Err(ExpandFault::Unbuilt),
-        ModTree::Extension => Err(ExpandFault::Unbuilt),
-        ModTree::Sort => Err(ExpandFault::Unbuilt),
-        ModTree::SortBack => Err(ExpandFault::Unbuilt),
-        ModTree::Unique => Err(ExpandFault::Unbuilt),
-        ModTree::Lower => Err(ExpandFault::Unbuilt),
-        ModTree::Upper => Err(ExpandFault::Unbuilt),
-        ModTree::Quote => Err(ExpandFault::Unbuilt),
-        ModTree::QuoteDollar => Err(ExpandFault::Unbuilt),
-        ModTree::Separator(_) => Err(ExpandFault::Unbuilt),
-        ModTree::OneWord(_) => Err(ExpandFault::Unbuilt),
-        ModTree::ManyWords(_) => Err(ExpandFault::Unbuilt),
         ModTree::Select(_) => Err(ExpandFault::Unbuilt),
-        ModTree::Range(None) => Err(ExpandFault::Unbuilt),
         ModTree::Range(Some(_)) => Err(ExpandFault::Unbuilt),
+        ModTree::Suffix(_, _) => Err(ExpandFault::Unbuilt),
         ModTree::IfUndefined(_) => Err(ExpandFault::Unbuilt),
         ModTree::IfDefined(_) => Err(ExpandFault::Unbuilt),
         ModTree::NameOf => Err(ExpandFault::Unbuilt),
         ModTree::Choose(_, _) => Err(ExpandFault::Unbuilt),
         ModTree::Each(_, _) => Err(ExpandFault::Unbuilt),
-        ModTree::Suffix(_, _) => Err(ExpandFault::Unbuilt),
-        ModTree::Empty => Ok(found),
     }
 }
 

@@ -1,5 +1,6 @@
 use mk_ast::AstFault;
 use mk_bytes::{NoMemory, Text};
+use mk_mods::ModFault;
 
 /// Why a text has no value: its first fault, where a text is read as a whole before any of it is
 /// evaluated, and is evaluated from left to right.
@@ -16,6 +17,8 @@ pub enum ExpandFault {
     /// A text or a value has this fault of the grammar, with its place in that text or value. It is
     /// never the want of memory.
     Tree(AstFault),
+    /// The text of `:[..]` or of `:range=` is no choice of places.
+    BadPlace,
     /// A reference has a modifier or a local name that is not built yet.
     Unbuilt,
     /// Memory ran out.
@@ -46,6 +49,21 @@ impl From<AstFault> for ExpandFault {
             AstFault::BadModifier(at) => ExpandFault::Tree(AstFault::BadModifier(at)),
             AstFault::TooDeep(at) => ExpandFault::Tree(AstFault::TooDeep(at)),
             AstFault::NoMemory => ExpandFault::NoMemory,
+        }
+    }
+}
+
+impl From<ModFault> for ExpandFault {
+    ghost use Rattle.std.specs.Prelude.{◌≡◌};
+    ghost use Rattle.mk_expand.specs.Chains.{of_mod};
+
+    ghost from_gives = { λ given fault. fault ≡ of_mod given };
+
+    fn from(fault: ModFault) -> ExpandFault {
+        match fault {
+            ModFault::TooLong => ExpandFault::TooLong,
+            ModFault::BadPlace => ExpandFault::BadPlace,
+            ModFault::NoMemory => ExpandFault::NoMemory,
         }
     }
 }

@@ -8,6 +8,8 @@ mod limit;
 mod local;
 mod name;
 mod plain;
+mod separator;
+mod substitution;
 mod whole;
 
 pub use fault::ExpandFault;

@@ -12,7 +12,8 @@ pub const MAX_OPEN: usize = 256;
 
 const MAX_REFERENCES: u32 = 1_048_576;
 
-const MAX_TEXT: usize = 4_194_304;
+/// How many bytes a text that is put together may have.
+pub const MAX_TEXT: usize = 4_194_304;
 
 /// One more reference, which is open while it is evaluated.
 pub fn open_reference(references: &mut u32, room: usize) -> Result<(), ExpandFault>

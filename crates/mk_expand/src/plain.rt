@@ -7,7 +7,7 @@ ghost use Rattle.mk_expand.specs.Value.{double_value};
 ghost use Rattle.mk_expand.specs.declared.fault.ExpandFault.TheVariants.{NoMemory as no_memory};
 
 use crate::fault::ExpandFault;
-use crate::limit::append;
+use crate::limit::MAX_TEXT;
 use mk_bytes::Text;
 use std::alloc::Global;
 
@@ -21,9 +21,10 @@ pub fn has_dollar(text: &[u8]) -> bool
 pub fn plain_value(alloc: Global, text: &[u8]) -> Result<Text, ExpandFault>
     ensures { Agrees no_memory (λ value. value) result (appended [] text.now) }
 {
-    let mut value = Text::new(alloc);
-    append(&mut value, text)?;
-    Ok(value)
+    if text.len() > MAX_TEXT {
+        return Err(ExpandFault::TooLong);
+    }
+    Ok(Text::from_bytes(alloc, text)?)
 }
 
 /// What `$$` gives.

@@ -11,8 +11,10 @@ use crate::fault::ExpandFault;
 use crate::limit::MAX_OPEN;
 use crate::local::Locals;
 use crate::name::Names;
+use crate::plain::{has_dollar, plain_value};
 use mk_ast::{Part, Tree};
 use mk_bytes::{Items, NoMemory, Text};
+use mk_pool::Region;
 use mk_scopes::Scopes;
 use std::alloc::Global;
 
@@ -38,12 +40,14 @@ pub fn expand(
     let mut run = Run {
         open_names: Items::new(alloc, 0)?,
         references: 0,
+        region: Region::new(alloc)?,
     };
     tree_value(&names, &mut run, MAX_OPEN, keep, tree)
 }
 
 /// The value of a text, as [`expand`] gives that of its tree. A text without a tree has the fault
 /// of the grammar.
+#[tactic(auto, using(crate::proofs::PlainLemmas::value_of_text_plain))]
 pub fn value_of_text(
     alloc: Global,
     scopes: &Scopes,
@@ -54,6 +58,9 @@ pub fn value_of_text(
     ensures { Agrees no_memory (λ value. value) result
         (spec.value_of_text scopes.now locals.now keep text.now) }
 {
+    if !has_dollar(text) {
+        return plain_value(alloc, text);
+    }
     let names = Names {
         alloc,
         scopes,
@@ -62,6 +69,7 @@ pub fn value_of_text(
     let mut run = Run {
         open_names: Items::new(alloc, 0)?,
         references: 0,
+        region: Region::new(alloc)?,
     };
     text_value(&names, &mut run, MAX_OPEN, keep, text)
 }
