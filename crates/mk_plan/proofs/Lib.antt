@@ -1,3 +1,4 @@
+pub mod OodateLemmas
 pub mod LookLemmas
 pub mod PlanLemmas
 pub mod TaskLemmas

@@ -1,9 +1,9 @@
 -- Command lines that are expanded one after the other.
-use Rattle.std.proofs.Common.{◌≡◌, ◌∙◌, ℕ, ◌+◌, ◌<◌, length, drop, get_or, List, [], ◌∷◌, ◌++◌, Ok, Err, Result, inl, inr, refl, ap, sym, subst, length-append, arith, Bool, true, false, if◌then◌else◌}
+use Rattle.std.proofs.Common.{◌≡◌, ◌∙◌, ℕ, ◌+◌, ◌<◌, length, drop, get_or, List, [], ◌∷◌, ◌++◌, Ok, Err, Result, inl, inr, refl, length-append, arith, Bool, true, false, if◌then◌else◌}
 use Rattle.std.specs.List.{list_any}
 use Rattle.std.proofs.lemmas.Grind.{common_steps}
 use Rattle.std.proofs.lemmas.Option.{slice_get-get_or}
-use Rattle.mk_bytes.specs.Agrees.{Agrees, AgreesErr, ◌>>=◌}
+use Rattle.mk_bytes.specs.Agrees.{AgreesErr, ◌>>=◌}
 use Rattle.mk_expand.specs.declared.fault.ExpandFault.{ExpandFault}
 use Rattle.mk_expand.specs.declared.fault.ExpandFault.TheVariants.{NoMemory}
 use Rattle.mk_expand.specs.declared.local.Locals.{Locals}
@@ -12,7 +12,7 @@ use Rattle.mk_scopes.specs.Scopes.{Variables}
 use Rattle.mk_world.specs.declared.command.Task.{Task}
 use Rattle.mk_world.specs.declared.command.TaskLine.{TaskLine}
 use Rattle.mk_plan.proofs.PlanLemmas.{drop-at}
-use Rattle.mk_plan.specs.Refusals.{IsWant, IsTaskFault}
+use Rattle.mk_plan.specs.Refusals.{IsTaskFault}
 use Rattle.mk_plan.specs.Plans.{node_at}
 use Rattle.mk_plan.specs.Tasks.{at_line, line_of, lines_from, locals_of, task_of, task_with, is_slash, last_component}
 use Rattle.mk_plan.specs.declared.plan.PlanNode.{PlanNode}

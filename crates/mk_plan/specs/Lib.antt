@@ -1,5 +1,6 @@
 pub mod Deciding
 pub mod Looks
+pub mod Oodate
 pub mod Plans
 pub mod Refusals
 pub mod Tasks

@@ -3,13 +3,15 @@ use Rattle.std.specs.Prelude.{ℕ, ◌+◌, ◌==◌, ◌||◌, Bool, true, fals
 use Rattle.std.specs.List.{list_any}
 use Rattle.mk_bytes.specs.Agrees.{◌>>=◌}
 use Rattle.mk_bytes.specs.Bytes.{at_sign, minus, plus, slash, is_blank}
-use Rattle.mk_expand.specs.Value.{value_of_text}
+use Rattle.mk_expand.specs.Texts.{parsed}
+use Rattle.mk_expand.specs.Value.{value}
 use Rattle.mk_expand.specs.declared.fault.ExpandFault.{ExpandFault}
 use Rattle.mk_expand.specs.declared.local.Locals.{Locals}
 use Rattle.mk_flags.specs.declared.Flags.{Flags}
 use Rattle.mk_scopes.specs.Scopes.{Variables}
 use Rattle.mk_world.specs.declared.command.Task.{Task}
 use Rattle.mk_world.specs.declared.command.TaskLine.{TaskLine}
+use Rattle.mk_plan.specs.Oodate.{refers}
 use Rattle.mk_plan.specs.Plans.{node_at}
 use Rattle.mk_plan.specs.declared.fault.TaskFault.{TaskFault}
 use Rattle.mk_plan.specs.declared.plan.PlanNode.{PlanNode}
@@ -28,18 +30,22 @@ abbrev pub holds : ℕ → List ℕ → Bool
 holds byte text = list_any (λ one. one == byte) text
 
 -- An expanded line: `@` before its text makes it silent, `-` ignored, `+` always run.
-abbrev pub line_as : Flags → List ℕ → TaskLine
-line_as flags value = record {
+abbrev pub line_as : Flags → Bool → List ℕ → TaskLine
+line_as flags compared value = record {
   text = drop (marks_len value) value;
   ignore = flags.ignore || holds minus (take (marks_len value) value);
   silent = flags.silent || holds at_sign (take (marks_len value) value);
   always = holds plus (take (marks_len value) value);
-  compared = true;
+  compared = compared;
 }
 
+-- A line whose raw text refers to the newer sources by that name is not compared: it has another
+-- text in each build. All others are.
 abbrev pub line_of : Variables → Locals → Flags → List ℕ → Result TaskLine ExpandFault
 line_of variables locals flags raw =
-    value_of_text variables locals false raw >>= λ value. Ok (line_as flags value)
+    parsed raw
+    >>= λ tree. value variables locals false tree
+    >>= λ value. Ok (line_as flags (not (refers tree)) value)
 
 -- the fault of a line has its number
 abbrev pub at_line : ℕ → Result TaskLine ExpandFault → Result TaskLine TaskFault

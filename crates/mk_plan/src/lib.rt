@@ -7,6 +7,7 @@
 
 mod fault;
 mod making;
+mod oodate;
 mod plan;
 mod tasks;
 

@@ -7,9 +7,11 @@ ghost use Rattle.mk_plan.specs.Tasks as spec;
 
 use crate::fault::TaskFault;
 use crate::making::copied;
+use crate::oodate::refers;
 use crate::plan::{Nodes, Plan};
+use mk_ast::parse;
 use mk_bytes::{Items, NoMemory, Text, Texts};
-use mk_expand::{ExpandFault, Locals, value_of_text};
+use mk_expand::{ExpandFault, Locals, expand};
 use mk_flags::Flags;
 use mk_graph::Made;
 use mk_scopes::Scopes;
@@ -35,8 +37,8 @@ fn holds(wanted: u8, text: &[u8]) -> bool
     text.iter().any(|byte| *byte == wanted)
 }
 
-fn line_as(alloc: Global, flags: &Flags, value: &[u8]) -> Result<TaskLine, NoMemory>
-    ensures { IfOk result (λ line. line ≡ spec.line_as flags.now value.now) }
+fn line_as(alloc: Global, flags: &Flags, compared: bool, value: &[u8]) -> Result<TaskLine, NoMemory>
+    ensures { IfOk result (λ line. line ≡ spec.line_as flags.now compared value.now) }
 {
     let (marks, text) = value.split_at(marks_end(value).unwrap_or(value.len()));
     Ok(TaskLine {
@@ -44,7 +46,7 @@ fn line_as(alloc: Global, flags: &Flags, value: &[u8]) -> Result<TaskLine, NoMem
         ignore: flags.ignore || holds(b'-', marks),
         silent: flags.silent || holds(b'@', marks),
         always: holds(b'+', marks),
-        compared: true,
+        compared,
     })
 }
 
@@ -58,8 +60,9 @@ fn line_of(
     ensures { Agrees no_memory (λ line. line) result
         (spec.line_of scopes.now locals.now flags.now raw.now) }
 {
-    let value = value_of_text(alloc, scopes, locals, raw, false)?;
-    Ok(line_as(alloc, flags, value.bytes())?)
+    let tree = parse(alloc, raw)?;
+    let value = expand(alloc, scopes, locals, &tree, false)?;
+    Ok(line_as(alloc, flags, !refers(&tree), value.bytes())?)
 }
 
 fn lines_of(
@@ -138,7 +141,9 @@ fn locals_of(alloc: Global, plan: &Plan, n: u32, oodate: &Texts) -> Result<Local
 
 /// The task of a node of a plan: its command lines, expanded with its local names, where these of
 /// its sources are newer than it. `@` before a line's text makes it silent, `-` ignored and `+`
-/// always run. A fault has the number of its line, the first such, counted from 1.
+/// always run. A line whose raw text has a reference with the plain name `.OODATE` or `?` anywhere
+/// in it is not compared with that of another build. A fault has the number of its line, the first
+/// such, counted from 1.
 pub fn task(
     alloc: Global,
     plan: &Plan,

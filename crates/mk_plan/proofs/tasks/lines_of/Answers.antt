@@ -1,8 +1,7 @@
-use Rattle.std.proofs.Common.{◌≡◌, ◌∙◌, ◌+◌, [], ◌∷◌, ◌++◌, drop, arith, rules, subst, sym}
+use Rattle.std.proofs.Common.{◌≡◌, ◌∙◌, ◌+◌, [], ◌∷◌, drop, arith, rules, subst, sym}
 use Rattle.std.proofs.lemmas.Grind.{common_steps}
 use Rattle.mk_plan.proofs.TaskLemmas.{lines_from-end, lines_from-line, lines_from-fault}
 use Rattle.mk_plan.specs.Refusals.{IsTaskFault}
-use Rattle.mk_plan.specs.Tasks as spec
 use Rattle.mk_plan.proofs.tasks.lines_of.Goals as goal
 
 pub returns-in-Err-clause-fault : goal.returns-in-Err-clause-fault
