@@ -27,6 +27,7 @@ fault_text expand.TooDeep = codes "nested too deeply"
 fault_text expand.TooManyReferences = codes "too many references"
 fault_text expand.TooLong = codes "value too long"
 fault_text (expand.Tree fault) = tree_text fault
+fault_text expand.BadPlace = codes "bad word selection"
 fault_text expand.Unbuilt = codes "form is not built yet"
 fault_text expand.NoMemory = codes "out of memory"
 

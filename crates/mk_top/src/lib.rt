@@ -6,8 +6,6 @@ mod message;
 mod print;
 mod report;
 mod running;
-#[cfg(test)]
-mod tests;
 mod words;
 
 pub use mk_driver::{Event, Events};

@@ -69,6 +69,7 @@ fn fault_text<'t>(fault: &'t ExpandFault, at: &'t [u8]) -> [&'t [u8]; 3]
         ExpandFault::TooManyReferences => [b"too many references", b"", b""],
         ExpandFault::TooLong => [b"value too long", b"", b""],
         ExpandFault::Tree(tree) => tree_text(tree, at),
+        ExpandFault::BadPlace => [b"bad word selection", b"", b""],
         ExpandFault::Unbuilt => [b"form is not built yet", b"", b""],
         ExpandFault::NoMemory => [b"out of memory", b"", b""],
     }

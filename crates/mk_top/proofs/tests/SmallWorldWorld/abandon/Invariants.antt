@@ -1,9 +1,0 @@
-use Rattle.std.proofs.Common.{◌≡◌, length}
-use Rattle.mk_top.proofs.tests.SmallWorldWorld.abandon.Given as goal
-
--- the room stays
-abbrev pub invariant-loop-kids : goal.invariant-loop-kids
-invariant-loop-kids l = l.kids.room ≡ l.initial.kids.room
-
-abbrev pub decreases-loop-kids : goal.decreases-loop-kids
-decreases-loop-kids l = length l.kids.tickets
