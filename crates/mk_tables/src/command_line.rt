@@ -84,7 +84,8 @@ fn assert_asked(rt: &impl Abort, shows: &str, order: &Order, asked: Asked) {
 #[test]
 fn words_are_read(rt: HostRuntime) -> Result<(), Fail> {
     assert!(rt; is_clean_directory(CWD));
-    for (shows, row, wanted) in ROWS {
+    for row in &ROWS {
+        let (shows, row, wanted) = *row;
         let row = texts(rt.alloc(), row)?;
         match (words(rt.alloc(), &row, CWD), wanted) {
             (Ok(order), Ok(asked)) => assert_asked(&rt, shows, &order, asked),

@@ -2,15 +2,23 @@
 #![tactic(auto)]
 
 #[cfg(test)]
+mod chains;
+#[cfg(test)]
 mod children;
 #[cfg(test)]
 mod command_line;
 #[cfg(test)]
+mod conditions;
+#[cfg(test)]
 mod lines;
+#[cfg(test)]
+mod loops;
 #[cfg(test)]
 mod memory_commands;
 #[cfg(test)]
 mod memory_world;
+#[cfg(test)]
+mod modifiers;
 #[cfg(test)]
 mod numbers;
 #[cfg(test)]
@@ -21,8 +29,6 @@ mod patterns;
 mod pool;
 #[cfg(test)]
 mod references;
-#[cfg(test)]
-mod runs;
 #[cfg(test)]
 mod texts;
 #[cfg(test)]

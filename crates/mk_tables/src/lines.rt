@@ -36,7 +36,8 @@ fn assert_lines(rt: &impl Abort, shows: &str, lines: &LogLines, wanted: &[(u32, 
 
 #[test]
 fn texts_have_lines(rt: HostRuntime) -> Result<(), Fail> {
-    for (shows, text, wanted) in LINES {
+    for row in &LINES {
+        let (shows, text, wanted) = *row;
         assert!(rt; text.len() < 100);
         let lines = logical_lines(rt.alloc(), text)?;
         assert_lines(&rt, shows, &lines, wanted);
@@ -88,7 +89,8 @@ fn text_of(alloc: Global, before: &[u8], run: usize, after: &[u8]) -> Result<Vec
 
 #[test]
 fn texts_have_faults(rt: HostRuntime) -> Result<(), Fail> {
-    for (shows, before, run, after, wanted) in FAULTS {
+    for row in &FAULTS {
+        let (shows, before, run, after, wanted) = *row;
         let text = text_of(rt.alloc(), before, run, after)?;
         assert!(rt; text.len() < 2_000_000);
         assert_eq!(rt; check(&text), wanted, "{shows}");
@@ -120,7 +122,8 @@ const COMMENTS: [(&str, Bytes, Bytes); 13] = [
 
 #[test]
 fn comments_are_cut(rt: HostRuntime) -> Result<(), Fail> {
-    for (shows, line, wanted) in COMMENTS {
+    for row in &COMMENTS {
+        let (shows, line, wanted) = *row;
         let text = cut_comment(rt.alloc(), line)?;
         assert_eq!(rt; text.bytes(), wanted, "{shows}");
     }

@@ -132,8 +132,8 @@ fn asks(alloc: Global, row: Row) -> Result<bool, NoMemory> {
 
 #[test]
 fn lines_ask_for_their_next_step(rt: HostRuntime) -> Result<(), Fail> {
-    for row in ROWS {
-        assert!(rt; asks(rt.alloc(), row)?, "{}", row.0);
+    for row in &ROWS {
+        assert!(rt; asks(rt.alloc(), *row)?, "{}", row.0);
     }
     Ok(())
 }

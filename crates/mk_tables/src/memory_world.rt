@@ -173,11 +173,12 @@ fn stands(
 fn commands_change_the_files(rt: HostRuntime) -> Result<(), Fail> {
     let alloc = rt.alloc();
     let mut memory = world(&rt, alloc, Items::new(alloc, 0)?)?;
-    for row in ROWS {
+    for row in &ROWS {
         let cmd = command(&rt, alloc, row.0)?;
-        assert!(rt; ends_as(alloc, &mut memory, &cmd, row)?, "{}", row.0);
+        assert!(rt; ends_as(alloc, &mut memory, &cmd, *row)?, "{}", row.0);
     }
-    for (path, bytes, time) in LEFT {
+    for left in &LEFT {
+        let (path, bytes, time) = *left;
         assert!(rt; stands(alloc, &mut memory, path, bytes, time)?, "{path}");
     }
     Ok(())

@@ -49,7 +49,8 @@ const ORDER: [&str; 8] = [
 
 #[test]
 fn numbers_are_read(rt: HostRuntime) {
-    for (shows, text, other) in SAME {
+    for row in &SAME {
+        let (shows, text, other) = *row;
         assert!(rt; number(text.as_bytes()).is_some(), "{shows}");
         assert_eq!(rt;
             number(text.as_bytes()),
@@ -57,7 +58,8 @@ fn numbers_are_read(rt: HostRuntime) {
             "{shows}"
         );
     }
-    for (shows, text) in NONE {
+    for row in &NONE {
+        let (shows, text) = *row;
         assert_eq!(rt; number(text.as_bytes()), None, "{shows}");
     }
 }
@@ -65,7 +67,8 @@ fn numbers_are_read(rt: HostRuntime) {
 #[test]
 fn numbers_are_in_order(rt: HostRuntime) {
     let mut lowest = None;
-    for text in ORDER {
+    for row in &ORDER {
+        let text = *row;
         let next = number(text.as_bytes());
         assert!(rt; lowest < next, "{text}");
         assert_eq!(rt;

@@ -26,7 +26,8 @@ const CLEANED: [(&str, &[u8], &[u8], &[u8]); 10] = [
 
 #[test]
 fn paths_are_cleaned_against_the_directory(rt: HostRuntime) -> Result<(), Fail> {
-    for (shows, cwd, path, cleaned) in CLEANED {
+    for row in &CLEANED {
+        let (shows, cwd, path, cleaned) = *row;
         let text = clean_path(rt.alloc(), cwd, path)?;
         assert_eq!(rt; text.bytes(), cleaned, "{shows}");
     }
@@ -46,7 +47,8 @@ const DIRECTORIES: [(&str, &[u8], bool); 8] = [
 
 #[test]
 fn clean_directories_are_known(rt: HostRuntime) {
-    for (shows, path, clean) in DIRECTORIES {
+    for row in &DIRECTORIES {
+        let (shows, path, clean) = *row;
         assert_eq!(rt; is_clean_directory(path), clean, "{shows}");
     }
 }

@@ -43,7 +43,8 @@ const ROWS: [Row; 24] = [
 
 #[test]
 fn patterns_match_words(rt: HostRuntime) {
-    for (shows, pattern, word, wanted) in ROWS {
+    for row in &ROWS {
+        let (shows, pattern, word, wanted) = *row;
         assert_eq!(rt;
             matches(pattern.as_bytes(), word.as_bytes()),
             wanted,

@@ -11,7 +11,8 @@ const INTERNED: [(&str, &[u8], u32); 3] = [
 #[test]
 fn equal_texts_share_a_name(rt: HostRuntime) -> Result<(), Fail> {
     let mut pool = Pool::new(rt.alloc())?;
-    for (shows, text, name) in INTERNED {
+    for row in &INTERNED {
+        let (shows, text, name) = *row;
         assert_eq!(rt; pool.intern(text)?, Name(name), "{shows}");
     }
     assert_eq!(rt; pool.find(b"c"), None);

@@ -155,14 +155,16 @@ fn prints_back(alloc: Global, text: &[u8]) -> bool {
 
 #[test]
 fn finds_the_first_fault(rt: HostRuntime) {
-    for (shows, text, want) in FAULTS {
+    for row in &FAULTS {
+        let (shows, text, want) = *row;
         assert!(rt; has_fault(rt.alloc(), text, want), "{shows}");
     }
 }
 
 #[test]
 fn prints_texts_back(rt: HostRuntime) {
-    for (shows, text) in SPELLED {
+    for row in &SPELLED {
+        let (shows, text) = *row;
         assert!(rt; prints_back(rt.alloc(), text), "{shows}");
     }
 }
@@ -195,7 +197,8 @@ fn end_at(alloc: Global, text: &[u8], at: usize) -> Option<Result<usize, AstFaul
 
 #[test]
 fn finds_the_end_of_a_form(rt: HostRuntime) {
-    for (shows, text, at, want) in FORMS {
+    for row in &FORMS {
+        let (shows, text, at, want) = *row;
         assert!(rt; end_at(rt.alloc(), text, at) == Some(want), "{shows}");
     }
 }

@@ -23,7 +23,8 @@ const VARIABLES: [(&[u8], &[u8]); 10] = [
 fn scopes(alloc: Global) -> Result<Scopes, NoMemory> {
     let env = environment(alloc)?;
     let mut scopes = Scopes::new(alloc, &env, false)?;
-    for (name, value) in VARIABLES {
+    for row in &VARIABLES {
+        let (name, value) = *row;
         scopes.assign(Class::Global, name, value)?;
     }
     Ok(scopes)
@@ -67,7 +68,8 @@ fn texts_have_values(rt: HostRuntime) -> Result<(), Fail> {
     let alloc = rt.alloc();
     let scopes = scopes(alloc)?;
     let locals = Locals::none(alloc)?;
-    for (shows, text, value, kept) in VALUES {
+    for row in &VALUES {
+        let (shows, text, value, kept) = *row;
         assert!(rt;
             has_value(alloc, &scopes, &locals, false, text, value),
             "{shows}"
@@ -88,6 +90,7 @@ enum Wanted {
     TooManyReferences,
     TooLong,
     Tree(AstFault),
+    BadPlace,
     Unbuilt,
 }
 
@@ -98,6 +101,7 @@ fn is_wanted(fault: &ExpandFault, wanted: Wanted) -> bool {
         (ExpandFault::TooManyReferences, Wanted::TooManyReferences) => true,
         (ExpandFault::TooLong, Wanted::TooLong) => true,
         (ExpandFault::Tree(fault), Wanted::Tree(other)) => *fault == other,
+        (ExpandFault::BadPlace, Wanted::BadPlace) => true,
         (ExpandFault::Unbuilt, Wanted::Unbuilt) => true,
         _ => false,
     }
@@ -130,10 +134,10 @@ const FAULTS: [(&str, &[u8], Wanted); 9] = [
         Wanted::Tree(Unclosed(1)),
     ),
     ("the other way round", b"$R$N", Wanted::Recursive(b"R")),
-    ("a modifier", b"$A${A::H}$R", Wanted::Unbuilt),
+    ("a modifier", b"$A${A:?x:y}$R", Wanted::Unbuilt),
     (
         "a value comes before its modifiers",
-        b"${R:H}",
+        b"${R:[x]}",
         Wanted::Recursive(b"R"),
     ),
 ];
@@ -143,7 +147,8 @@ fn texts_have_faults(rt: HostRuntime) -> Result<(), Fail> {
     let alloc = rt.alloc();
     let scopes = scopes(alloc)?;
     let locals = Locals::none(alloc)?;
-    for (shows, text, wanted) in FAULTS {
+    for row in &FAULTS {
+        let (shows, text, wanted) = *row;
         assert!(rt; has_fault(alloc, &scopes, &locals, text, wanted), "{shows}");
     }
     Ok(())
@@ -168,7 +173,12 @@ fn locals(alloc: Global) -> Result<Locals, NoMemory> {
     })
 }
 
-const LOCAL_VALUES: [(&str, &[u8], &[u8]); 5] = [
+const LOCAL_VALUES: [(&str, &[u8], &[u8]); 6] = [
+    (
+        "no implied source is a defined one",
+        b"[${.IMPSRC:Ux}]",
+        b"[]",
+    ),
     ("a local name stands above a variable", b"$@", b"out/a$.o"),
     ("the long form", b"${.TARGET}", b"out/a$.o"),
     ("a list", b"$> ${.ALLSRC} ${.OODATE}.", b"a.c b.h a.c b.h ."),
@@ -181,7 +191,8 @@ fn local_names_have_values(rt: HostRuntime) -> Result<(), Fail> {
     let alloc = rt.alloc();
     let scopes = scopes(alloc)?;
     let locals = locals(alloc)?;
-    for (shows, text, value) in LOCAL_VALUES {
+    for row in &LOCAL_VALUES {
+        let (shows, text, value) = *row;
         assert!(rt;
             has_value(alloc, &scopes, &locals, false, text, value),
             "{shows}"
@@ -252,9 +263,19 @@ const LENGTHS: [(&str, &[u8], usize); 3] = [
     ("4194304 bytes", b"$A", 4_194_304),
 ];
 
-const EXCESSES: [(&str, &[u8], Wanted); 4] = [
+const EXCESSES: [(&str, &[u8], Wanted); 6] = [
     ("257 open references", b"$Z", Wanted::TooDeep),
     ("1048577 references", b"$a$U$U", Wanted::TooManyReferences),
+    (
+        "the 257th open reference is the 1048577th",
+        b"$b$c$d$e$f$g$h$i$j$k$l$m$U$U$U$U$U$U$U$U$U$U$U$U$Z",
+        Wanted::TooDeep,
+    ),
+    (
+        "the 256th is",
+        b"$b$c$d$e$f$g$h$i$j$k$l$m$U$U$U$U$U$U$U$U$U$U$U$U$U$Z",
+        Wanted::TooManyReferences,
+    ),
     ("one byte more", b"$A.", Wanted::TooLong),
     ("a name of one byte more", b"${$A.}", Wanted::TooLong),
 ];
@@ -264,13 +285,15 @@ fn values_have_limits(rt: HostRuntime) -> Result<(), Fail> {
     let alloc = rt.alloc();
     let scopes = long_scopes(alloc)?;
     let locals = Locals::none(alloc)?;
-    for (shows, text, length) in LENGTHS {
+    for row in &LENGTHS {
+        let (shows, text, length) = *row;
         assert!(rt;
             has_length(alloc, &scopes, &locals, text, length),
             "{shows}"
         );
     }
-    for (shows, text, wanted) in EXCESSES {
+    for row in &EXCESSES {
+        let (shows, text, wanted) = *row;
         assert!(rt; has_fault(alloc, &scopes, &locals, text, wanted), "{shows}");
     }
     Ok(())

@@ -45,7 +45,8 @@ const RAW: [(&str, bool, &[u8], &[u8]); 7] = [
 
 #[test]
 fn variables_have_their_precedence(rt: HostRuntime) -> Result<(), Fail> {
-    for (shows, env_first, name, value) in RAW {
+    for row in &RAW {
+        let (shows, env_first, name, value) = *row;
         let scopes = scopes(rt.alloc(), env_first)?;
         let raw = match scopes.get(name) {
             Some(text) => text.bytes(),

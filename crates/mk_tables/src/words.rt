@@ -26,7 +26,8 @@ const WORDS: [(&str, &[u8], usize, Option<Span>); 6] = [
 
 #[test]
 fn words_are_cut_at_white_space(rt: HostRuntime) {
-    for (shows, text, from, span) in WORDS {
+    for row in &WORDS {
+        let (shows, text, from, span) = *row;
         assert!(rt; from <= text.len());
         assert_eq!(rt; next_word(text, from), span, "{shows}");
     }

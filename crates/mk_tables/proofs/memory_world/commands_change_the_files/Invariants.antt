@@ -7,5 +7,5 @@ abbrev pub invariant-loop-row : goal.invariant-loop-row
 invariant-loop-row g l = tickets_of (state_of l.memory.chronicle).children ≡ []
 
 -- nor between the looks
-abbrev pub invariant-loop-path : goal.invariant-loop-path
-invariant-loop-path g l = tickets_of (state_of l.memory.chronicle).children ≡ []
+abbrev pub invariant-loop-left : goal.invariant-loop-left
+invariant-loop-left g l = tickets_of (state_of l.memory.chronicle).children ≡ []
