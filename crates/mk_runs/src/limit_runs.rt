@@ -1,0 +1,136 @@
+//! Runs at the limits of lines and values.
+use crate::runs::{Words, ran_with};
+use mk_bytes::{NoMemory, Text};
+use std::alloc::Global;
+use std::process::Abort;
+use std::test::Fail;
+
+/// A makefile.
+#[derive(Clone, Copy)]
+enum Shape {
+    /// 256 variables of which each has the value of the next, and then this.
+    Chain(&'static [u8]),
+    /// `$a` has 1,048,575 references and no byte, and `$A` has 4,194,304 bytes.
+    Doubles,
+    /// This and 1,048,574 bytes more on one line.
+    Line(&'static [u8]),
+}
+
+fn link(n: u8) -> [u8; 2] {
+    [b'a' + n / 16, b'a' + n % 16]
+}
+
+fn push_chain(text: &mut Text, last: &[u8]) -> Result<(), NoMemory> {
+    for n in 0..255 {
+        text.push(&link(n))?;
+        text.push(b"=${")?;
+        text.push(&link(n + 1))?;
+        text.push(b"}\n")?;
+    }
+    text.push(last)
+}
+
+// Each variable is twice the next one.
+fn push_doubles(text: &mut Text, first: u8, last: u8) -> Result<(), NoMemory> {
+    for byte in first..last {
+        text.push(&[byte, b'=', b'$', byte + 1, b'$', byte + 1, b'\n'])?;
+    }
+    text.push(&[last, b'='])
+}
+
+fn push_all_doubles(text: &mut Text) -> Result<(), NoMemory> {
+    push_doubles(text, b'a', b't')?;
+    text.push(b"\n")?;
+    push_doubles(text, b'A', b'M')?;
+    text.push(&[b'x'; 1024])
+}
+
+fn push_line(text: &mut Text, start: &[u8]) -> Result<(), NoMemory> {
+    text.push(start)?;
+    text.push(&[b'x'; 1022])?;
+    for _ in 0..1023 {
+        text.push(&[b'x'; 1024])?;
+    }
+    Ok(())
+}
+
+fn makefile(alloc: Global, shape: Shape) -> Result<Text, NoMemory> {
+    let mut text = Text::new(alloc);
+    match shape {
+        Shape::Chain(last) => push_chain(&mut text, last)?,
+        Shape::Doubles => push_all_doubles(&mut text)?,
+        Shape::Line(start) => push_line(&mut text, start)?,
+    }
+    Ok(text)
+}
+
+// What a row shows, the makefile, the words, the length of standard output, and standard error.
+type Row = (&'static str, Shape, Words, usize, &'static str);
+
+const ROWS: [Row; 9] = [
+    (
+        "256 open references",
+        Shape::Chain(b"pp=x\n"),
+        &["-v", "aa"],
+        2,
+        "",
+    ),
+    (
+        "257 open references",
+        Shape::Chain(b"pp=$Z\nZ=x\n"),
+        &["-v", "aa"],
+        0,
+        "bmake: nested too deeply\n",
+    ),
+    ("1048576 references", Shape::Doubles, &["-V", "$a$U"], 1, ""),
+    (
+        "1048577 references",
+        Shape::Doubles,
+        &["-V", "$a$U$U"],
+        0,
+        "bmake: too many references\n",
+    ),
+    ("4194304 bytes", Shape::Doubles, &["-v", "A"], 4_194_305, ""),
+    (
+        "one byte more",
+        Shape::Doubles,
+        &["-v", "${A}x"],
+        0,
+        "bmake: value too long\n",
+    ),
+    (
+        "1048576 bytes on a line",
+        Shape::Line(b"B="),
+        &["-V", "B"],
+        1_048_575,
+        "",
+    ),
+    (
+        "the words of a line",
+        Shape::Line(b"B="),
+        &["-V", "${B:[#]}"],
+        2,
+        "",
+    ),
+    (
+        "one byte more on a line",
+        Shape::Line(b"BB="),
+        &["-V", "BB"],
+        0,
+        "bmake: \"makefile\" line 1: line too long\n",
+    ),
+];
+
+fn keeps_limit(rt: &impl Abort, alloc: Global, row: &Row) -> Result<bool, NoMemory> {
+    let (_, shape, words, length, err) = *row;
+    let ran = ran_with(rt, alloc, makefile(alloc, shape)?, words)?;
+    Ok(ran.out.bytes().len() == length && ran.err.bytes() == err.as_bytes())
+}
+
+#[test]
+fn runs_have_limits(rt: HostRuntime) -> Result<(), Fail> {
+    for row in &ROWS {
+        assert!(rt; keeps_limit(&rt, rt.alloc(), row)?, "{}", row.0);
+    }
+    Ok(())
+}

@@ -1,0 +1,241 @@
+//! Runs that are refused, by their words, their makefile or a print.
+use crate::runs::Words;
+
+/// A run that is refused: what it shows, the makefile, the words and standard error.
+pub type Refusal = (&'static str, &'static str, Words, &'static str);
+
+/// What is refused.
+pub const REFUSALS: [Refusal; 42] = [
+    (
+        "a variable of itself",
+        "B=$(B)\n",
+        &["-v", "B"],
+        "bmake: variable B is recursive\n",
+    ),
+    (
+        "a modifier that is not built yet",
+        "A=1\n",
+        &["-v", "${A:?x:y}"],
+        "bmake: form is not built yet\n",
+    ),
+    (
+        "a reference of itself that has stayed",
+        "D:=${D} x\n",
+        &["-v", "D"],
+        "bmake: variable D is recursive\n",
+    ),
+    (
+        "a choice of no places",
+        "A=1\n",
+        &["-v", "${A:[0..1]}"],
+        "bmake: bad word selection\n",
+    ),
+    ("an unknown letter", "", &["-z"], "bmake: bad word: -z\n"),
+    ("a missing argument", "", &["-f"], "bmake: bad word: -f\n"),
+    (
+        "an option that is not built yet, before a word that is refused",
+        "",
+        &["-V", "-z", "-en", "-z"],
+        "bmake: bad word: -en\n",
+    ),
+    (
+        "a word that is refused, before an option that is not built yet",
+        "",
+        &["-z", "-n"],
+        "bmake: bad word: -z\n",
+    ),
+    (
+        "a refused word that is not the first",
+        "",
+        &["A=1", "t", "-V", "A", ""],
+        "bmake: bad word: \n",
+    ),
+    ("a lone -", "", &["t", "-"], "bmake: bad word: -\n"),
+    (
+        "a lone - behind --",
+        "",
+        &["--", "-"],
+        "bmake: bad word: -\n",
+    ),
+    (
+        "no name before a sign of two bytes",
+        "",
+        &["+=x"],
+        "bmake: bad word: +=x\n",
+    ),
+    (
+        "nor before two signs",
+        "",
+        &["==x"],
+        "bmake: bad word: ==x\n",
+    ),
+    (
+        "the output of a command",
+        "",
+        &["V!=date"],
+        "bmake: bad word: V!=date\n",
+    ),
+    (
+        "standard input as a makefile",
+        "",
+        &["-f", "-"],
+        "bmake: bad word: -\n",
+    ),
+    (
+        "jobs, which are not built yet",
+        "",
+        &["-j", "04"],
+        "bmake: bad word: -j\n",
+    ),
+    ("too many jobs", "", &["-j", "257"], "bmake: bad word: -j\n"),
+    (
+        "a generated graph, which is not built yet",
+        "",
+        &["--generate", "010"],
+        "bmake: bad word: --generate\n",
+    ),
+    (
+        "a generated graph behind another word",
+        "",
+        &["t", "--generate", "5"],
+        "bmake: bad word: --generate\n",
+    ),
+    (
+        "the first missing makefile, named as the word has it",
+        "",
+        &["-f", "makefile", "-f", "./n", "-f", "m", "-V", "A"],
+        "bmake: no makefile ./n\n",
+    ),
+    (
+        "an empty name in the words",
+        "",
+        &["${U}=1"],
+        "bmake: \"\" line 0: empty variable name\n",
+    ),
+    (
+        "the first fault of the words",
+        "",
+        &["B:=x", "A:=${", "${U}=1"],
+        "bmake: \"\" line 0: unclosed reference at 0\n",
+    ),
+    (
+        "a command without a target, named as the word has it",
+        "A=1\n\tx\n",
+        &["-f", "./makefile", "-v", "A"],
+        "bmake: \"./makefile\" line 2: command without target\n",
+    ),
+    (
+        "an assignment ends the commands of a rule",
+        "t: a\n\tx\nA=1\n\ty\n",
+        &["-V", "A"],
+        "bmake: \"makefile\" line 4: command without target\n",
+    ),
+    (
+        "an empty name",
+        "${X}=1\n",
+        &["-V", "A"],
+        "bmake: \"makefile\" line 1: empty variable name\n",
+    ),
+    (
+        "a fault in a name",
+        "B=1\n${X:Z}=1\n",
+        &["-V", "A"],
+        "bmake: \"makefile\" line 2: unknown modifier at 4\n",
+    ),
+    (
+        "a fault in a text that is expanded when it is set",
+        "B=1\n\nA:=x${\n",
+        &["-V", "A"],
+        "bmake: \"makefile\" line 3: unclosed reference at 1\n",
+    ),
+    (
+        "a zero byte",
+        "A=1\nB=\0\n",
+        &["-V", "A"],
+        "bmake: \"makefile\" line 2: zero byte\n",
+    ),
+    (
+        "a zero byte before a line that is refused",
+        "\tx\nB=\0\n",
+        &["-V", "A"],
+        "bmake: \"makefile\" line 2: zero byte\n",
+    ),
+    (
+        "an append without a name",
+        "A=1\n+=x\n",
+        &["-V", "A"],
+        "bmake: \"makefile\" line 2: form is not built yet\n",
+    ),
+    (
+        "a sign without a name",
+        "=x\n",
+        &["-V", "A"],
+        "bmake: \"makefile\" line 1: form is not built yet\n",
+    ),
+    (
+        "an opener without its closer hides the sign",
+        "a{b=1\n",
+        &["-V", "A"],
+        "bmake: \"makefile\" line 1: form is not built yet\n",
+    ),
+    (
+        "blanks inside a name",
+        "${:Ua b}=1\n",
+        &["-V", "A"],
+        "bmake: \"makefile\" line 1: form is not built yet\n",
+    ),
+    (
+        "a source with a sign",
+        "t: V=1\n",
+        &["-V", "A"],
+        "bmake: \"makefile\" line 1: form is not built yet\n",
+    ),
+    (
+        "the output of a command in a makefile",
+        "V!=date\n",
+        &["-V", "A"],
+        "bmake: \"makefile\" line 1: form is not built yet\n",
+    ),
+    (
+        "two colons",
+        "t:: a\n",
+        &["-V", "A"],
+        "bmake: \"makefile\" line 1: form is not built yet\n",
+    ),
+    (
+        "a second rule",
+        "t: a\n\n# u\nu: a\n",
+        &["-V", "A"],
+        "bmake: \"makefile\" line 4: form is not built yet\n",
+    ),
+    (
+        "a target among its own sources",
+        "t: t\n\tput t x\n",
+        &[],
+        "bmake: \"makefile\" line 1: form is not built yet\n",
+    ),
+    (
+        "a directive",
+        "A=1\\\n2\n.if 1\n",
+        &["-V", "A"],
+        "bmake: \"makefile\" line 3: form is not built yet\n",
+    ),
+    (
+        "a makefile without a target has nothing to make",
+        "L=1\n",
+        &[],
+        "bmake: no target to make\n",
+    ),
+    (
+        "a target behind --",
+        "",
+        &["--", "-x"],
+        "bmake: don't know how to make -x\n",
+    ),
+    (
+        "a second --",
+        "",
+        &["--", "--"],
+        "bmake: don't know how to make --\n",
+    ),
+];
