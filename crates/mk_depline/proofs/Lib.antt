@@ -1,0 +1,3 @@
+mod BraceLemmas
+mod PieceLemmas
+mod PlaceLemmas

@@ -1,0 +1,5 @@
+pub mod Braces
+pub mod Lines
+pub mod Names
+pub mod View
+pub mod Words
