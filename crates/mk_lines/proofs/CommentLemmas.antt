@@ -1,13 +1,15 @@
 -- A line's comment and escapes, one unit of bytes after the other.
-use Rattle.std.proofs.Common.{zero, suc, ◌≤◌, Some, None}
+use Rattle.std.proofs.Common.{zero, suc, ◌≤◌, Option, Some, None, is_some}
+use Rattle.std.specs.List.{list_any}
 use Rattle.std.proofs.Common.{◌≡◌, ◌+◌, sym, ◌∙◌, append_assoc, length-drop, ◌≢◌, ℕ, ◌<◌, ◌++◌}
 use Rattle.std.proofs.Common.{◌==◌, ◌&&◌, true, false, if◌then◌else◌, List, [], ◌∷◌, length, take}
 use Rattle.std.proofs.Common.{drop, slice_index, refl, ap, arith}
+use Rattle.std.proofs.Math.Bool.{or-true}
 use Rattle.std.proofs.Math.Seq.{take-add, take-length}
-use Rattle.std.proofs.lemmas.List.{append-nil, drop_all, drop-drop, get_or-drop}
+use Rattle.std.proofs.lemmas.List.{append-nil, drop_all, drop-drop, get_or-drop, take-append-drop}
 use Rattle.std.proofs.lemmas.Bool.Decides.{nat_tests}
-use Rattle.std.proofs.lemmas.Bool.{ne_eqb, eq-eqb}
-use Rattle.memchr.specs.Find.{IsFirstByte, is_byte}
+use Rattle.std.proofs.lemmas.Bool.{ne_eqb, eq-eqb, false_from_ne_true}
+use Rattle.memchr.specs.Find.{IsFirstByte, is_byte, is_byte3}
 use Rattle.mk_bytes.specs.Bytes.{hash, square_open, backslash}
 use Rattle.mk_lines.specs.Comment.{is_pair, unit_len, before_comment, plain, unescaped}
 
@@ -57,6 +59,49 @@ before_comment-end line end over =
     let is_over : 0 < length (drop end line) → slice_index (drop end line) 0 ≡ hash
     = λ some. get_or-drop-zero line end ∙ over (omega (arith, rw length-drop at some)) in
     rw (before_comment-over (drop end line) is_over) (append-nil _)
+
+-- a byte that ends no run is kept
+before_comment-byte : (byte : ℕ) (rest : List ℕ) → is_byte3 hash backslash square_open byte ≡ false
+    → before_comment (byte ∷ rest) ≡ byte ∷ before_comment rest
+unfolding before_comment
+before_comment-byte byte [] is_other = grind (arith, nat_tests)
+before_comment-byte byte (next ∷ rest) is_other = grind (arith, nat_tests)
+
+-- and so is a run of them
+pub before_comment-run : (len : ℕ) (line : List ℕ) → len ≤ length line
+    → ((k : ℕ) → k < len → is_byte3 hash backslash square_open (slice_index line k) ≡ false)
+    → before_comment line ≡ take len line ++ before_comment (drop len line)
+before_comment-run zero line within is_other = refl
+before_comment-run (suc len) [] within is_other = absurd (omega arith)
+before_comment-run (suc len) (byte ∷ line) within is_other =
+    before_comment-byte byte line (is_other 0 (omega arith))
+    ∙ ap (λ more. byte ∷ more)
+    (before_comment-run len line (omega arith) (λ k under. is_other (suc k) (omega arith)))
+
+-- what is passed and what is kept of the rest, behind a run
+pub before_comment-skip : (line : List ℕ) (end run : ℕ)
+    → IsFirstByte (is_byte3 hash backslash square_open) (drop end line) (Some run)
+    → take (end + run) line ++ before_comment (drop (end + run) line)
+    ≡ take end line ++ before_comment (drop end line)
+before_comment-skip line end run found =
+    rw (take-add end run line, ← drop-drop run end line, append_assoc)
+    (ap (λ kept. take end line ++ kept)
+    (sym (before_comment-run run (drop end line) (omega (arith, found.0.high))
+    (λ k under. false_from_ne_true _ (found.0.before k (omega arith) under)))))
+
+-- a rest that is one run is kept
+pub before_comment-rest : (line : List ℕ) (end : ℕ)
+    → IsFirstByte (is_byte3 hash backslash square_open) (drop end line) None
+    → take end line ++ before_comment (drop end line) ≡ line
+before_comment-rest line end none =
+    let rest = drop end line in
+    let nothing : before_comment [] ≡ [] = before_comment-over [] (λ some. absurd (omega arith)) in
+    let all : before_comment rest ≡ rest =
+    before_comment-run (length rest) rest (omega arith)
+    (λ k under. false_from_ne_true _ (none k (omega arith) under))
+    ∙ rw (take-length rest, drop_all (length rest) rest (omega arith), nothing) (append-nil rest)
+    in
+    rw all (take-append-drop end line)
 
 plain-byte : (byte : ℕ) → plain (byte ∷ []) ≡ byte ∷ []
 plain-byte byte =
@@ -131,3 +176,26 @@ unescaped-without line none =
     (λ k under is. none k (omega arith) under (eq-eqb _ _ is))
     ∙ rw (take-length line, drop_all (length line) line (omega arith), unescaped-none)
     (append-nil line)
+
+-- whether a byte is found, and whether there is one
+pub list_any-none : (byte : ℕ) (line : List ℕ)
+    → ((k : ℕ) → k < length line → is_byte byte (slice_index line k) ≡ false)
+    → list_any (is_byte byte) line ≡ false
+list_any-none byte [] none = refl
+list_any-none byte (first ∷ line) none =
+    rw (none 0 (omega arith), list_any-none byte line (λ k under. none (suc k) (omega arith))) refl
+
+pub list_any-some : (byte : ℕ) (line : List ℕ) (at : ℕ) → at < length line
+    → is_byte byte (slice_index line at) ≡ true → list_any (is_byte byte) line ≡ true
+list_any-some byte [] at within is = absurd (omega arith)
+list_any-some byte (first ∷ line) zero within is = rw is refl
+list_any-some byte (first ∷ line) (suc at) within is =
+    rw (list_any-some byte line at (omega arith) is) (or-true (is_byte byte first))
+
+pub list_any-found : (byte : ℕ) (line : List ℕ) (found : Option ℕ)
+    → IsFirstByte (is_byte byte) line found → is_some found ≡ list_any (is_byte byte) line
+list_any-found byte line None none =
+    sym (list_any-none byte line
+    (λ k under. false_from_ne_true _ (none k (omega arith) under)))
+list_any-found byte line (Some at) found =
+    sym (list_any-some byte line at (omega (arith, found.0.high)) found.1)

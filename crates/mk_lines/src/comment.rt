@@ -1,22 +1,29 @@
 //! Comments: a `#` and what follows it, in lines that are no commands (make(1), "COMMENTS").
 ghost use Rattle.std.specs.Prelude.{◌≡◌, ◌+◌, ◌<◌, ◌≤◌, ◌++◌, length, reverse, take_while, IfOk};
+ghost use Rattle.std.specs.Cow.{cow_slice_items};
 ghost use Rattle.mk_bytes.specs.Bytes.{is_blank};
 ghost use Rattle.mk_lines.specs.Comment as spec;
 
-use memchr::memchr;
-use mk_bytes::{NoMemory, Text};
+use memchr::{memchr, memchr3};
+use mk_bytes::NoMemory;
 use std::alloc::Global;
+use std::borrow::CowSlice;
 
 /// A logical line without its comment and its final blanks (spaces and tabs), as make(1) reads a
 /// line that is no command.
 ///
 /// The comment begins at the first `#` that is not escaped and does not stand directly after `[`.
 /// Backslashes pair off from the left: `\#` becomes `#`, and in `\\#` the `#` begins the comment.
-/// Every other backslash stays, and so do leading blanks. `NoMemory` where memory ran out.
-pub fn cut_comment(alloc: Global, line: &[u8]) -> Result<Text, NoMemory>
-    ensures { IfOk result (λ text. text ≡ spec.cut_comment line.now) }
+/// Every other backslash stays, and so do leading blanks. A line without backslashes is not copied.
+/// `NoMemory` where memory ran out.
+pub fn cut_comment<'t>(alloc: Global, line: &'t [u8]) -> Result<CowSlice<'t, u8>, NoMemory>
+    ensures { IfOk result (λ text. cow_slice_items text ≡ spec.cut_comment line.now) }
 {
-    unescape(alloc, trim(before_comment(line)))
+    let kept = trim(before_comment(line));
+    match memchr(b'\\', kept) {
+        None => Ok(CowSlice::Borrowed(kept)),
+        Some(_) => Ok(CowSlice::Owned(unescape(alloc, kept)?)),
+    }
 }
 
 // What stands before a line's comment.
@@ -24,10 +31,14 @@ fn before_comment<'t>(line: &'t [u8]) -> &'t [u8]
     ensures { result.now ≡ spec.before_comment line.now }
 {
     let mut end = 0;
-    while end < line.len() && line[end] != b'#' {
+    'units: while let Some(skipped) = memchr3(b'#', b'\\', b'[', &line[end..]) {
+        end += skipped;
+        if line[end] == b'#' {
+            return &line[..end];
+        }
         end += unit_len(&line[end..]);
     }
-    &line[..end]
+    line
 }
 
 // How many bytes are read as one at the start of a line: those of a pair, or a single byte.
@@ -66,19 +77,19 @@ fn final_blanks(line: &[u8]) -> usize
 }
 
 // A line with `\#` as `#`.
-fn unescape(alloc: Global, line: &[u8]) -> Result<Text, NoMemory>
-    ensures { IfOk result (λ text. text ≡ spec.unescaped line.now) }
+fn unescape(alloc: Global, line: &[u8]) -> Result<Vec<u8>, NoMemory>
+    ensures { IfOk result (λ text. text.items ≡ spec.unescaped line.now) }
 {
-    let mut text = Text::new(alloc);
+    let mut text = Vec::new(alloc);
     let mut rest = line;
     while let Some(place) = memchr(b'\\', rest) {
         let (run, escape) = rest.split_at(place);
         let (unit, after) = escape.split_at(unit_len(escape));
-        text.push(run)?;
-        text.push(plain(unit))?;
+        text.extend_from_slice(run)?;
+        text.extend_from_slice(plain(unit))?;
         rest = after;
     }
-    text.push(rest)?;
+    text.extend_from_slice(rest)?;
     Ok(text)
 }
 

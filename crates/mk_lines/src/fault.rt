@@ -5,6 +5,7 @@ ghost use Rattle.mk_lines.specs.Lines.{physical_lines, line_groups};
 ghost use Rattle.mk_lines.specs.Faults as spec;
 
 use crate::physical::{PhysicalLines, is_continued, without_indent};
+use memchr::memchr;
 use mk_bytes::NoMemory;
 
 const MAX_LEN: usize = 1_048_576;
@@ -87,7 +88,7 @@ fn check_zero(number: u32, line: &[u8]) -> Result<(), LineFault>
 fn holds_zero(line: &[u8]) -> bool
     ensures { result ≡ spec.holds_zero line.now }
 {
-    line.iter().any(|byte| *byte == 0)
+    memchr(0, line).is_some()
 }
 
 fn check_len(first: u32, len: usize) -> Result<(), LineFault>

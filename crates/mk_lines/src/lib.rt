@@ -14,4 +14,4 @@ mod physical;
 
 pub use comment::cut_comment;
 pub use fault::{LineFault, check};
-pub use line::{LineCursor, LogLine, LogLines, logical_lines};
+pub use line::{LineCursor, LineRef, LogLine, LogLines, logical_lines};

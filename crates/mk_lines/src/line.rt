@@ -10,6 +10,7 @@ use crate::fault::{LineFault, check};
 use crate::physical::{PhysicalLines, is_continued, without_indent};
 use mk_bytes::{Items, NoMemory, Text};
 use std::alloc::Global;
+use std::borrow::CowSlice;
 use std::marker::Model;
 
 /// A logical line.
@@ -34,9 +35,52 @@ pub fn logical_lines(alloc: Global, text: &[u8]) -> Result<LogLines, LineFault>
     let mut lines = Items::new(alloc, 0)?;
     let mut cursor = LineCursor::new(text);
     'lines: while let Some(line) = cursor.next_line(alloc)? {
-        lines.push(line)?;
+        lines.push(line.copy(alloc)?)?;
     }
     Ok(lines)
+}
+
+/// A logical line of a text that is being read. Contracts see the line.
+#[derive(Debug, Drop)]
+pub struct LineRef<'t> {
+    first: u32,
+    // A part of the text, or the bytes of several physical lines, joined.
+    text: CowSlice<'t, u8>,
+}
+
+impl<'t> Model for LineRef<'t> {
+    ghost use Rattle.std.specs.Cow.{cow_slice_items};
+    ghost use Rattle.mk_lines.specs.declared.line.LogLine.{LogLine};
+
+    ghost Value = { LogLine };
+
+    ghost view = { λ line. record { first = line.first; text = cow_slice_items line.text } };
+}
+
+impl<'t> LineRef<'t> {
+    /// The number of its first physical line, counted from 1.
+    pub fn first(&self) -> u32
+        ensures { result ≡ self.now.first }
+    {
+        self.first
+    }
+
+    /// Its bytes, without a newline and with its comment.
+    pub fn bytes(&self) -> &[u8]
+        ensures { result.now ≡ self.now.text }
+    {
+        self.text.as_slice()
+    }
+
+    /// The same line with bytes of its own.
+    pub fn copy(&self, alloc: Global) -> Result<LogLine, NoMemory>
+        ensures { IfOk result (λ line. line ≡ self.now) }
+    {
+        Ok(LogLine {
+            first: self.first,
+            text: Text::from_bytes(alloc, self.text.as_slice())?,
+        })
+    }
 }
 
 /// The logical lines of a text, one after the other: those of [`logical_lines`]. Contracts see the
@@ -79,9 +123,9 @@ impl<'t> LineCursor<'t> {
         LineCursor { lines: self.lines }
     }
 
-    /// Takes the next logical line; `None` for good after the last. Where memory runs out, the
-    /// cursor is left as it was.
-    pub fn next_line(&mut self, alloc: Global) -> Result<Option<LogLine>, NoMemory>
+    /// Takes the next logical line; `None` for good after the last. A line that is one physical
+    /// line takes no memory. Where memory runs out, the cursor is left as it was.
+    pub fn next_line(&mut self, alloc: Global) -> Result<Option<LineRef<'t>>, NoMemory>
         ensures first { IfOk result (λ line. line ≡ slice_get self.old 0) }
         ensures rest { OnOk result (self.new ≡ drop 1 self.old) }
         ensures err { OnErr result (self.new ≡ self.old) }
@@ -101,29 +145,48 @@ fn read_line<'t>(
     alloc: Global,
     lines: &mut PhysicalLines<'t>,
     first: &'t [u8],
-) -> Result<LogLine, NoMemory>
+) -> Result<LineRef<'t>, NoMemory>
     ensures { IfOk result (λ line.
         spec.lines_of lines.old.done
         (spec.line_groups (first.now ∷ spec.physical_lines lines.old.rest.now))
         ≡ line ∷ spec.lines_from (lines.new.done + 1) lines.new.rest.now) }
 {
     let number = lines.done;
-    let mut text = Text::new(alloc);
+    if is_continued(first) {
+        let text = CowSlice::Owned(join(alloc, lines, first)?);
+        return Ok(LineRef {
+            first: number,
+            text,
+        });
+    }
+    Ok(LineRef {
+        first: number,
+        text: CowSlice::Borrowed(first),
+    })
+}
+
+// The bytes of the logical line that begins with the physical line just taken.
+fn join<'t>(
+    alloc: Global,
+    lines: &mut PhysicalLines<'t>,
+    first: &'t [u8],
+) -> Result<Vec<u8>, NoMemory>
+    ensures { IfOk result (λ text.
+        spec.lines_of lines.old.done
+        (spec.line_groups (first.now ∷ spec.physical_lines lines.old.rest.now))
+        ≡ record { first = lines.old.done; text = text.items }
+        ∷ spec.lines_from (lines.new.done + 1) lines.new.rest.now) }
+{
+    let mut text = Vec::new(alloc);
     let mut piece = first;
     while is_continued(piece) {
-        text.push(&piece[..piece.len() - 1])?;
+        text.extend_from_slice(&piece[..piece.len() - 1])?;
         let Some(next) = lines.take_line() else {
-            return Ok(LogLine {
-                first: number,
-                text,
-            });
+            return Ok(text);
         };
-        text.push(b" ")?;
+        text.extend_from_slice(b" ")?;
         piece = without_indent(next);
     }
-    text.push(piece)?;
-    Ok(LogLine {
-        first: number,
-        text,
-    })
+    text.extend_from_slice(piece)?;
+    Ok(text)
 }

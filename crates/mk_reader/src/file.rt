@@ -11,7 +11,7 @@ use crate::fault::{ReadFault, Refusal, What};
 use crate::state::State;
 use crate::step::read_line;
 use mk_bytes::Text;
-use mk_lines::{LineCursor, LineFault, LogLine, check};
+use mk_lines::{LineCursor, LineFault, LineRef, check};
 use std::alloc::Global;
 
 // A fault at a line of a file.
@@ -52,14 +52,14 @@ fn read_line_of(
     alloc: Global,
     file: &[u8],
     state: &mut State,
-    line: &LogLine,
+    line: &LineRef<'_>,
 ) -> Result<(), ReadFault>
     ensures { Agrees no_memory (λ _. state.new) result
         (spec.at_line file.now line.now.first (steps.line_read state.old line.now.text)) }
 {
-    match read_line(alloc, state, line.text.bytes()) {
+    match read_line(alloc, state, line.bytes()) {
         Ok(()) => Ok(()),
-        Err(fault) => Err(placed(alloc, file, line.first, fault)),
+        Err(fault) => Err(placed(alloc, file, line.first(), fault)),
     }
 }
 

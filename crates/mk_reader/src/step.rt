@@ -25,7 +25,7 @@ pub fn read_line(alloc: Global, state: &mut State, text: &[u8]) -> Result<(), Re
         [b'\t', command @ ..] => read_command(alloc, state, command),
         _ => {
             let line = cut_comment(alloc, text)?;
-            read_plain(alloc, state, without_spaces(line.bytes()))
+            read_plain(alloc, state, without_spaces(line.as_slice()))
         }
     }
 }

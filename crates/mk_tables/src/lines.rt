@@ -1,6 +1,8 @@
 //! Logical lines, their faults, and lines without comments.
 use mk_lines::LineFault::{TooLong, Zero};
-use mk_lines::{LineCursor, LineFault, LogLine, LogLines, check, cut_comment, logical_lines};
+use mk_lines::{
+    LineCursor, LineFault, LineRef, LogLine, LogLines, check, cut_comment, logical_lines,
+};
 use std::alloc::{AllocError, Global};
 use std::process::Abort;
 use std::test::Fail;
@@ -27,6 +29,11 @@ fn assert_line(rt: &impl Abort, shows: &str, line: &LogLine, first: u32, text: &
     assert_eq!(rt; line.text.bytes(), text, "{shows}");
 }
 
+fn assert_next(rt: &impl Abort, shows: &str, line: &LineRef<'_>, first: u32, text: &[u8]) {
+    assert_eq!(rt; line.first(), first, "{shows}");
+    assert_eq!(rt; line.bytes(), text, "{shows}");
+}
+
 fn assert_lines(rt: &impl Abort, shows: &str, lines: &LogLines, wanted: &[(u32, &[u8])]) {
     assert_eq!(rt; lines.len(), wanted.len(), "{shows}");
     for (line, (first, text)) in lines.as_slice().iter().zip(wanted) {
@@ -51,12 +58,12 @@ fn cursor_gives_lines_and_then_none(rt: HostRuntime) -> Result<(), Fail> {
     let mut copy = cursor.copy();
     for (first, text) in [(1, b"a  b".as_slice()), (3, b"c".as_slice())] {
         let line = cursor.next_line(rt.alloc())?.expect(&rt, "a line");
-        assert_line(&rt, "the cursor", &line, first, text);
+        assert_next(&rt, "the cursor", &line, first, text);
     }
     assert!(rt; cursor.next_line(rt.alloc())?.is_none());
     assert!(rt; cursor.next_line(rt.alloc())?.is_none());
     let line = copy.next_line(rt.alloc())?.expect(&rt, "a line");
-    assert_line(&rt, "the copy", &line, 1, b"a  b");
+    assert_next(&rt, "the copy", &line, 1, b"a  b");
     Ok(())
 }
 
@@ -125,7 +132,7 @@ fn comments_are_cut(rt: HostRuntime) -> Result<(), Fail> {
     for row in &COMMENTS {
         let (shows, line, wanted) = *row;
         let text = cut_comment(rt.alloc(), line)?;
-        assert_eq!(rt; text.bytes(), wanted, "{shows}");
+        assert_eq!(rt; text.as_slice(), wanted, "{shows}");
     }
     Ok(())
 }

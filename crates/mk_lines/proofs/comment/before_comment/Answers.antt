@@ -1,32 +1,52 @@
-use Rattle.std.proofs.Common.{◌≡◌, ◌-◌, ◌≤◌, length, take, drop, sym, ◌∙◌, arith, length-drop}
+use Rattle.std.proofs.Common.{◌≡◌, ◌+◌, ◌-◌, ◌<◌, ◌≤◌, length, take, drop, Some, None, sym, ◌∙◌, arith, length-drop}
 use Rattle.std.proofs.lemmas.List.{take_all}
+use Rattle.memchr.specs.Find.{IsFirstByte, is_byte3}
+use Rattle.mk_bytes.specs.Bytes.{hash, square_open, backslash}
 use Rattle.mk_lines.specs.Comment.{unit_len}
-use Rattle.mk_lines.proofs.CommentLemmas.{before_comment-step, before_comment-end}
+use Rattle.mk_lines.proofs.CommentLemmas.{before_comment-step, before_comment-end, before_comment-skip, before_comment-rest}
 use Rattle.mk_lines.proofs.comment.before_comment.Goals as goal
-use Rattle.mk_lines.proofs.comment.before_comment.Goals.{then-loop-end-test+else-line-end-ne35}
-use Rattle.mk_lines.proofs.comment.before_comment.Goals.{else-loop-end-test}
 
-pub loop-end-preserved : goal.loop-end-preserved
-loop-end-preserved c =
+pub returns-then-line-end-eq35 : goal.returns-then-line-end-eq35
+returns-then-line-end-eq35 c =
     let line = c.args.line.now in
-    let end = c.loop-end.end in
+    let end = c.units.end in
+    let run = c.in-Some.skipped in
     let rest : take (length line - end) (drop end line) ≡ drop end line
     = take_all _ _ (omega (arith, length-drop end line)) in
-    let len : c.unit_len-end.result ≡ unit_len (drop end line)
-    = rw rest at c.unit_len-end.ensures.len in
-    let within : c.unit_len-end.result ≤ length (drop end line)
-    = rw rest at c.unit_len-end.ensures.within in
+    let found : IsFirstByte (is_byte3 hash backslash square_open) (drop end line) (Some run)
+    = rw rest at c.in-Some.ensures in
+    sym (before_comment-end line (end + run) (λ under. c.if-line-end-eq35.true))
+    ∙ before_comment-skip line end run found ∙ c.units.invariant.kept
+
+pub units-preserved : goal.units-preserved
+units-preserved c =
+    let line = c.args.line.now in
+    let end = c.units.end in
+    let run = c.in-Some.skipped in
+    let rest : take (length line - end) (drop end line) ≡ drop end line
+    = take_all _ _ (omega (arith, length-drop end line)) in
+    let found : IsFirstByte (is_byte3 hash backslash square_open) (drop end line) (Some run)
+    = rw rest at c.in-Some.ensures in
+    let inside : run < length (drop end line) = found.0.high in
+    let here : end + run < length line = omega (arith, inside, length-drop end line) in
+    let left : take (length line - (end + run)) (drop (end + run) line) ≡ drop (end + run) line
+    = take_all _ _ (omega (arith, length-drop (end + run) line)) in
+    let len : c.unit_len-end.result ≡ unit_len (drop (end + run) line)
+    = rw left at c.unit_len-end.ensures.len in
+    let within : c.unit_len-end.result ≤ length (drop (end + run) line)
+    = rw left at c.unit_len-end.ensures.within in
     record {
-      within = omega (arith, length-drop end line);
-      kept = before_comment-step line end _ c.loop-end-test.true c.if-line-end-ne35.true len
-          ∙ c.loop-end.invariant.kept;
+      within = omega (arith, here, within, length-drop (end + run) line);
+      kept = before_comment-step line (end + run) _ here c.if-line-end-eq35.false len
+          ∙ before_comment-skip line end run found ∙ c.units.invariant.kept;
     }
 
 pub returns : goal.returns
 returns c =
-    sym (before_comment-end c.args.line.now c.loop-end.end (λ under.
-    elim c.loop-end-test.branch [
-      | then-loop-end-test+else-line-end-ne35 w ↦ w.if-line-end-ne35.false
-      | else-loop-end-test w ↦ absurd (omega arith)
-    ]))
-    ∙ c.loop-end.invariant.kept
+    let line = c.args.line.now in
+    let end = c.units.end in
+    let rest : take (length line - end) (drop end line) ≡ drop end line
+    = take_all _ _ (omega (arith, length-drop end line)) in
+    let none : IsFirstByte (is_byte3 hash backslash square_open) (drop end line) None
+    = rw rest at c.in_default.ensures in
+    sym (before_comment-rest line end none) ∙ c.units.invariant.kept

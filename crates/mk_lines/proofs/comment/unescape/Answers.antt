@@ -8,16 +8,16 @@ loop-place-preserved c =
     let place = c.in-Some.place in
     let unit = c.split_at-in-Some.ensures in
     let escape = c.split_at.ensures in
-    rw (c.in_ok-push-2.ensures.ok, c.in_ok-push.ensures.ok, c.plain.ensures)
+    rw (c.in_ok-extend_from_slice-2.ensures.items, c.in_ok-extend_from_slice.ensures.items, c.plain.ensures)
     (rw (unit.front, unit.back, c.unit_len.ensures.len, escape.front, escape.back)
     (simp append_assoc
-    (ap (λ more. l.text ++ more)
+    (ap (λ more. l.text.items ++ more)
     (sym (unescaped-escape l.rest.now place c.in-Some.ensures))
     ∙ l.invariant)))
 
 pub returns : goal.returns
 returns c =
     let l = c.loop-place in
-    rw c.in_ok-push-3.ensures.ok
-    (ap (λ more. l.text ++ more) (sym (unescaped-without l.rest.now c.in_default.ensures))
+    rw c.in_ok-extend_from_slice-3.ensures.items
+    (ap (λ more. l.text.items ++ more) (sym (unescaped-without l.rest.now c.in_default.ensures))
     ∙ l.invariant)

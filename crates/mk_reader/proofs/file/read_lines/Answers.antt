@@ -14,6 +14,16 @@ lines-preserved c =
     c.in-Some.line first c.in_ok-read_line_of.ensures)
     ∙ l.invariant)
 
+pub lines-preserved-in_ok-read_line_of : goal.lines-preserved-in_ok-read_line_of
+lines-preserved-in_ok-read_line_of c =
+    let l = c.lines in
+    let first : slice_get l.cursor 0 ≡ Some c.in-Some.line =
+    sym c.in_ok-line.ensures.first ∙ c.in-Some.is in
+    rw c.in_ok-line.ensures.rest
+    (sym (lines_read-line c.args.file.now l.state c.read_line_of.new.state l.cursor
+    c.in-Some.line first c.in_ok-read_line_of.ensures)
+    ∙ l.invariant)
+
 pub returns-in_err-read_line_of : goal.returns-in_err-read_line_of
 returns-in_err-read_line_of c =
     let l = c.lines in
