@@ -1,4 +1,6 @@
 pub mod ChainLemmas
+pub mod LimitLemmas
+pub mod LongLemmas
 pub mod NumberLemmas
 pub mod OrderLemmas
 pub mod PieceLemmas

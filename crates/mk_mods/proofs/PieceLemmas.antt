@@ -1,5 +1,7 @@
 -- Pieces of a region that grows.
 use Rattle.std.proofs.Common.{◌≡◌, ℕ, ◌+◌, ◌-◌, ◌≤◌, List, [], ◌∷◌, ◌++◌, length, take, drop, max, slice_range, get_or, zero, suc, ◌<◌, refl, sym, ap, ◌∙◌, arith}
+use Rattle.std.proofs.Common.{length-append, append_assoc}
+use Rattle.std.proofs.Math.Seq.{take-append-add, drop-append_seam, take-length}
 use Rattle.std.proofs.lemmas.Grind.{common_steps}
 use Rattle.std.proofs.lemmas.List.{drop-take, take-take, drop-drop}
 use Rattle.mk_pool.specs.declared.region.Piece.{Piece}
@@ -8,6 +10,26 @@ use Rattle.mk_mods.specs.Pieces.{bytes_of, texts_of, furthest, Shows, Begins}
 
 pub Begins-append : (old more : List ℕ) → Begins old (old ++ more)
 Begins-append old more = grind (arith, common_steps)
+
+pub Begins-under : (old first second : List ℕ) → Begins first second
+    → Begins (old ++ first) (old ++ second)
+Begins-under old first second begins =
+    rw (length-append, take-append-add old second (length first), begins) refl
+
+-- bytes that come behind others in a region
+pub bytes_of-new : (region before text : List ℕ) (start end : ℕ)
+    → start ≡ length region + length before → end ≡ length region + length (before ++ text)
+    → bytes_of (region ++ (before ++ text)) (record { start = start; end = end }) ≡ text
+bytes_of-new region before text start end first last =
+    let at : start ≡ length (region ++ before) = rw length-append first in
+    let long : length (before ++ text) ≡ length before + length text = rw length-append refl in
+    let len : end - start ≡ length text = omega (arith, first, last, long) in
+    let there : drop start (region ++ (before ++ text)) ≡ text =
+    ap (drop start) (sym (append_assoc region before text))
+    ∙ ap (λ n. drop n ((region ++ before) ++ text)) at
+    ∙ drop-append_seam (region ++ before) text
+    in
+    rw (there, len) (take-length text)
 
 pub Begins-refl : (old : List ℕ) → Begins old old
 Begins-refl old = grind (arith, common_steps)

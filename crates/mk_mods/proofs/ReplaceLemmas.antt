@@ -77,6 +77,15 @@ replaced-more from to (byte ∷ bytes) at some found =
     ∙ ap (λ more. take at word ++ to ++ more)
     (replaced-enough (length bytes) (length rest) from to rest some left (omega arith))
 
+-- all places
+pub replaced_within-all : (from to word : List ℕ) (all : Bool) (at : ℕ) → all ≡ true
+    → bytes_eq from [] ≡ false → 0 < length from → first_place from word ≡ Some at
+    → replaced_within from to all word
+    ≡ Some (take at word ++ to
+    ++ replaced (length (drop (at + length from) word)) from to (drop (at + length from) word))
+replaced_within-all from to word all at is other some found =
+    rw (is, other, found) (ap Some (replaced-more from to word at some found))
+
 -- the first place alone
 pub replaced_within-first : (from to word : List ℕ) (all : Bool) (at : ℕ) → all ≡ false
     → bytes_eq from [] ≡ false → first_place from word ≡ Some at
@@ -89,6 +98,19 @@ replaced_within-first from to word all at once some found =
 pub not_empty : (bytes : List ℕ) → (length bytes == 0) ≡ false → bytes_eq bytes [] ≡ false
 not_empty [] is = is
 not_empty (byte ∷ bytes) is = refl
+
+pub some_bytes : (bytes : List ℕ) → (length bytes == 0) ≡ false → 0 < length bytes
+some_bytes [] is = cc
+some_bytes (byte ∷ bytes) is = omega arith
+
+pub word_changed-none : (ready : Bool) (change : List ℕ → Option (List ℕ)) (word : List ℕ)
+    → change word ≡ None → word_changed ready change word ≡ word
+word_changed-none true change word none = rw none refl
+word_changed-none false change word none = refl
+
+pub word_changed-some : (ready : Bool) (change : List ℕ → Option (List ℕ)) (word new : List ℕ)
+    → ready ≡ true → change word ≡ Some new → word_changed ready change word ≡ new
+word_changed-some ready change word new is some = rw (is, some) refl
 
 -- what becomes of words while none is changed yet, or all may be
 abbrev pub rest_changed : Bool → Bool → (List ℕ → Option (List ℕ)) → List (List ℕ) → List (List ℕ)

@@ -1,12 +1,14 @@
 -- Places that a search finds.
 use Rattle.std.proofs.Common.{◌≡◌, ℕ, zero, suc, ◌+◌, ◌<◌, ◌≤◌, Bool, true, false, cond, List, [], ◌∷◌, Option, Some, None, option_map, length, take, drop, get_or, refl, sym, ap, subst, ◌∙◌, inl, inr, ⊎_elim, ◌⊎◌, arith}
-use Rattle.std.proofs.lemmas.Bool.{true≢false, cases_order}
+use Rattle.std.proofs.Common.{slice_index}
+use Rattle.std.proofs.lemmas.Bool.{true≢false, cases_order, eq-eqb}
+use Rattle.std.proofs.lemmas.Bool.Decides.{nat_tests}
 use Rattle.std.proofs.lemmas.Grind.{common_steps}
 use Rattle.std.proofs.lemmas.Slice.Eq.{bytes_eq-Decides}
 use Rattle.std.specs.List.{starts_with}
 use Rattle.std.specs.Prelude.{nat_eq}
 use Rattle.std.specs.Str.{bytes_eq}
-use Rattle.memchr.specs.Find.{IsLastByte, FindsNeedle, OccursAt}
+use Rattle.memchr.specs.Find.{IsFirstByte, IsLastByte, FindsNeedle, OccursAt, is_byte}
 use Rattle.memchr.proofs.lemmas.MatchLemmas.{OccursAt-part, OccursAt-from_part}
 use Rattle.mk_mods.specs.Parts.{last_place, found_after}
 use Rattle.mk_mods.specs.Substitution.{first_place}
@@ -223,3 +225,47 @@ pub first_place-fits : (text word : List ℕ) (at : ℕ) → first_place text wo
 first_place-fits text word at is =
     let found = first_is text word at is in
     (to_occurs word text at found.within found.stands).fits
+
+reads_byte : (byte : ℕ) (word : List ℕ) (at : ℕ) → slice_index word at ≡ byte
+    → (j : ℕ) → j < 1 → slice_index word (at + j) ≡ slice_index (byte ∷ []) j
+reads_byte byte word at is zero under =
+    let same : at + 0 ≡ at = omega arith in rw same is
+reads_byte byte word at is (suc j) under = absurd (omega (arith, under))
+
+occurs_byte : (byte : ℕ) (word : List ℕ) (at : ℕ) → at < length word → slice_index word at ≡ byte
+    → OccursAt word (byte ∷ []) at
+occurs_byte byte word at within is = record {
+  fits = omega (arith, within);
+  reads = reads_byte byte word at is;
+}
+
+byte_occurs : (byte : ℕ) (word : List ℕ) (at : ℕ) → OccursAt word (byte ∷ []) at
+    → (at < length word) × (is_byte byte (slice_index word at) ≡ true)
+byte_occurs byte word at occurs =
+    let same : at + 0 ≡ at = omega arith in
+    let reads : slice_index word at ≡ byte = rw same at (occurs.reads 0 (omega arith)) in
+    (omega (arith, occurs.fits), eq-eqb _ _ reads)
+
+-- a text of one byte is found where the byte is
+pub first_place-byte : (byte : ℕ) (word : List ℕ) (answer : Option ℕ)
+    → IsFirstByte (is_byte byte) word answer → answer ≡ first_place (byte ∷ []) word
+first_place-byte byte word None none =
+    first_place-is (byte ∷ []) word None (λ k low high occurs.
+    let here = byte_occurs byte word k occurs in none k low here.0 here.1)
+first_place-byte byte word (Some at) found =
+    let is : slice_index word at ≡ byte = grind (arith, nat_tests, found.1) in
+    first_place-is (byte ∷ []) word (Some at) (
+      record {
+        low = found.0.low;
+        high = omega (arith, found.0.high);
+        before = λ k low high occurs.
+            let here = byte_occurs byte word k occurs in found.0.before k low high here.1;
+      },
+      occurs_byte byte word at found.0.high is,
+    )
+
+pub first_place-one : (text word : List ℕ) (answer : Option ℕ) → 1 ≤ length text → length text < 2
+    → IsFirstByte (is_byte (slice_index text 0)) word answer → answer ≡ first_place text word
+first_place-one [] word answer some one found = absurd (omega (arith, some))
+first_place-one (byte ∷ []) word answer some one found = first_place-byte byte word answer found
+first_place-one (byte ∷ next ∷ rest) word answer some one found = absurd (omega (arith, one))

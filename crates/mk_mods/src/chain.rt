@@ -1,14 +1,18 @@
 //! One modifier after the other.
-ghost use Rattle.std.specs.Prelude.{◌≡◌, ◌≤◌, [], ◌∷◌, length, codes, false, IsTrue, IfOk};
+ghost use Rattle.std.specs.Prelude.{◌≡◌, ◌≤◌, [], ◌∷◌, length, codes, false, unwrap_or, IsTrue};
+ghost use Rattle.std.specs.Prelude.{IfOk, IfErr, Err};
 ghost use Rattle.std.specs.Str.{bytes_eq};
-ghost use Rattle.mk_bytes.specs.Agrees.{Agrees};
-ghost use Rattle.mk_mods.specs.Limits.{or_bad_place};
+ghost use Rattle.mk_bytes.specs.Agrees.{Agrees, AgreesBut};
+ghost use Rattle.mk_mods.specs.Limits.{or_bad_place, limited, IsEarly, AreTooLong};
 ghost use Rattle.mk_mods.specs.Modifiers as spec;
 ghost use Rattle.mk_mods.specs.Places as places;
 ghost use Rattle.mk_mods.specs.State as state;
 ghost use Rattle.mk_mods.specs.Pieces.{seen, end_of, bytes_of, texts_of, furthest, has_words};
 ghost use Rattle.mk_mods.specs.Pieces.{places_no_words, places_nothing, Shows, Begins};
-ghost use Rattle.mk_mods.specs.declared.fault.ModFault.TheVariants.{NoMemory as no_memory};
+ghost use Rattle.mk_mods.specs.declared.fault.ModFault.TheVariants.{
+  NoMemory as no_memory,
+  TooLong as too_long,
+};
 
 use crate::choice::{keep_filled, matching};
 use crate::fault::ModFault;
@@ -153,11 +157,14 @@ fn change(
     region: &mut Region,
     modifier: &Mod,
     words: Vec<Piece>,
-) -> Result<Vec<Piece>, NoMemory>
+) -> Result<Vec<Piece>, ModFault>
     requires { furthest words.items ≤ length region.old.bytes }
     ensures shown { IfOk result (λ new. Shows region.new.bytes new.items
         (spec.change modifier.now (texts_of region.old.bytes words.items))) }
     ensures begins { Begins region.old.bytes region.new.bytes }
+    ensures long { result ≡ Err too_long
+        → AreTooLong (spec.change modifier.now (texts_of region.old.bytes words.items)) }
+    ensures early { IfErr result IsEarly }
     ensures unchanged { spec.is_change modifier.now ≡ false → region.new.bytes ≡ region.old.bytes }
 {
     match modifier {
@@ -186,7 +193,7 @@ fn change(
             };
             change_words(alloc, region, change, false, words.as_slice())
         }
-        _ => choose(alloc, region, modifier, words),
+        _ => Ok(choose(alloc, region, modifier, words)?),
     }
 }
 
@@ -198,8 +205,11 @@ fn of_words(
     words: Vec<Piece>,
 ) -> Result<Vec<Piece>, ModFault>
     requires { furthest words.items ≤ length region.old.bytes }
-    ensures shown { Agrees no_memory (λ new. texts_of region.new.bytes new.items) result
+    ensures shown { AgreesBut IsEarly (λ new. texts_of region.new.bytes new.items) result
         (or_bad_place (spec.of_words modifier.now (texts_of region.old.bytes words.items))) }
+    ensures long { result ≡ Err too_long
+        → AreTooLong (unwrap_or
+        (spec.of_words modifier.now (texts_of region.old.bytes words.items)) []) }
     ensures within { IfOk result (λ new. furthest new.items ≤ length region.new.bytes) }
     ensures begins { Begins region.old.bytes region.new.bytes }
     ensures unchanged { IsTrue (places_no_words modifier.now)
@@ -208,7 +218,7 @@ fn of_words(
     match modifier {
         Mod::Select(text) => select(alloc, region, text.bytes(), words.as_slice()),
         Mod::Range(text) => range(alloc, region, text.bytes(), words.as_slice()),
-        _ => Ok(change(alloc, region, modifier, words)?),
+        _ => change(alloc, region, modifier, words),
     }
 }
 
@@ -242,8 +252,10 @@ fn is_whole(modifier: &Mod) -> bool
 // The state in which the words that a modifier works on are changed.
 fn worked(alloc: Global, region: &mut Region, val: Val, modifier: &Mod) -> Result<Val, ModFault>
     requires { end_of val ≤ length region.old.bytes }
-    ensures shown { Agrees no_memory (seen region.new.bytes) result
+    ensures shown { AgreesBut IsEarly (seen region.new.bytes) result
         (or_bad_place (spec.worked modifier.now (seen region.old.bytes val))) }
+    ensures long { result ≡ Err too_long
+        → limited (spec.worked modifier.now (seen region.old.bytes val)) ≡ Err too_long }
     ensures within { IfOk result (λ new. end_of new ≤ length region.new.bytes) }
     ensures begins { Begins region.old.bytes region.new.bytes }
     ensures unchanged { IsTrue (places_no_words modifier.now) → IsTrue (has_words val)
@@ -289,27 +301,32 @@ fn items(
     region: &mut Region,
     val: &Val,
     modifier: &Mod,
-) -> Result<Vec<Piece>, NoMemory>
+) -> Result<Vec<Piece>, ModFault>
     requires { end_of val.now ≤ length region.old.bytes }
     ensures shown { IfOk result (λ items. Shows region.new.bytes items.items
         (spec.items modifier.now (seen region.old.bytes val.now))) }
+    ensures long { result ≡ Err too_long
+        → limited (spec.changed modifier.now (seen region.old.bytes val.now)) ≡ Err too_long }
+    ensures early { IfErr result IsEarly }
     ensures begins { Begins region.old.bytes region.new.bytes }
 {
-    let recase = |small| Change::Case { small };
+    let items = val.pieces.as_slice();
     match modifier {
-        Mod::Lower => change_words(alloc, region, recase(true), false, val.pieces.as_slice()),
-        Mod::Upper => change_words(alloc, region, recase(false), false, val.pieces.as_slice()),
-        Mod::Quote => quote(alloc, region, val, false),
-        Mod::QuoteDollar => quote(alloc, region, val, true),
-        _ => one_word(alloc, region, val),
+        Mod::Lower => change_words(alloc, region, Change::Case { small: true }, false, items),
+        Mod::Upper => change_words(alloc, region, Change::Case { small: false }, false, items),
+        Mod::Quote => Ok(quote(alloc, region, val, false)?),
+        Mod::QuoteDollar => Ok(quote(alloc, region, val, true)?),
+        _ => Ok(one_word(alloc, region, val)?),
     }
 }
 
 // The state behind a modifier, whatever the limit.
 fn changed(alloc: Global, region: &mut Region, val: Val, modifier: &Mod) -> Result<Val, ModFault>
     requires { end_of val ≤ length region.old.bytes }
-    ensures shown { Agrees no_memory (seen region.new.bytes) result
+    ensures shown { AgreesBut IsEarly (seen region.new.bytes) result
         (or_bad_place (spec.changed modifier.now (seen region.old.bytes val))) }
+    ensures long { result ≡ Err too_long
+        → limited (spec.changed modifier.now (seen region.old.bytes val)) ≡ Err too_long }
     ensures within { IfOk result (λ new. end_of new ≤ length region.new.bytes) }
     ensures begins { Begins region.old.bytes region.new.bytes }
     ensures unchanged { IsTrue (places_nothing modifier.now val)
@@ -333,10 +350,10 @@ fn changed(alloc: Global, region: &mut Region, val: Val, modifier: &Mod) -> Resu
             ..val
         }),
         Mod::Separator(byte) => {
-            let worked = worked(alloc, region, val, modifier)?;
+            let words = words_for(alloc, region, &val, false)?;
             Ok(Val {
                 separator: sign_of(*byte),
-                ..worked
+                ..with_words(region, val.separator, val.one_word, words)
             })
         }
         _ => worked(alloc, region, val, modifier),

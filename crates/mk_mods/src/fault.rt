@@ -1,4 +1,5 @@
 use mk_bytes::NoMemory;
+use std::alloc::{AllocError, AllocFailed};
 
 /// Why a modifier is refused.
 #[derive(Clone, Copy, Debug, PartialEq, Eq)]
@@ -18,6 +19,28 @@ impl From<NoMemory> for ModFault {
     ghost from_gives = { λ _ fault. fault ≡ no_memory };
 
     fn from(_: NoMemory) -> ModFault {
+        ModFault::NoMemory
+    }
+}
+
+impl From<AllocError> for ModFault {
+    ghost use Rattle.std.specs.Prelude.{◌≡◌};
+    ghost use Rattle.mk_mods.specs.declared.fault.ModFault.TheVariants.{NoMemory as no_memory};
+
+    ghost from_gives = { λ _ fault. fault ≡ no_memory };
+
+    fn from(_: AllocError) -> ModFault {
+        ModFault::NoMemory
+    }
+}
+
+impl<T: Drop> From<AllocFailed<T>> for ModFault {
+    ghost use Rattle.std.specs.Prelude.{◌≡◌};
+    ghost use Rattle.mk_mods.specs.declared.fault.ModFault.TheVariants.{NoMemory as no_memory};
+
+    ghost from_gives = { λ _ fault. fault ≡ no_memory };
+
+    fn from(_: AllocFailed<T>) -> ModFault {
         ModFault::NoMemory
     }
 }

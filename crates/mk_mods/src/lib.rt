@@ -9,6 +9,7 @@
 mod chain;
 mod choice;
 mod fault;
+mod fresh;
 mod modifier;
 mod order;
 mod part;

@@ -1,8 +1,13 @@
 //! Quoting for a shell, and letters of one case.
 ghost use Rattle.std.specs.Prelude.{◌≡◌, ◌++◌, IfOk, OnOk};
 ghost use Rattle.std.specs.List.{list_any};
+ghost use Rattle.mk_bytes.specs.Agrees.{Agrees};
+ghost use Rattle.mk_mods.specs.Limits.{pushed, pushed_if};
 ghost use Rattle.mk_mods.specs.Quotes as spec;
+ghost use Rattle.mk_mods.specs.declared.fault.ModFault.TheVariants.{NoMemory as no_memory};
 
+use crate::fault::ModFault;
+use crate::fresh::MAX_TEXT;
 use mk_bytes::{NoMemory, Text};
 use std::alloc::Global;
 
@@ -87,16 +92,29 @@ fn has_other(small: bool, text: &[u8]) -> bool
     text.iter().any(|byte| is_other(small, *byte))
 }
 
-/// A text with its ASCII letters small, or in capitals, and `None` where they are so already.
-pub fn recased(alloc: Global, small: bool, text: &[u8]) -> Result<Option<Text>, NoMemory>
-    ensures { IfOk result (λ out. out ≡ spec.recased small text.now) }
+// Puts a text with its letters in the other case behind other bytes.
+fn push_recased(out: &mut Vec<u8>, small: bool, text: &[u8]) -> Result<(), ModFault>
+    ensures { Agrees no_memory (λ _. out.new.items) result
+        (pushed out.old.items (spec.in_case small text.now)) }
+{
+    if out.len() + text.len() > MAX_TEXT {
+        return Err(ModFault::TooLong);
+    }
+    for byte in text {
+        out.push(to_case(small, *byte))?;
+    }
+    Ok(())
+}
+
+/// Puts a text with its ASCII letters small, or in capitals, behind other bytes, unless they are so
+/// already, and tells whether it did.
+pub fn recased(out: &mut Vec<u8>, small: bool, text: &[u8]) -> Result<bool, ModFault>
+    ensures { Agrees no_memory (λ is. (is, out.new.items)) result
+        (pushed_if out.old.items (spec.recased small text.now)) }
 {
     if !has_other(small, text) {
-        return Ok(None);
+        return Ok(false);
     }
-    let mut out = Text::new(alloc);
-    for byte in text {
-        out.push(&[to_case(small, *byte)])?;
-    }
-    Ok(Some(out))
+    push_recased(out, small, text)?;
+    Ok(true)
 }

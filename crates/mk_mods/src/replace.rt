@@ -1,14 +1,21 @@
 //! Texts in words replaced by others.
-ghost use Rattle.std.specs.Prelude.{◌≡◌, ◌<◌, ◌≤◌, ◌+◌, ◌&&◌, not, is_some, length, drop};
-ghost use Rattle.std.specs.Prelude.{position, IfOk, IfSome};
+ghost use Rattle.std.specs.Prelude.{◌≡◌, ◌<◌, ◌≤◌, ◌+◌, ◌++◌, ◌&&◌, not, is_some, length, drop};
+ghost use Rattle.std.specs.Prelude.{position, IfOk, IfErr, IfSome, OnOk, Err};
+ghost use Rattle.mk_bytes.specs.Agrees.{Agrees};
 ghost use Rattle.mk_mods.specs.Change.{changed_word};
+ghost use Rattle.mk_mods.specs.Limits.{max_text, pushed, pushed_if, IsEarly, AreTooLong};
 ghost use Rattle.mk_mods.specs.Substitution as spec;
 ghost use Rattle.mk_mods.specs.Pieces.{bytes_of, texts_of, furthest, Shows, Begins};
+ghost use Rattle.mk_mods.specs.declared.fault.ModFault.TheVariants.{
+  NoMemory as no_memory,
+  TooLong as too_long,
+};
 
+use crate::fault::ModFault;
+use crate::fresh::{push, push_both, push_three};
 use crate::piece::{place, shown};
 use crate::quote::recased;
-use memchr::memmem;
-use mk_bytes::{NoMemory, Text};
+use memchr::{memchr, memmem};
 use mk_pool::{Piece, Region};
 use std::alloc::Global;
 
@@ -35,17 +42,10 @@ fn first_place(text: &[u8], word: &[u8]) -> Option<usize>
     ensures value { result ≡ spec.first_place text.now word.now }
     ensures fits { IfSome result (λ at. at + length text.now ≤ length word.now) }
 {
-    memmem::find(word, text)
-}
-
-fn joined(alloc: Global, parts: &[&[u8]; 3]) -> Result<Text, NoMemory>
-    ensures { IfOk result (λ text. text ≡ spec.all_of parts.now) }
-{
-    let mut text = Text::new(alloc);
-    for part in parts.as_slice() {
-        text.push(part)?;
+    match text {
+        [byte] => memchr(*byte, word),
+        _ => memmem::find(word, text),
     }
-    Ok(text)
 }
 
 fn behind(text: &[u8], at: usize) -> &[u8]
@@ -55,87 +55,77 @@ fn behind(text: &[u8], at: usize) -> &[u8]
     &text[at..]
 }
 
-// A word with each place of `from` replaced, from the left.
-fn all_replaced(alloc: Global, from: &[u8], to: &[u8], word: &[u8]) -> Result<Text, NoMemory>
+// Puts a word behind other bytes, with each place of `from` replaced, from the left.
+fn push_replaced(out: &mut Vec<u8>, from: &[u8], to: &[u8], word: &[u8]) -> Result<(), ModFault>
     requires { 0 < length from.now }
-    ensures { IfOk result
-        (λ text. text ≡ spec.replaced (length word.now) from.now to.now word.now) }
+    ensures { Agrees no_memory (λ _. out.new.items) result
+        (pushed out.old.items (spec.replaced (length word.now) from.now to.now word.now)) }
 {
-    let mut out = Text::new(alloc);
     let mut rest = word;
     'places: while let Some(at) = first_place(from, rest) {
-        out.push(&rest[..at])?;
-        out.push(to)?;
+        push_both(out, &rest[..at], to)?;
         rest = behind(rest, at + from.len());
     }
-    out.push(rest)?;
-    Ok(out)
+    push(out, rest)
 }
 
 fn replaced_within(
-    alloc: Global,
+    out: &mut Vec<u8>,
     from: &[u8],
     to: &[u8],
     all: bool,
     word: &[u8],
-) -> Result<Option<Text>, NoMemory>
-    ensures { IfOk result (λ text. text ≡ spec.replaced_within from.now to.now all word.now) }
+) -> Result<bool, ModFault>
+    ensures { Agrees no_memory (λ is. (is, out.new.items)) result
+        (pushed_if out.old.items (spec.replaced_within from.now to.now all word.now)) }
 {
     if from.is_empty() {
-        return Ok(None);
+        return Ok(false);
     }
     let Some(at) = first_place(from, word) else {
-        return Ok(None);
+        return Ok(false);
     };
+    let rest = behind(word, at + from.len());
     if all {
-        return Ok(Some(all_replaced(alloc, from, to, word)?));
+        push_both(out, &word[..at], to)?;
+        push_replaced(out, from, to, rest)?;
+    } else {
+        push_three(out, &word[..at], to, rest)?;
     }
-    let text = joined(alloc, &[&word[..at], to, behind(word, at + from.len())])?;
-    Ok(Some(text))
+    Ok(true)
 }
 
-fn start_replaced(
-    alloc: Global,
-    from: &[u8],
-    to: &[u8],
-    word: &[u8],
-) -> Result<Option<Text>, NoMemory>
-    ensures { IfOk result (λ text. text ≡ spec.start_replaced from.now to.now word.now) }
+fn start_replaced(out: &mut Vec<u8>, from: &[u8], to: &[u8], word: &[u8]) -> Result<bool, ModFault>
+    ensures { Agrees no_memory (λ is. (is, out.new.items)) result
+        (pushed_if out.old.items (spec.start_replaced from.now to.now word.now)) }
 {
     if !word.starts_with(from) {
-        return Ok(None);
+        return Ok(false);
     }
-    let text = joined(alloc, &[b"", to, behind(word, from.len())])?;
-    Ok(Some(text))
+    push_both(out, to, behind(word, from.len()))?;
+    Ok(true)
 }
 
-fn end_replaced(
-    alloc: Global,
-    from: &[u8],
-    to: &[u8],
-    word: &[u8],
-) -> Result<Option<Text>, NoMemory>
-    ensures { IfOk result (λ text. text ≡ spec.end_replaced from.now to.now word.now) }
+fn end_replaced(out: &mut Vec<u8>, from: &[u8], to: &[u8], word: &[u8]) -> Result<bool, ModFault>
+    ensures { Agrees no_memory (λ is. (is, out.new.items)) result
+        (pushed_if out.old.items (spec.end_replaced from.now to.now word.now)) }
 {
     if !word.ends_with(from) {
-        return Ok(None);
+        return Ok(false);
     }
-    let text = joined(alloc, &[&word[..word.len() - from.len()], to, b""])?;
-    Ok(Some(text))
+    push_both(out, &word[..word.len() - from.len()], to)?;
+    Ok(true)
 }
 
-fn whole_replaced(
-    alloc: Global,
-    from: &[u8],
-    to: &[u8],
-    word: &[u8],
-) -> Result<Option<Text>, NoMemory>
-    ensures { IfOk result (λ text. text ≡ spec.whole_replaced from.now to.now word.now) }
+fn whole_replaced(out: &mut Vec<u8>, from: &[u8], to: &[u8], word: &[u8]) -> Result<bool, ModFault>
+    ensures { Agrees no_memory (λ is. (is, out.new.items)) result
+        (pushed_if out.old.items (spec.whole_replaced from.now to.now word.now)) }
 {
     if word != from {
-        return Ok(None);
+        return Ok(false);
     }
-    Ok(Some(Text::from_bytes(alloc, to)?))
+    push(out, to)?;
+    Ok(true)
 }
 
 fn first_percent(text: &[u8]) -> Option<usize>
@@ -144,69 +134,72 @@ fn first_percent(text: &[u8]) -> Option<usize>
     text.iter().position(|byte| *byte == b'%')
 }
 
-// A text with another in place of its first `%`.
-fn with_middle(alloc: Global, to: &[u8], middle: &[u8]) -> Result<Text, NoMemory>
-    ensures { IfOk result (λ text.
-        text ≡ spec.with_middle (position spec.is_percent to.now) to.now middle.now) }
+// Puts a text behind other bytes, with another in place of its first `%`.
+fn push_with_middle(out: &mut Vec<u8>, to: &[u8], middle: &[u8]) -> Result<(), ModFault>
+    ensures { Agrees no_memory (λ _. out.new.items) result (pushed out.old.items
+        (spec.with_middle (position spec.is_percent to.now) to.now middle.now)) }
 {
     match first_percent(to) {
-        None => Text::from_bytes(alloc, to),
-        Some(at) => joined(alloc, &[&to[..at], middle, behind(to, at + 1)]),
+        None => push(out, to),
+        Some(at) => push_three(out, &to[..at], middle, behind(to, at + 1)),
     }
 }
 
 fn around_replaced(
-    alloc: Global,
+    out: &mut Vec<u8>,
     before: &[u8],
     after: &[u8],
     to: &[u8],
     word: &[u8],
-) -> Result<Option<Text>, NoMemory>
-    ensures { IfOk result
-        (λ text. text ≡ spec.around_replaced before.now after.now to.now word.now) }
+) -> Result<bool, ModFault>
+    ensures { Agrees no_memory (λ is. (is, out.new.items)) result
+        (pushed_if out.old.items (spec.around_replaced before.now after.now to.now word.now)) }
 {
     let Some(len) = word.len().checked_sub(before.len() + after.len()) else {
-        return Ok(None);
+        return Ok(false);
     };
     if !word.starts_with(before) || !word.ends_with(after) {
-        return Ok(None);
+        return Ok(false);
     }
     let middle = &behind(word, before.len())[..len];
-    Ok(Some(with_middle(alloc, to, middle)?))
+    push_with_middle(out, to, middle)?;
+    Ok(true)
 }
 
-fn suffixed(alloc: Global, from: &[u8], to: &[u8], word: &[u8]) -> Result<Option<Text>, NoMemory>
-    ensures { IfOk result (λ text. text ≡ spec.suffixed from.now to.now word.now) }
+fn suffixed(out: &mut Vec<u8>, from: &[u8], to: &[u8], word: &[u8]) -> Result<bool, ModFault>
+    ensures { Agrees no_memory (λ is. (is, out.new.items)) result
+        (pushed_if out.old.items (spec.suffixed from.now to.now word.now)) }
 {
     match first_percent(from) {
-        None => end_replaced(alloc, from, to, word),
-        Some(at) => around_replaced(alloc, &from[..at], behind(from, at + 1), to, word),
+        None => end_replaced(out, from, to, word),
+        Some(at) => around_replaced(out, &from[..at], behind(from, at + 1), to, word),
     }
 }
 
 fn substituted(
-    alloc: Global,
+    out: &mut Vec<u8>,
     from: &[u8],
     to: &[u8],
     at_start: bool,
     at_end: bool,
     all: bool,
     word: &[u8],
-) -> Result<Option<Text>, NoMemory>
-    ensures { IfOk result (λ text.
-        text ≡ spec.substituted from.now to.now at_start at_end all word.now) }
+) -> Result<bool, ModFault>
+    ensures { Agrees no_memory (λ is. (is, out.new.items)) result (pushed_if out.old.items
+        (spec.substituted from.now to.now at_start at_end all word.now)) }
 {
     match (at_start, at_end) {
-        (true, true) => whole_replaced(alloc, from, to, word),
-        (true, false) => start_replaced(alloc, from, to, word),
-        (false, true) => end_replaced(alloc, from, to, word),
-        (false, false) => replaced_within(alloc, from, to, all, word),
+        (true, true) => whole_replaced(out, from, to, word),
+        (true, false) => start_replaced(out, from, to, word),
+        (false, true) => end_replaced(out, from, to, word),
+        (false, false) => replaced_within(out, from, to, all, word),
     }
 }
 
-// What a word becomes, and `None` where it stays.
-fn changed_word(alloc: Global, change: Change<'_>, word: &[u8]) -> Result<Option<Text>, NoMemory>
-    ensures { IfOk result (λ text. text ≡ changed_word change.entry word.now) }
+// Puts what a word becomes behind other bytes, unless it stays, and tells whether it did.
+fn changed_word(out: &mut Vec<u8>, change: Change<'_>, word: &[u8]) -> Result<bool, ModFault>
+    ensures { Agrees no_memory (λ is. (is, out.new.items)) result
+        (pushed_if out.old.items (changed_word change.entry word.now)) }
 {
     match change {
         Change::Subst {
@@ -215,36 +208,44 @@ fn changed_word(alloc: Global, change: Change<'_>, word: &[u8]) -> Result<Option
             at_start,
             at_end,
             all,
-        } => substituted(alloc, from, to, at_start, at_end, all, word),
-        Change::Suffix { from, to } => suffixed(alloc, from, to, word),
-        Change::Case { small } => recased(alloc, small, word),
+        } => substituted(out, from, to, at_start, at_end, all, word),
+        Change::Suffix { from, to } => suffixed(out, from, to, word),
+        Change::Case { small } => recased(out, small, word),
     }
 }
 
-// The piece of a word that may be changed, and whether it is another one. A word that is changed is
-// placed in the region.
+// The piece of a word that may be changed, and whether it is another one. It lies in the region, or
+// in the bytes that are made, which come behind it.
 fn changed_piece(
-    alloc: Global,
-    region: &mut Region,
+    region: &Region,
+    out: &mut Vec<u8>,
     change: Change<'_>,
     ready: bool,
     word: Piece,
-) -> Result<(Piece, bool), NoMemory>
-    requires { word.end ≤ length region.old.bytes }
-    ensures shown { IfOk result (λ new. bytes_of region.new.bytes new.0
-        ≡ spec.word_changed ready (changed_word change.entry) (bytes_of region.old.bytes word)) }
+) -> Result<(Piece, bool), ModFault>
+    requires { word.end ≤ length region.now.bytes }
+    ensures shown { IfOk result (λ new. bytes_of (region.now.bytes ++ out.new.items) new.0
+        ≡ spec.word_changed ready (changed_word change.entry) (bytes_of region.now.bytes word)) }
     ensures changed { IfOk result (λ new. new.1
-        ≡ (ready && is_some (changed_word change.entry (bytes_of region.old.bytes word)))) }
-    ensures within { IfOk result (λ new. new.0.end ≤ length region.new.bytes) }
-    ensures begins { Begins region.old.bytes region.new.bytes }
+        ≡ (ready && is_some (changed_word change.entry (bytes_of region.now.bytes word)))) }
+    ensures within { IfOk result
+        (λ new. new.0.end ≤ length (region.now.bytes ++ out.new.items)) }
+    ensures begins { OnOk result (Begins out.old.items out.new.items) }
+    ensures long { result ≡ Err too_long → max_text < length out.old.items + length
+        (spec.word_changed ready (changed_word change.entry) (bytes_of region.now.bytes word)) }
+    ensures early { IfErr result IsEarly }
+    ensures room { OnOk result (length out.new.items ≤ length out.old.items + length
+        (spec.word_changed ready (changed_word change.entry) (bytes_of region.now.bytes word))) }
 {
     if !ready {
         return Ok((word, false));
     }
-    match changed_word(alloc, change, shown(region, word))? {
-        None => Ok((word, false)),
-        Some(text) => Ok((place(region, text.bytes())?, true)),
+    let start = region.len() + out.len();
+    if !changed_word(out, change, shown(region, word))? {
+        return Ok((word, false));
     }
+    let end = region.len() + out.len();
+    Ok((Piece { start, end }, true))
 }
 
 fn is_ready_for_more(ready: bool, once: bool, is_changed: bool) -> bool
@@ -254,25 +255,32 @@ fn is_ready_for_more(ready: bool, once: bool, is_changed: bool) -> bool
 }
 
 /// Changes each word that matches, or with `once` the first one. Words that stay keep their pieces.
+/// `TooLong` only where the words have too many bytes for a printed text.
 pub fn change_words(
     alloc: Global,
     region: &mut Region,
     change: Change<'_>,
     once: bool,
     words: &[Piece],
-) -> Result<Vec<Piece>, NoMemory>
+) -> Result<Vec<Piece>, ModFault>
     requires { furthest words.now ≤ length region.old.bytes }
     ensures words { IfOk result (λ new. Shows region.new.bytes new.items
         (spec.words_changed once (changed_word change.entry)
         (texts_of region.old.bytes words.now))) }
     ensures begins { Begins region.old.bytes region.new.bytes }
+    ensures long { result ≡ Err too_long
+        → AreTooLong (spec.words_changed once (changed_word change.entry)
+        (texts_of region.old.bytes words.now)) }
+    ensures early { IfErr result IsEarly }
 {
+    let mut out = Vec::new(alloc);
     let mut pieces = Vec::with_capacity(alloc, words.len())?;
     let mut ready = true;
     for word in words {
-        let (piece, is_changed) = changed_piece(alloc, region, change, ready, *word)?;
+        let (piece, is_changed) = changed_piece(region, &mut out, change, ready, *word)?;
         pieces.push(piece)?;
         ready = is_ready_for_more(ready, once, is_changed);
     }
+    place(region, out.as_slice())?;
     Ok(pieces)
 }

@@ -4,12 +4,11 @@ ghost use Rattle.mk_mods.specs.State as spec;
 ghost use Rattle.mk_mods.specs.Limits.{fits};
 ghost use Rattle.mk_mods.specs.Pieces.{seen, end_of, Begins};
 
+use crate::fresh::MAX_TEXT;
 use crate::piece::{cut_words, place, place_all, shown, texts};
 use mk_bytes::{Items, NoMemory, Text, Texts};
 use mk_pool::{Piece, Region};
 use std::alloc::Global;
-
-const MAX_TEXT: usize = 4_194_304;
 
 /// What stands between two items in the printed text.
 #[derive(Clone, Copy, Debug, PartialEq, Eq)]
