@@ -1,0 +1,323 @@
+-- Texts with escapes, one byte after the other, and both ways.
+use Rattle.std.proofs.Common.{◌≡◌, ℕ, ◌<◌, ◌+◌, ◌-◌, Bool, true, false, cond, ◌==◌, List}
+use Rattle.std.proofs.Common.{suc, ◌≤◌, [], ◌∷◌, ◌++◌, length, take, drop, get_or, nat_lt, Option}
+use Rattle.std.proofs.Common.{Some, None}
+use Rattle.std.proofs.Common.{if◌then◌else◌, refl, sym, ◌∙◌, ap, ap₂, arith, position, append_assoc}
+use Rattle.std.proofs.Math.Seq.{drop-cons}
+use Rattle.std.proofs.lemmas.Bool.Decides.{nat_tests}
+use Rattle.std.proofs.lemmas.Grind.{common_steps}
+use Rattle.std.proofs.lemmas.Option.{some_pair_parts}
+use Rattle.std.proofs.lemmas.List.{append-nil, take_more, drop_all}
+use Rattle.std.specs.List.{position_or_len}
+use Rattle.std.specs.Option.{option_map}
+use Rattle.mk_bytes.specs.Bytes.{newline, backslash}
+use Rattle.mk_filemon.specs.Escapes.{quote, letter_n, is_quote, escaped_byte, escaped, byte_behind}
+use Rattle.mk_filemon.specs.Escapes.{Part, with_byte, with_escape, at_end, part_behind, part_at}
+use Rattle.mk_filemon.specs.Escapes.{cut_at}
+use Rattle.mk_filemon.specs.Log.{is_gap, cut_at_gap}
+
+pub cases : {P : Type 0} (t : Bool) → (t ≡ true → P) → (t ≡ false → P) → P
+cases true here there = here refl
+cases false here there = there refl
+
+pub same_number : (a b : ℕ) → (a == b) ≡ true → a ≡ b
+same_number a b is = grind (arith, nat_tests)
+
+-- what is read, behind bytes that were read
+abbrev pub with_bytes : List ℕ → Part → Part
+with_bytes bytes part = option_map (λ found. (bytes ++ found.0, found.1)) part
+
+pub with_bytes-nil : (part : Part) → with_bytes [] part ≡ part
+with_bytes-nil None = refl
+with_bytes-nil (Some found) = refl
+
+pub with_bytes-byte : (bytes : List ℕ) (byte : ℕ) (part : Part)
+    → with_bytes (bytes ++ byte ∷ []) part ≡ with_bytes bytes (with_byte byte part)
+with_bytes-byte bytes byte None = refl
+with_bytes-byte bytes byte (Some found) =
+    ap (λ text. Some (text, found.1)) (append_assoc bytes (byte ∷ []) found.0)
+
+-- one byte of a text, in the order of the tests
+pub part-none : (quoted : Bool) (text : List ℕ) → length text ≡ 0 → part_at quoted text
+    ≡ at_end quoted
+unfolding part_behind
+part-none quoted [] none = refl
+part-none quoted (byte ∷ text) none = absurd (omega arith)
+
+pub escape-none : (quoted : Bool) (text : List ℕ) → length text ≡ 0
+    → part_behind quoted true text ≡ None
+unfolding part_behind
+escape-none quoted [] none = refl
+escape-none quoted (byte ∷ text) none = absurd (omega arith)
+
+pub escape-first : (quoted : Bool) (all : List ℕ) (byte : ℕ) (text : List ℕ) → all ≡ byte ∷ text
+    → part_behind quoted true all ≡ with_escape (byte_behind quoted byte) (part_at quoted text)
+unfolding part_behind
+escape-first quoted all byte text is = rw is refl
+
+pub part-first : (quoted : Bool) (all : List ℕ) (byte : ℕ) (text : List ℕ) → all ≡ byte ∷ text
+    → part_at quoted all
+    ≡ (if byte == backslash then part_behind quoted true text
+    else (if byte == newline then None
+    else (if is_quote quoted byte then Some ([], text)
+    else with_byte byte (part_at quoted text))))
+unfolding part_behind
+part-first quoted all byte text is = rw is refl
+
+-- What is written with escapes is read again.
+pub part-escaped : (quoted : Bool) (text tail : List ℕ)
+    → part_at quoted (escaped quoted text ++ tail) ≡ with_bytes text (part_at quoted tail)
+unfolding part_behind
+part-escaped quoted [] tail = sym (with_bytes-nil (part_at quoted tail))
+part-escaped quoted (byte ∷ text) tail =
+    rw (append_assoc (escaped_byte quoted byte) (escaped quoted text) tail)
+    (byte_again quoted byte (escaped quoted text ++ tail)
+    ∙ ap (λ part. with_byte byte part) (part-escaped quoted text tail)
+    ∙ with_bytes-more byte text (part_at quoted tail))
+  where
+    with_bytes-more : (byte : ℕ) (text : List ℕ) (part : Part)
+        → with_byte byte (with_bytes text part) ≡ with_bytes (byte ∷ text) part
+    with_bytes-more byte text None = refl
+    with_bytes-more byte text (Some found) = refl
+
+    quote_again : (quoted : Bool) (byte : ℕ) (rest : List ℕ) → is_quote quoted byte ≡ true
+        → part_at quoted (backslash ∷ quote ∷ rest) ≡ with_byte byte (part_at quoted rest)
+    quote_again true byte rest is = rw (same_number byte quote is) refl
+    quote_again false byte rest is = absurd cc
+
+    byte_again : (quoted : Bool) (byte : ℕ) (rest : List ℕ)
+        → part_at quoted (escaped_byte quoted byte ++ rest) ≡ with_byte byte (part_at quoted rest)
+    byte_again quoted byte rest =
+        cases (byte == backslash)
+        (λ is. rw is (ap (λ b. with_byte b (part_at quoted rest))
+        (sym (same_number byte backslash is))))
+        (λ apart. cases (byte == newline)
+        (λ is. rw (apart, is) (ap (λ b. with_byte b (part_at quoted rest))
+        (sym (same_number byte newline is))))
+        (λ none. cases (is_quote quoted byte)
+        (λ is. rw (apart, none, is) (quote_again quoted byte rest is))
+        (λ nor. rw (apart, none, nor) (rw (apart, none, nor) refl))))
+
+-- what stands behind a text: the quote that ends it and the rest, or nothing
+abbrev pub tail_of : Bool → List ℕ → List ℕ
+tail_of true rest = quote ∷ rest
+tail_of false rest = []
+
+pub part-tail : (quoted : Bool) (rest : List ℕ) → (quoted ≡ false → rest ≡ [])
+    → part_at quoted (tail_of quoted rest) ≡ Some ([], rest)
+unfolding part_behind
+part-tail true rest none = refl
+part-tail false rest none = ap (λ r. Some ([], r)) (sym (none refl))
+
+-- a text that is written with escapes, and its end
+pub part-again : (quoted : Bool) (text rest : List ℕ) → (quoted ≡ false → rest ≡ [])
+    → part_at quoted (escaped quoted text ++ tail_of quoted rest) ≡ Some (text, rest)
+part-again quoted text rest none =
+    part-escaped quoted text (tail_of quoted rest)
+    ∙ ap (λ part. with_bytes text part) (part-tail quoted rest none)
+    ∙ ap (λ bytes. Some (bytes, rest)) (append-nil text)
+
+-- what stands before the text where an escape is open
+abbrev opened : Bool → List ℕ
+opened true = backslash ∷ []
+opened false = []
+
+-- what is read is written so
+pub record IsWritten (quoted : Bool) (text part rest : List ℕ) : Type 0 where
+  pub is : text ≡ escaped quoted part ++ tail_of quoted rest
+  pub end : quoted ≡ false → rest ≡ []
+
+behind_written : (quoted : Bool) (byte meant : ℕ) → byte_behind quoted byte ≡ Some meant
+    → escaped_byte quoted meant ≡ backslash ∷ byte ∷ []
+behind_written quoted byte meant is =
+    cases (byte == backslash)
+    (λ here. let same : byte ≡ backslash = grind (arith, nat_tests) in
+    let found : Some backslash ≡ Some meant = rw here at is in
+    let so : backslash ≡ meant = cc in rw (← so, same) refl)
+    (λ apart. cases (byte == letter_n)
+    (λ here. let same : byte ≡ letter_n = grind (arith, nat_tests) in
+    let found : Some newline ≡ Some meant = rw (apart, here) at is in
+    let so : newline ≡ meant = cc in rw (← so, same) refl)
+    (λ none. behind_quote quoted byte meant (rw (apart, none) at is)))
+  where
+    behind_quote : (quoted : Bool) (byte meant : ℕ)
+        → (if is_quote quoted byte then Some quote else None) ≡ Some meant
+        → escaped_byte quoted meant ≡ backslash ∷ byte ∷ []
+    behind_quote false byte meant is = absurd cc
+    behind_quote true byte meant is =
+        cases (byte == quote)
+        (λ here. let same : byte ≡ quote = grind (arith, nat_tests) in
+        let found : Some quote ≡ Some meant = rw here at is in
+        let so : quote ≡ meant = cc in rw (← so, same) refl)
+        (λ apart. let found : None ≡ Some meant = rw apart at is in absurd cc)
+
+with_byte-some : (byte : ℕ) (part : Part) (text rest : List ℕ)
+    → with_byte byte part ≡ Some (text, rest)
+    → (bytes : List ℕ) × (part ≡ Some (bytes, rest)) × (text ≡ byte ∷ bytes)
+with_byte-some byte None text rest is = absurd cc
+with_byte-some byte (Some (bytes, behind)) text rest is =
+    let same = some_pair_parts (byte ∷ bytes) text behind rest is in
+    (bytes, ap (λ end. Some (bytes, end)) same.1, sym same.0)
+
+pub part-written : (quoted escape : Bool) (text part rest : List ℕ)
+    → part_behind quoted escape text ≡ Some (part, rest)
+    → IsWritten quoted (opened escape ++ text) part rest
+unfolding part_behind
+part-written quoted true [] part rest is = absurd cc
+part-written true false [] part rest is = absurd cc
+part-written false false [] part rest is =
+    let same = some_pair_parts [] part [] rest is in
+    record { is = ap (λ text. escaped false text ++ []) same.0; end = λ none. sym same.1 }
+part-written quoted true (byte ∷ text) part rest is =
+    behind (part-written quoted false text) (byte_behind quoted byte) refl is
+  where
+    behind : ((more end : List ℕ) → part_at quoted text ≡ Some (more, end)
+        → IsWritten quoted text more end)
+        → (meant : Option ℕ) → byte_behind quoted byte ≡ meant
+        → with_escape meant (part_at quoted text) ≡ Some (part, rest)
+        → IsWritten quoted (backslash ∷ byte ∷ text) part rest
+    behind inside None here gives = absurd cc
+    behind inside (Some meant) here gives =
+        let more = with_byte-some meant (part_at quoted text) part rest gives in
+        let inner = inside more.0 rest more.1 in
+        record {
+          is = ap (λ bytes. backslash ∷ byte ∷ bytes) inner.is
+              ∙ sym (ap (λ bytes. escaped quoted bytes ++ tail_of quoted rest) more.2
+              ∙ ap (λ bytes. (bytes ++ escaped quoted more.0) ++ tail_of quoted rest)
+              (behind_written quoted byte meant here));
+          end = inner.end;
+        }
+part-written quoted false (byte ∷ text) part rest is =
+    cases (byte == backslash)
+    (λ here. let same : byte ≡ backslash = grind (arith, nat_tests) in
+    let inner = part-written quoted true text part rest (rw here at is) in
+    record { is = rw same inner.is; end = inner.end })
+    (λ apart. cases (byte == newline)
+    (λ here. let none : None ≡ Some (part, rest) = rw (apart, here) at is in absurd cc)
+    (λ nor. plain (part-written quoted false text) apart nor (rw (apart, nor) at is)))
+  where
+    closes : (q : Bool) → is_quote q byte ≡ true → (part' rest' : List ℕ)
+        → ◌≡◌ {A = Part} (Some ([], text)) (Some (part', rest'))
+        → IsWritten q (byte ∷ text) part' rest'
+    closes false here part' rest' found = absurd cc
+    closes true here part' rest' found =
+        let same : byte ≡ quote = grind (arith, nat_tests) in
+        let parts = some_pair_parts [] part' text rest' found in
+        record {
+          is = rw same (ap₂ (λ a b. escaped true a ++ quote ∷ b) parts.0 parts.1);
+          end = λ none. absurd cc;
+        }
+
+    plain : ((more end : List ℕ) → part_at quoted text ≡ Some (more, end)
+        → IsWritten quoted text more end)
+        → (byte == backslash) ≡ false → (byte == newline) ≡ false
+        → (if is_quote quoted byte then Some ([], text)
+        else with_byte byte (part_at quoted text)) ≡ Some (part, rest)
+        → IsWritten quoted (byte ∷ text) part rest
+    plain inside apart nor found =
+        cases (is_quote quoted byte)
+        (λ here. closes quoted here part rest (rw here at found))
+        (λ none. let more = with_byte-some byte (part_at quoted text) part rest
+        (rw none at found) in
+        let inner = inside more.0 rest more.1 in
+        record {
+          is = rw (more.2, apart, nor, none) (ap (λ bytes. byte ∷ bytes) inner.is);
+          end = inner.end;
+        })
+
+-- a text is cut where the byte stands first
+cut_at-first : (byte first : ℕ) (text : List ℕ)
+    → cut_at byte (first ∷ text)
+    ≡ (if first == byte then Some ([], text) else with_byte first (cut_at byte text))
+unfolding cut_at
+cut_at-first byte first text = refl
+
+abbrev pub placed : List ℕ → Option ℕ → Part
+placed text found = option_map (λ place. (take place text, drop (place + 1) text)) found
+
+placed-later : (first : ℕ) (text : List ℕ) (place : ℕ) (within : Bool)
+    → with_byte first (placed text (cond within (Some place) None))
+    ≡ placed (first ∷ text) (cond within (Some (1 + place)) None)
+placed-later first text place true =
+    let one : 1 + place ≡ suc place = omega arith in
+    let two : suc place + 1 ≡ suc (place + 1) = omega arith in
+    rw (one, two) refl
+placed-later first text place false = refl
+
+pub cut_at-position : (byte : ℕ) (text : List ℕ)
+    → cut_at byte text ≡ placed text (position (λ one. one == byte) text)
+unfolding cut_at
+cut_at-position byte [] = refl
+cut_at-position byte (first ∷ text) =
+    let place = position_or_len (λ one. one == byte) text in
+    let later : nat_lt (1 + place) (length (first ∷ text)) ≡ nat_lt place (length text) =
+    grind (arith, nat_tests) in
+    cases (first == byte)
+    (λ here. let within : nat_lt 0 (suc (length text)) ≡ true = grind (arith, nat_tests) in
+    rw (here, within) refl)
+    (λ apart. rw (apart, cut_at-position byte text)
+    (placed-later first text place (nat_lt place (length text))
+    ∙ ap (λ within. placed (first ∷ text) (cond within (Some (1 + place)) None)) (sym later)))
+
+-- bytes among which another one does not stand
+abbrev pub IsWithout : ℕ → List ℕ → Type 0
+IsWithout byte [] = Unit {0}
+IsWithout byte (first ∷ text) = ((first == byte) ≡ false) × IsWithout byte text
+
+pub IsWithout-push : (byte : ℕ) (text : List ℕ) (last : ℕ) → IsWithout byte text
+    → (last == byte) ≡ false → IsWithout byte (text ++ last ∷ [])
+IsWithout-push byte [] last apart nor = (nor, tt)
+IsWithout-push byte (first ∷ text) last apart nor =
+    (apart.0, IsWithout-push byte text last apart.1 nor)
+
+pub cut_at-again : (byte : ℕ) (text rest : List ℕ) → IsWithout byte text
+    → cut_at byte (text ++ byte ∷ rest) ≡ Some (text, rest)
+unfolding cut_at
+cut_at-again byte [] rest apart = let same : (byte == byte) ≡ true = grind
+    (arith, nat_tests) in rw same refl
+cut_at-again byte (first ∷ text) rest apart = rw (apart.0, cut_at-again byte text rest apart.1) refl
+
+pub cut_at-written : (byte : ℕ) (text before behind : List ℕ)
+    → cut_at byte text ≡ Some (before, behind) → text ≡ before ++ byte ∷ behind
+unfolding cut_at
+cut_at-written byte [] before behind is = absurd cc
+cut_at-written byte (first ∷ text) before behind is =
+    cases (first == byte)
+    (λ here. let same : first ≡ byte = grind (arith, nat_tests) in
+    let found : ◌≡◌ {A = Part} (Some ([], text)) (Some (before, behind)) = rw here at is in
+    let parts = some_pair_parts [] before text behind found in
+    rw same (ap₂ (λ a b. a ++ byte ∷ b) parts.0 parts.1))
+    (λ apart. let more = with_byte-some first (cut_at byte text) before behind (rw apart at is) in
+    rw more.2 (ap (λ bytes. first ∷ bytes) (cut_at-written byte text more.0 behind more.1)))
+
+-- a text is cut at its first gap
+pub rest_is : (n : ℕ) (text : List ℕ) → take (length text - n) (drop n text) ≡ drop n text
+rest_is n text = grind (arith, common_steps)
+
+pub gap-found : (text : List ℕ) (place : ℕ) → place < length text
+    → is_gap (drop place text) ≡ true
+    → with_bytes (take place text) (cut_at_gap (drop place text))
+    ≡ Some (take place text, drop 3 (drop place text))
+unfolding cut_at_gap
+gap-found text place within is =
+    let first = drop-cons text place 0 within in
+    let here : is_gap (get_or text place 0 ∷ drop (suc place) text) ≡ true = rw first at is in
+    rw (first, here) (ap (λ bytes. Some (bytes, drop 2 (drop (suc place) text)))
+    (append-nil (take place text)))
+
+pub gap-later : (text : List ℕ) (place : ℕ) → place < length text
+    → is_gap (drop place text) ≡ false
+    → with_bytes (take (place + 1) text) (cut_at_gap (drop (place + 1) text))
+    ≡ with_bytes (take place text) (cut_at_gap (drop place text))
+unfolding cut_at_gap
+gap-later text place within apart =
+    let first = drop-cons text place 0 within in
+    let here : is_gap (get_or text place 0 ∷ drop (suc place) text) ≡ false = rw first at apart in
+    let one : place + 1 ≡ suc place = omega arith in
+    rw (take_more text place 0 within, one, first, here)
+    (with_bytes-byte (take place text) (get_or text place 0) (cut_at_gap (drop (suc place) text)))
+
+pub gap-none : (text : List ℕ) (place : ℕ) → length text ≤ place
+    → with_bytes (take place text) (cut_at_gap (drop place text)) ≡ None
+unfolding cut_at_gap
+gap-none text place past = rw (drop_all place text past) refl

@@ -1,0 +1,19 @@
+//! Records say of steps what the laws of a world speak of.
+ghost use Rattle.mk_filemon.specs.Steps.{TellOuterReads, TellWritten, SameByRecords};
+
+use mk_world::{World, same_doing};
+
+/// The outer reads of the records of steps are what the steps took from outside themselves, and
+/// what is left written by the records is what the steps left.
+pub fn records_tell_of_steps()
+    ensures outer { TellOuterReads }
+    ensures written { TellWritten }
+{}
+
+/// A law of every world: two maps that agree on the recorded outer reads of what a command does on
+/// one of them let it do the same on both.
+pub fn same_by_records<W: World>(world: &W)
+    ensures { SameByRecords W.meaning }
+{
+    same_doing(world);
+}

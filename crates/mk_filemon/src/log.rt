@@ -1,0 +1,175 @@
+//! A recorder's log, read into records.
+ghost use Rattle.std.specs.Prelude.{◌≡◌, ◌++◌, IfOk, OnOk};
+ghost use Rattle.std.specs.Option.{option_map};
+ghost use Rattle.mk_filemon.specs.Held.{directories_in};
+ghost use Rattle.mk_filemon.specs.Log as spec;
+
+use crate::directory::{Directories, directory_from, path_from};
+use crate::escape::cut_at;
+use crate::line::{Kind, is_number, line_of, number_of, pair_in};
+use mk_bytes::{Items, NoMemory, Text};
+use mk_world::{Op, Ops};
+use std::alloc::Global;
+
+// The record of a line with one path.
+fn op_of(kind: Kind, path: Text) -> Option<Op>
+    ensures { result ≡ spec.op_of kind path }
+{
+    match kind {
+        Kind::Reads => Some(Op::Read(path)),
+        Kind::Misses => Some(Op::Miss(path)),
+        Kind::Writes => Some(Op::Write(path)),
+        Kind::Deletes => Some(Op::Delete(path)),
+        Kind::Moves | Kind::Links | Kind::Enters | Kind::Forks => None,
+    }
+}
+
+// Adds the record of a line with one path, unless the path is empty.
+fn push_one(
+    alloc: Global,
+    ops: &mut Ops,
+    cwd: &[u8],
+    directory: &[u8],
+    kind: Kind,
+    text: &[u8],
+) -> Result<(), NoMemory>
+    ensures { OnOk result (ops.new ≡ ops.old ++ spec.one kind cwd.now directory.now text.now) }
+{
+    if text.is_empty() {
+        return Ok(());
+    }
+    let path = path_from(alloc, cwd, directory, text)?;
+    if let Some(op) = op_of(kind, path) {
+        ops.push(op)?;
+    }
+    Ok(())
+}
+
+fn push_move(
+    alloc: Global,
+    ops: &mut Ops,
+    cwd: &[u8],
+    directory: &[u8],
+    text: &[u8],
+) -> Result<(), NoMemory>
+    ensures { OnOk result
+        (ops.new ≡ ops.old ++ spec.move_by cwd.now directory.now (spec.pair_in text.now)) }
+{
+    let Some((from, to)) = pair_in(text) else {
+        return Ok(());
+    };
+    let from = path_from(alloc, cwd, directory, from)?;
+    let to = path_from(alloc, cwd, directory, to)?;
+    ops.push(Op::Move(from, to))
+}
+
+fn push_link(
+    alloc: Global,
+    ops: &mut Ops,
+    cwd: &[u8],
+    directory: &[u8],
+    text: &[u8],
+) -> Result<(), NoMemory>
+    ensures { OnOk result
+        (ops.new ≡ ops.old ++ spec.link_by cwd.now directory.now (spec.pair_in text.now)) }
+{
+    let Some((from, to)) = pair_in(text) else {
+        return Ok(());
+    };
+    ops.push(Op::Read(path_from(alloc, cwd, directory, from)?))?;
+    ops.push(Op::Write(path_from(alloc, cwd, directory, to)?))
+}
+
+fn push_ops(
+    alloc: Global,
+    ops: &mut Ops,
+    cwd: &[u8],
+    directory: &[u8],
+    kind: Kind,
+    text: &[u8],
+) -> Result<(), NoMemory>
+    ensures { OnOk result (ops.new ≡ ops.old ++ spec.ops_by kind cwd.now directory.now text.now) }
+{
+    match kind {
+        Kind::Reads | Kind::Misses | Kind::Writes | Kind::Deletes => {
+            push_one(alloc, ops, cwd, directory, kind, text)
+        }
+        Kind::Moves => push_move(alloc, ops, cwd, directory, text),
+        Kind::Links => push_link(alloc, ops, cwd, directory, text),
+        Kind::Enters | Kind::Forks => Ok(()),
+    }
+}
+
+fn enter(
+    alloc: Global,
+    directories: &mut Directories,
+    cwd: &[u8],
+    process: &[u8],
+    path: &[u8],
+) -> Result<(), NoMemory>
+    ensures { OnOk result (directories_in directories.new
+        ≡ spec.entered cwd.now (directories_in directories.old) process.now path.now) }
+{
+    if path.is_empty() {
+        return Ok(());
+    }
+    let directory = directory_from(alloc, directories.of(process, cwd), path)?;
+    directories.set(process, directory)
+}
+
+fn fork(
+    alloc: Global,
+    directories: &mut Directories,
+    cwd: &[u8],
+    process: &[u8],
+    child: &[u8],
+) -> Result<(), NoMemory>
+    ensures { OnOk result (directories_in directories.new
+        ≡ spec.forked cwd.now (directories_in directories.old) process.now child.now) }
+{
+    if !is_number(child) {
+        return Ok(());
+    }
+    let directory = Text::from_bytes(alloc, directories.of(process, cwd))?;
+    directories.set(number_of(child), directory)
+}
+
+fn read_line(
+    alloc: Global,
+    ops: &mut Ops,
+    directories: &mut Directories,
+    cwd: &[u8],
+    line: &[u8],
+) -> Result<(), NoMemory>
+    ensures ops { OnOk result (ops.new ≡ ops.old
+        ++ spec.ops_on cwd.now (directories_in directories.old) (spec.line_of line.now)) }
+    ensures directories { OnOk result (directories_in directories.new
+        ≡ spec.directories_after cwd.now (directories_in directories.old) (spec.line_of line.now)) }
+{
+    let Some((kind, process, text)) = line_of(line) else {
+        return Ok(());
+    };
+    match kind {
+        Kind::Enters => enter(alloc, directories, cwd, process, text),
+        Kind::Forks => fork(alloc, directories, cwd, process, text),
+        _ => push_ops(alloc, ops, cwd, directories.of(process, cwd), kind, text),
+    }
+}
+
+/// The records of a recorder's log, in order, each path absolute against the directory of its
+/// process and then named from `cwd`, which must be absolute and clean to be of use. A process that
+/// was not seen has the directory `cwd`. The last line may lack its newline. The time is linear in
+/// the lines, times the lengths of their directories.
+pub fn read_log(alloc: Global, log: &[u8], cwd: &[u8]) -> Result<Ops, NoMemory>
+    ensures { IfOk result (λ ops. ops ≡ spec.logged cwd.now log.now) }
+{
+    let mut ops = Items::new(alloc, 0)?;
+    let mut directories = Directories::new(alloc);
+    let mut rest = log;
+    'lines: while let Some((line, after)) = cut_at(b'\n', rest) {
+        read_line(alloc, &mut ops, &mut directories, cwd, line)?;
+        rest = after;
+    }
+    read_line(alloc, &mut ops, &mut directories, cwd, rest)?;
+    Ok(ops)
+}

@@ -1,0 +1,169 @@
+//! What records tell of each path, in one table.
+ghost use Rattle.std.specs.Prelude.{◌≡◌, [], OnOk, IfOk};
+ghost use Rattle.mk_filemon.specs.Outer.{touches};
+ghost use Rattle.mk_filemon.specs.Entries as spec;
+
+use indexmap::IndexMap;
+use mk_bytes::{Items, NoMemory, Text, Texts};
+use mk_world::Op;
+use std::alloc::Global;
+use std::marker::Model;
+
+/// What a record says of one path.
+#[derive(Clone, Copy, Debug)]
+pub enum Touch {
+    /// It was looked at, and stood.
+    Found,
+    /// It was looked for, and was missing.
+    Missed,
+    /// It stands written.
+    Written,
+    /// It is gone.
+    Gone,
+}
+
+/// What the records so far tell of one path.
+#[derive(Clone, Copy, Debug)]
+pub struct Trace {
+    /// It was found before it was changed.
+    pub found: bool,
+    /// It was missed before it was changed.
+    pub missed: bool,
+    pub changed: bool,
+    /// Its last change left a file there.
+    pub written: bool,
+}
+
+/// Which paths are asked for.
+#[derive(Clone, Copy, Debug)]
+pub enum Asked {
+    Outer,
+    Found,
+    Missed,
+    Written,
+}
+
+// Of a path that no record has named.
+fn no_trace() -> Trace
+    ensures { result ≡ spec.no_trace }
+{
+    Trace {
+        found: false,
+        missed: false,
+        changed: false,
+        written: false,
+    }
+}
+
+// A trace after one more record.
+fn after(trace: Trace, touch: Touch) -> Trace
+    ensures { result ≡ spec.after trace touch }
+{
+    match touch {
+        Touch::Found => Trace {
+            found: trace.found || !trace.changed,
+            ..trace
+        },
+        Touch::Missed => Trace {
+            missed: trace.missed || !trace.changed,
+            ..trace
+        },
+        Touch::Written => Trace {
+            changed: true,
+            written: true,
+            ..trace
+        },
+        Touch::Gone => Trace {
+            changed: true,
+            written: false,
+            ..trace
+        },
+    }
+}
+
+fn tells(asked: Asked, trace: Trace) -> bool
+    ensures { result ≡ spec.tells asked trace }
+{
+    match asked {
+        Asked::Outer => trace.found || trace.missed,
+        Asked::Found => trace.found,
+        Asked::Missed => trace.missed,
+        Asked::Written => trace.written,
+    }
+}
+
+/// The paths that records name, in the order of first record, each with its trace. One more record
+/// takes about constant time.
+#[derive(Drop)]
+pub struct Traces {
+    alloc: Global,
+    traces: IndexMap<Vec<u8>, Trace>,
+}
+
+impl Model for Traces {
+    ghost use Rattle.std.specs.Prelude.{List};
+    ghost use Rattle.mk_filemon.specs.Entries.{Traced, traced_of};
+
+    ghost Value = { List Traced };
+
+    ghost view = { λ table. traced_of table.traces.entries };
+}
+
+impl Traces {
+    pub fn new(alloc: Global) -> Traces
+        ensures { result ≡ [] }
+    {
+        Traces {
+            alloc,
+            traces: IndexMap::new(alloc),
+        }
+    }
+
+    fn trace_of(&self, path: &[u8]) -> Trace
+        ensures { result ≡ spec.trace_in self.now path.now }
+    {
+        match self.traces.get(path) {
+            Some(trace) => *trace,
+            None => no_trace(),
+        }
+    }
+
+    fn note(&mut self, path: &Text, touch: Touch) -> Result<(), NoMemory>
+        ensures { OnOk result (self.new ≡ spec.noted self.old path.now touch) }
+    {
+        let trace = after(self.trace_of(path.bytes()), touch);
+        let path = Vec::from_slice(self.alloc, path.bytes())?;
+        self.traces.insert(path, trace)?;
+        Ok(())
+    }
+
+    /// Notes what a record says of its paths.
+    pub fn note_op(&mut self, op: &Op) -> Result<(), NoMemory>
+        ensures { OnOk result (self.new ≡ spec.all_noted self.old (touches op.now)) }
+    {
+        match op {
+            Op::Read(path) => self.note(path, Touch::Found),
+            Op::Miss(path) => self.note(path, Touch::Missed),
+            Op::Write(path) => self.note(path, Touch::Written),
+            Op::Delete(path) => self.note(path, Touch::Gone),
+            Op::Move(from, to) => {
+                self.note(from, Touch::Found)?;
+                self.note(from, Touch::Gone)?;
+                self.note(to, Touch::Written)
+            }
+        }
+    }
+
+    /// The paths that are asked for, in order.
+    pub fn paths_that(&self, alloc: Global, asked: Asked) -> Result<Texts, NoMemory>
+        ensures { IfOk result (λ paths. paths ≡ spec.paths_that asked self.now) }
+    {
+        let mut paths = Items::new(alloc, 0)?;
+        for (path, trace) in self.traces.iter() {
+            if tells(asked, *trace) {
+                paths.push(Text::from_bytes(alloc, path.as_slice())?)?;
+            }
+        }
+        Ok(paths)
+    }
+}
