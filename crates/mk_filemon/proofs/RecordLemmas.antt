@@ -2,7 +2,7 @@
 use Rattle.std.proofs.Common.{◌≡◌, ℕ, ◌<◌, ◌≤◌, ◌+◌, ◌%◌, ◌^◌, Bool, true, false, ◌==◌}
 use Rattle.std.proofs.Common.{◌&&◌, nat_le, nat_lt, List, [], ◌∷◌, ◌++◌, Option, Some, None}
 use Rattle.std.proofs.Common.{decimal}
-use Rattle.std.proofs.Common.{if◌then◌else◌, option_and_then, refl, sym, ◌∙◌, ap, ap₂, subst, arith}
+use Rattle.std.proofs.Common.{if◌then◌else◌, option_and_then, refl, sym, ◌∙◌, ap, ap₂, subst, lit<, arith}
 use Rattle.std.proofs.lemmas.Bool.Decides.{nat_tests}
 use Rattle.std.proofs.lemmas.Fmt.{decimal_by_steps, decimal_is_IsNumeral}
 use Rattle.std.proofs.lemmas.List.{append-nil, append_assoc}
@@ -24,7 +24,7 @@ use Rattle.mk_filemon.proofs.EscapeLemmas.{IsWithout, IsWithout-push, cut_at-aga
 use Rattle.mk_filemon.proofs.EscapeLemmas.{cut_at-written}
 use Rattle.mk_filemon.proofs.TableLemmas.{same_bytes, bytes_eq-same}
 
-both_true : (a b : Bool) → (a && b) ≡ true → (a ≡ true) × (b ≡ true)
+pub both_true : (a b : Bool) → (a && b) ≡ true → (a ≡ true) × (b ≡ true)
 both_true true true is = (refl, refl)
 both_true true false is = absurd cc
 both_true false b is = absurd cc
@@ -76,7 +76,7 @@ number_in-other text read number all is other = go (number_in text) refl
         let so : number ≡ one = cc in
         absurd (other (ap decimal so ∙ sym written.0))
 
-option_map_some : {A B : Type 0} (f : A → B) (o : Option A) (y : B) → option_map f o ≡ Some y
+pub option_map_some : {A B : Type 0} (f : A → B) (o : Option A) (y : B) → option_map f o ≡ Some y
     → (x : A) × (o ≡ Some x) × (f x ≡ y)
 option_map_some f None y is = absurd cc
 option_map_some f (Some x) y is = (x, refl, cc)
@@ -100,25 +100,26 @@ line_in-written text line is =
       subst IsLine tests.1 (record { first = first; small = small }),
     ))
 
--- no space stands among digits
-digits-no_space : (number : ℕ) → number < 2 ^ 64 → IsWithout space (decimal number)
-digits-no_space number small =
-    decimal_by_steps (λ n digits. IsWithout space digits)
-    (λ n under. (not_space n under, tt))
+-- no byte before the digits stands among digits
+pub digits-without : (byte number : ℕ) → byte < 48 → number < 2 ^ 64
+    → IsWithout byte (decimal number)
+digits-without byte number low small =
+    decimal_by_steps (λ n digits. IsWithout byte digits)
+    (λ n under. (no_digit n, tt))
     (λ n digits over before.
-    IsWithout-push space digits (48 + n % 10) before (not_space (n % 10) (omega arith)))
+    IsWithout-push byte digits (48 + n % 10) before (no_digit (n % 10)))
     number small
   where
-    not_space : (digit : ℕ) → digit < 10 → (48 + digit == space) ≡ false
-    not_space digit under = grind (arith, nat_tests)
+    no_digit : (digit : ℕ) → (48 + digit == byte) ≡ false
+    no_digit digit = grind (arith, nat_tests)
 
-unescaped-again : (path : List ℕ) → unescaped (escaped false path) ≡ Some path
+pub unescaped-again : (path : List ℕ) → unescaped (escaped false path) ≡ Some path
 unescaped-again path =
     ap (λ part. option_map (λ found. found.0) part)
     (ap (part_at false) (sym (append-nil (escaped false path)))
     ∙ part-again false path [] (λ none. refl))
 
-unescaped-written : (text path : List ℕ) → unescaped text ≡ Some path
+pub unescaped-written : (text path : List ℕ) → unescaped text ≡ Some path
     → text ≡ escaped false path
 unescaped-written text path is =
     let found = option_map_some (λ (found : List ℕ × List ℕ). found.0)
@@ -239,7 +240,7 @@ pub record_in-again : (line : ℕ) (op : Op) → IsLine line
     → record_in (record_text line op) ≡ Some (record { line = line; op = op })
 record_in-again line op is =
     let cut = cut_at-again space (decimal line) (data_of op)
-    (digits-no_space line (omega (arith, is.small))) in
+    (digits-without space line (lit< tt) (omega (arith, is.small))) in
     rw (cut, line_in-decimal line is, op_in-again op) refl
 
 head_at-written : (text : List ℕ) (letter line : ℕ) (rest : List ℕ)

@@ -156,8 +156,11 @@ pub fn read_op(alloc: Global, text: &[u8]) -> Result<Option<Rec>, NoMemory>
     ensures found { IfOk result (λ found. IfSome found (λ one.
         spec.IsLine one.line × (text.now ≡ spec.record_text one.line one.op))) }
     // What is written so is read.
-    ensures only { (line : ℕ) (op : Op') → spec.IsLine line → text.now ≡ spec.record_text line op
+    ensures only { (line : ℕ) (op : Op') → spec.IsLine line
+        → text.now ≡ spec.record_text line op
         → IfOk result (λ found. found ≡ Some (record { line = line; op = op })) }
+    // It is what the definition reads.
+    ensures exact { IfOk result (λ found. found ≡ spec.record_in text.now) }
 {
     read_record(alloc, text)
 }
