@@ -1,0 +1,11 @@
+use Rattle.std.proofs.Common.{length}
+use Rattle.mk_meta.specs.Reading.{line_read, command_in}
+use Rattle.mk_meta.proofs.ManyLemmas.{IsGoing}
+use Rattle.mk_meta.proofs.reading.command_lines.Given as goal
+
+-- the lines so far, and those that the rest begins with
+abbrev pub invariant-lines : goal.invariant-lines
+invariant-lines l = IsGoing (line_read command_in) l.text l.lines l.rest
+
+abbrev pub decreases-lines : goal.decreases-lines
+decreases-lines l = length l.rest

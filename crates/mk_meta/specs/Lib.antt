@@ -1,0 +1,5 @@
+pub mod Lawful
+pub mod Laws
+pub mod Reading
+pub mod Texts
+pub mod Views

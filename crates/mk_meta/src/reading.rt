@@ -1,0 +1,349 @@
+//! Meta files as they are read.
+ghost use Rattle.std.specs.Prelude.{◌≡◌, ◌<◌, ◌≤◌, Some, length, IfOk, IfSome};
+ghost use Rattle.std.specs.Option.{option_map};
+ghost use Rattle.std.specs.Str.{bytes_eq};
+ghost use Rattle.mk_meta.specs.Lawful as lawful;
+ghost use Rattle.mk_meta.specs.Reading as spec;
+ghost use Rattle.mk_meta.specs.Texts.{meta_text, head_line as head_line_of};
+ghost use Rattle.mk_meta.specs.Views.{front_view, middle_view};
+ghost use Rattle.mk_meta.specs.declared.meta.Meta.{Meta as Meta'};
+
+use crate::line::{command_in, export_in, number_behind, record_of, stripped, text_in};
+use crate::meta::Meta;
+use crate::writing::head_line;
+use mk_bytes::{Items, NoMemory, Pair, Pairs, Text};
+use mk_filemon::{Rec, Recs, cut_at};
+use mk_world::{Lines, TaskLine, Time};
+use std::alloc::Global;
+
+// The stamp, the commands and their directory.
+#[derive(Drop)]
+struct Front {
+    stamp: u64,
+    lines: Lines,
+    cwd: Text,
+}
+
+// The exported variables, the target and the output.
+#[derive(Drop)]
+struct Middle {
+    exports: Pairs,
+    target: Text,
+    output: Text,
+}
+
+fn text_line<'t>(
+    alloc: Global,
+    label: &[u8],
+    text: &'t [u8],
+) -> Result<Option<(Text, &'t [u8])>, NoMemory>
+    ensures { IfOk result (λ found. option_map (λ read. (read.0, read.1.now)) found
+        ≡ spec.line_read (spec.text_in label.now) text.now) }
+{
+    let Some((line, rest)) = cut_at(b'\n', text) else {
+        return Ok(None);
+    };
+    match text_in(alloc, label, line)? {
+        Some(value) => Ok(Some((value, rest))),
+        None => Ok(None),
+    }
+}
+
+fn number_line<'t>(label: &[u8], text: &'t [u8]) -> Option<(u64, &'t [u8])>
+    ensures { option_map (λ read. (read.0, read.1.now)) result
+        ≡ spec.line_read (spec.number_behind label.now) text.now }
+{
+    let (line, rest) = cut_at(b'\n', text)?;
+    let number = number_behind(label, line)?;
+    Some((number, rest))
+}
+
+fn command_line<'t>(alloc: Global, text: &'t [u8]) -> Result<Option<(TaskLine, &'t [u8])>, NoMemory>
+    ensures read { IfOk result (λ found. option_map (λ read. (read.0, read.1.now)) found
+        ≡ spec.line_read spec.command_in text.now) }
+    ensures shorter { IfOk result (λ found.
+        IfSome found (λ read. length read.1.now < length text.now)) }
+{
+    let Some((line, rest)) = cut_at(b'\n', text) else {
+        return Ok(None);
+    };
+    match command_in(alloc, line)? {
+        Some(command) => Ok(Some((command, rest))),
+        None => Ok(None),
+    }
+}
+
+// As many commands as follow one another.
+fn command_lines<'t>(alloc: Global, text: &'t [u8]) -> Result<(Lines, &'t [u8]), NoMemory>
+    ensures { IfOk result (λ read.
+        (read.0, read.1.now) ≡ spec.all_of (spec.line_read spec.command_in) text.now) }
+{
+    let mut lines = Items::new(alloc, 0)?;
+    let mut rest = text;
+    'lines: while let Some((line, after)) = command_line(alloc, rest)? {
+        lines.push(line)?;
+        rest = after;
+    }
+    Ok((lines, rest))
+}
+
+fn export_line<'t>(alloc: Global, text: &'t [u8]) -> Result<Option<(Pair, &'t [u8])>, NoMemory>
+    ensures read { IfOk result (λ found. option_map (λ read. (read.0, read.1.now)) found
+        ≡ spec.line_read spec.export_in text.now) }
+    ensures shorter { IfOk result (λ found.
+        IfSome found (λ read. length read.1.now < length text.now)) }
+{
+    let Some((line, rest)) = cut_at(b'\n', text) else {
+        return Ok(None);
+    };
+    match export_in(alloc, line)? {
+        Some(pair) => Ok(Some((pair, rest))),
+        None => Ok(None),
+    }
+}
+
+// As many exported variables as follow one another.
+fn export_lines<'t>(alloc: Global, text: &'t [u8]) -> Result<(Pairs, &'t [u8]), NoMemory>
+    ensures { IfOk result (λ read.
+        (read.0, read.1.now) ≡ spec.all_of (spec.line_read spec.export_in) text.now) }
+{
+    let mut exports = Items::new(alloc, 0)?;
+    let mut rest = text;
+    'lines: while let Some((pair, after)) = export_line(alloc, rest)? {
+        exports.push(pair)?;
+        rest = after;
+    }
+    Ok((exports, rest))
+}
+
+fn record_line<'t>(
+    alloc: Global,
+    count: usize,
+    text: &'t [u8],
+) -> Result<Option<(Rec, &'t [u8])>, NoMemory>
+    ensures read { IfOk result (λ found. option_map (λ read. (read.0, read.1.now)) found
+        ≡ spec.line_read (spec.record_of count) text.now) }
+    ensures shorter { IfOk result (λ found.
+        IfSome found (λ read. length read.1.now < length text.now)) }
+{
+    let Some((line, rest)) = cut_at(b'\n', text) else {
+        return Ok(None);
+    };
+    match record_of(alloc, count, line)? {
+        Some(one) => Ok(Some((one, rest))),
+        None => Ok(None),
+    }
+}
+
+// As many records as follow one another.
+fn record_lines<'t>(
+    alloc: Global,
+    count: usize,
+    text: &'t [u8],
+) -> Result<(Recs, &'t [u8]), NoMemory>
+    ensures { IfOk result (λ read.
+        (read.0, read.1.now) ≡ spec.all_of (spec.line_read (spec.record_of count)) text.now) }
+{
+    let mut records = Items::new(alloc, 0)?;
+    let mut rest = text;
+    'lines: while let Some((one, after)) = record_line(alloc, count, rest)? {
+        records.push(one)?;
+        rest = after;
+    }
+    Ok((records, rest))
+}
+
+fn read_front<'t>(alloc: Global, text: &'t [u8]) -> Result<Option<(Front, &'t [u8])>, NoMemory>
+    ensures { IfOk result (λ found.
+        option_map (λ read. (front_view read.0, read.1.now)) found ≡ spec.front_at text.now) }
+{
+    let Some((stamp, rest)) = number_line(b"STAMP ", text) else {
+        return Ok(None);
+    };
+    let (lines, rest) = command_lines(alloc, rest)?;
+    match text_line(alloc, b"CWD ", rest)? {
+        Some((cwd, rest)) => Ok(Some((Front { stamp, lines, cwd }, rest))),
+        None => Ok(None),
+    }
+}
+
+// So many bytes, and what follows their newline.
+fn read_bytes<'t>(count: u64, text: &'t [u8]) -> Option<(&'t [u8], &'t [u8])>
+    ensures { option_map (λ read. (read.0.now, read.1.now)) result ≡ spec.output_of count text.now }
+{
+    if count >= text.len() as u64 {
+        return None;
+    }
+    let (output, rest) = text.split_at(count as usize);
+    match rest {
+        [b'\n', after @ ..] => Some((output, after)),
+        _ => None,
+    }
+}
+
+fn read_output<'t>(text: &'t [u8]) -> Option<(&'t [u8], &'t [u8])>
+    ensures { option_map (λ read. (read.0.now, read.1.now)) result ≡ spec.output_at text.now }
+{
+    let (count, rest) = number_line(b"OUTPUT ", text)?;
+    let rest = stripped(b"-- command output --\n", rest)?;
+    read_bytes(count, rest)
+}
+
+fn is_before(pair: &Pair, rest: &[Pair]) -> bool
+    ensures { result ≡ lawful.is_before pair.now rest.now }
+{
+    match rest.split_first() {
+        Some((next, _)) => pair.name.bytes().cmp(next.name.bytes()).is_lt(),
+        None => true,
+    }
+}
+
+fn are_sorted(exports: &[Pair]) -> bool
+    ensures { result ≡ lawful.are_sorted exports.now }
+{
+    let mut rest = exports;
+    'pairs: while let Some((pair, more)) = rest.split_first() {
+        if !is_before(pair, more) {
+            return false;
+        }
+        rest = more;
+    }
+    true
+}
+
+// Reads the target and the output behind exported variables.
+fn read_target<'t>(
+    alloc: Global,
+    exports: Pairs,
+    text: &'t [u8],
+) -> Result<Option<(Middle, &'t [u8])>, NoMemory>
+    ensures { IfOk result (λ found. option_map (λ read. (middle_view read.0, read.1.now)) found
+        ≡ spec.target_behind (exports, text.now)) }
+{
+    let Some((target, rest)) = text_line(alloc, b"TARGET ", text)? else {
+        return Ok(None);
+    };
+    let Some((output, rest)) = read_output(rest) else {
+        return Ok(None);
+    };
+    let output = Text::from_bytes(alloc, output)?;
+    Ok(Some((
+        Middle {
+            exports,
+            target,
+            output,
+        },
+        rest,
+    )))
+}
+
+fn read_middle<'t>(alloc: Global, text: &'t [u8]) -> Result<Option<(Middle, &'t [u8])>, NoMemory>
+    ensures { IfOk result (λ found.
+        option_map (λ read. (middle_view read.0, read.1.now)) found ≡ spec.middle_at text.now) }
+{
+    let (exports, rest) = export_lines(alloc, text)?;
+    if !are_sorted(exports.as_slice()) {
+        return Ok(None);
+    }
+    read_target(alloc, exports, rest)
+}
+
+// Reads the records, where there are any, and the last line.
+fn read_records<'t>(
+    alloc: Global,
+    count: usize,
+    text: &'t [u8],
+) -> Result<Option<(Option<Recs>, &'t [u8])>, NoMemory>
+    ensures { IfOk result (λ found.
+        option_map (λ read. (read.0, read.1.now)) found ≡ spec.records_at count text.now) }
+{
+    let (records, rest) = match stripped(b"-- filemon acquired metadata --\n", text) {
+        Some(rest) => {
+            let (records, rest) = record_lines(alloc, count, rest)?;
+            (Some(records), rest)
+        }
+        None => (None, text),
+    };
+    match stripped(b"# end 3\n", rest) {
+        Some(rest) => Ok(Some((records, rest))),
+        None => Ok(None),
+    }
+}
+
+// Whether the first line names this target.
+fn is_head(alloc: Global, target: &Text, first: &[u8]) -> Result<bool, NoMemory>
+    ensures { IfOk result (λ is. is ≡ bytes_eq (head_line_of target.now) first.now) }
+{
+    let head = head_line(alloc, target.bytes())?;
+    Ok(head.bytes() == first)
+}
+
+// Reads what stands behind the first line and the front.
+fn read_behind<'t>(
+    alloc: Global,
+    first: &[u8],
+    front: Front,
+    text: &'t [u8],
+) -> Result<Option<(Meta, &'t [u8])>, NoMemory>
+    ensures { IfOk result (λ found. option_map (λ read. (read.0, read.1.now)) found
+        ≡ spec.meta_behind first.now (front_view front, text.now)) }
+{
+    let Some((middle, rest)) = read_middle(alloc, text)? else {
+        return Ok(None);
+    };
+    let Some((records, rest)) = read_records(alloc, front.lines.len(), rest)? else {
+        return Ok(None);
+    };
+    if !is_head(alloc, &middle.target, first)? {
+        return Ok(None);
+    }
+    Ok(Some((value_of(front, middle, records), rest)))
+}
+
+fn value_of(front: Front, middle: Middle, records: Option<Recs>) -> Meta
+    ensures { result ≡ spec.value_of (front_view front) (middle_view middle) records }
+{
+    Meta {
+        stamp: Time(front.stamp),
+        exports: middle.exports,
+        lines: front.lines,
+        cwd: front.cwd,
+        target: middle.target,
+        output: middle.output,
+        records,
+    }
+}
+
+fn read_value<'t>(alloc: Global, text: &'t [u8]) -> Result<Option<(Meta, &'t [u8])>, NoMemory>
+    ensures { IfOk result (λ found.
+        option_map (λ read. (read.0, read.1.now)) found ≡ spec.meta_at text.now) }
+{
+    let Some((first, rest)) = cut_at(b'\n', text) else {
+        return Ok(None);
+    };
+    let Some((front, rest)) = read_front(alloc, rest)? else {
+        return Ok(None);
+    };
+    read_behind(alloc, first, front, rest)
+}
+
+fn read_whole(alloc: Global, text: &[u8]) -> Result<Option<Meta>, NoMemory>
+    ensures { IfOk result (λ found. found ≡ spec.meta_in text.now) }
+{
+    match read_value(alloc, text)? {
+        Some((meta, [])) => Ok(Some(meta)),
+        _ => Ok(None),
+    }
+}
+
+/// The value that a text is the meta file of, and `None` exactly for a text that is none.
+pub fn read_meta(alloc: Global, text: &[u8]) -> Result<Option<Meta>, NoMemory>
+    // What is read is written so.
+    ensures found { IfOk result (λ found. IfSome found (λ meta.
+        lawful.IsLawful meta × (text.now ≡ meta_text meta))) }
+    // What is written so is read.
+    ensures only { (meta : Meta') → lawful.IsLawful meta → text.now ≡ meta_text meta
+        → IfOk result (λ found. found ≡ Some meta) }
+{
+    read_whole(alloc, text)
+}
