@@ -1,23 +1,22 @@
 -- The lines of a meta file, read and written.
-use Rattle.std.proofs.Common.{◌≡◌, ◌≢◌, ℕ, ◌<◌, ◌≤◌, ◌^◌, ◌==◌, ◌&&◌, ◌||◌, Bool, true, false, not}
+use Rattle.std.proofs.Common.{◌≡◌, ℕ, ◌<◌, ◌^◌, ◌==◌, Bool, true, false, not}
 use Rattle.std.proofs.Common.{List}
 use Rattle.std.proofs.Common.{[], ◌∷◌, ◌++◌, length, take, drop, codes, Option, Some, None, decimal}
-use Rattle.std.proofs.Common.{if◌then◌else◌, option_and_then, refl, sym, ◌∙◌, ap, ap₂, subst, arith}
+use Rattle.std.proofs.Common.{option_and_then, refl, sym, ◌∙◌, ap, ap₂, subst, arith}
 use Rattle.std.proofs.Common.{append_assoc, lit<, nat_le, nat_eq}
 use Rattle.std.proofs.lemmas.Bool.Decides.{nat_tests}
 use Rattle.std.proofs.lemmas.Grind.{common_steps}
-use Rattle.std.proofs.lemmas.Option.{option_and_then_some, cond_some, some_pair_parts}
+use Rattle.std.proofs.lemmas.Option.{option_and_then_some, cond_some}
 use Rattle.std.specs.List.{starts_with, list_all}
 use Rattle.std.specs.Option.{option_map}
-use Rattle.mk_bytes.specs.Bytes.{newline, space, minus, equals_sign, underscore, backslash}
-use Rattle.mk_bytes.specs.Bytes.{is_letter}
-use Rattle.mk_bytes.specs.Bytes.{is_digit, is_blank, at_sign, plus}
+use Rattle.mk_bytes.specs.Bytes.{newline, space, minus, equals_sign, backslash}
+use Rattle.mk_bytes.specs.Bytes.{is_digit}
 use Rattle.mk_bytes.specs.declared.pair.Pair.{Pair}
 use Rattle.mk_filemon.specs.Escapes.{escaped, escaped_byte, is_quote, quote, cut_at, unescaped}
 use Rattle.mk_filemon.specs.Escapes.{number_in}
 use Rattle.mk_filemon.specs.Records.{IsLine, record_text, record_in, letter_of, data_of, quoted}
 use Rattle.mk_filemon.specs.declared.record.Rec.{Rec}
-use Rattle.mk_filemon.proofs.EscapeLemmas.{cases, same_number, IsWithout, IsWithout-push}
+use Rattle.mk_filemon.proofs.EscapeLemmas.{cases, same_number, IsWithout}
 use Rattle.mk_filemon.proofs.EscapeLemmas.{cut_at-again}
 use Rattle.mk_filemon.proofs.EscapeLemmas.{cut_at-written}
 use Rattle.mk_filemon.proofs.RecordLemmas.{both_true, option_map_some, unescaped-again}
@@ -28,7 +27,7 @@ use Rattle.mk_world.specs.declared.command.TaskLine.{TaskLine}
 use Rattle.mk_world.specs.declared.step.Op.{Op}
 use Rattle.mk_world.specs.declared.step.Op.TheVariants as op
 use Rattle.mk_meta.specs.Lawful.{is_command, IsKept, is_name_byte, is_export_name, IsOfLines}
-use Rattle.mk_meta.specs.Reading.{Read, stripped, line_read, text_in, number_behind, kept}
+use Rattle.mk_meta.specs.Reading.{stripped, line_read, text_in, number_behind, kept}
 use Rattle.mk_meta.specs.Reading.{command_of}
 use Rattle.mk_meta.specs.Reading.{command_behind, command_in, named, export_in, of_lines, record_of}
 use Rattle.mk_meta.specs.Texts.{sign, line_of, number_line, command_line, export_line, record_line}

@@ -1,9 +1,8 @@
 -- The text of a meta file, read again and written again.
-use Rattle.std.proofs.Common.{◌≡◌, ◌≢◌, ℕ, ◌<◌, ◌^◌, ◌==◌, Bool, true, false, List, [], ◌∷◌, ◌++◌}
+use Rattle.std.proofs.Common.{◌≡◌, ℕ, ◌<◌, ◌^◌, ◌==◌, true, false, List, [], ◌∷◌, ◌++◌}
 use Rattle.std.proofs.Common.{length}
 use Rattle.std.proofs.Common.{take, drop, codes, flat_map, Option, Some, None, IfSome, nat_lt}
-use Rattle.std.proofs.Common.{decimal}
-use Rattle.std.proofs.Common.{if◌then◌else◌, option_and_then, refl, sym, ◌∙◌, ap, ap₂, subst, arith}
+use Rattle.std.proofs.Common.{option_and_then, refl, sym, ◌∙◌, ap, ap₂, subst, arith}
 use Rattle.std.proofs.Common.{append_assoc, length-append}
 use Rattle.std.proofs.lemmas.Bool.Decides.{nat_tests}
 use Rattle.std.proofs.lemmas.Grind.{common_steps}
@@ -24,8 +23,7 @@ use Rattle.mk_filemon.proofs.TableLemmas.{same_bytes, bytes_eq-same}
 use Rattle.mk_world.specs.declared.command.TaskLine.{TaskLine}
 use Rattle.mk_meta.specs.Lawful.{IsKept, is_export_name, are_sorted, IsOfLines, IsLawful}
 use Rattle.mk_meta.specs.Laws.{NoneBegins, HeadIsNone}
-use Rattle.mk_meta.specs.Reading as read
-use Rattle.mk_meta.specs.Reading.{Read, Many, Front, Middle, Records, stripped, line_read, text_in}
+use Rattle.mk_meta.specs.Reading.{Read, Front, Middle, Records, stripped, line_read, text_in}
 use Rattle.mk_meta.specs.Reading.{number_behind, command_in, export_in, record_of, all_of, counted}
 use Rattle.mk_meta.specs.Reading.{front_at, front_behind, output_of, output_at, middle_behind}
 use Rattle.mk_meta.specs.Reading.{target_behind, sorted, middle_at, end_behind, some_records}
@@ -39,7 +37,7 @@ use Rattle.mk_meta.proofs.LineLemmas.{stripped-again, stripped-written, line_rea
 use Rattle.mk_meta.proofs.LineLemmas.{escaped-line}
 use Rattle.mk_meta.proofs.LineLemmas.{IsWithout-append, text_line-again, text_line-written}
 use Rattle.mk_meta.proofs.LineLemmas.{number_line-again, number_line-written}
-use Rattle.mk_meta.proofs.ManyLemmas.{all-again, many-written, AreWritten}
+use Rattle.mk_meta.proofs.ManyLemmas.{all-again, many-written}
 
 abbrev front_of : Meta → Front
 front_of meta = record { stamp = meta.stamp.0; lines = meta.lines; cwd = meta.cwd }
@@ -172,12 +170,13 @@ output_at-written text output rest is =
     (λ behind there right.
     let count = number_line-written (codes "OUTPUT ") text c.0 c.1 at in
     let bytes = output_of-written c.0 behind output rest right in
-    let mark = stripped-written marker c.1 behind there in
-    (count.0 ∙ ap₂ (λ (n : ℕ) t. number_line (codes "OUTPUT ") n ++ t) bytes.1
-    (mark ∙ ap (λ b. marker ++ b) bytes.0) ∙ sym (four
-    (number_line (codes "OUTPUT ") (length output))
-    marker output (newline ∷ []) rest),
-    subst (λ n. n < 2 ^ 64) bytes.1 count.1)))
+    let mark = stripped-written marker c.1 behind there in (
+      count.0 ∙ ap₂ (λ (n : ℕ) t. number_line (codes "OUTPUT ") n ++ t) bytes.1
+          (mark ∙ ap (λ b. marker ++ b) bytes.0) ∙ sym (four
+          (number_line (codes "OUTPUT ") (length output))
+          marker output (newline ∷ []) rest),
+      subst (λ n. n < 2 ^ 64) bytes.1 count.1,
+    )))
 
 -- exported variables, the target and the output
 some_export : (pair : Pair) → 0 < length (export_line pair)
@@ -260,7 +259,7 @@ middle-written text found rest is =
           ++ output_lines found.output) ++ rest) same;
       output = behind.2;
       names = subst (AllByRecursion (λ (pair : Pair). is_export_name pair.name ≡ true)) same
-      lines.each;
+          lines.each;
       in_order = ap are_sorted behind.0 ∙ right;
     })
     (λ wrong. let none : None ≡ Some (found, rest) = rw wrong at is in absurd cc)
@@ -294,10 +293,11 @@ end-written : (records found : Records) (text rest : List ℕ)
 end-written records found text rest is =
     let behind = option_map_some (λ (r : List ℕ). (records, r)) (stripped (codes "# end 3\n") text)
     (found, rest) is in
-    let same : ◌≡◌ {A = Records × List ℕ} (records, behind.0) (found, rest) = behind.2 in
-    (stripped-written (codes "# end 3\n") text behind.0 behind.1
-    ∙ ap (λ (p : Records × List ℕ). codes "# end 3\n" ++ p.1) same,
-    ap (λ (p : Records × List ℕ). p.0) same)
+    let same : ◌≡◌ {A = Records × List ℕ} (records, behind.0) (found, rest) = behind.2 in (
+      stripped-written (codes "# end 3\n") text behind.0 behind.1
+          ∙ ap (λ (p : Records × List ℕ). codes "# end 3\n" ++ p.1) same,
+      ap (λ (p : Records × List ℕ). p.0) same,
+    )
 
 records-written : (count : ℕ) (text : List ℕ) (found : Records) (rest : List ℕ)
     → records_at count text ≡ Some (found, rest)
@@ -309,7 +309,7 @@ records-written count text found rest is = go (stripped marker text) refl is
     marker = codes "-- filemon acquired metadata --\n"
 
     go : (behind : Option (List ℕ)) → stripped (codes "-- filemon acquired metadata --\n") text
-    ≡ behind
+        ≡ behind
         → records_behind count text behind ≡ Some (found, rest)
         → (text ≡ (records_lines found ++ codes "# end 3\n") ++ rest)
         × IfSome found (AllByRecursion (IsOfLines count))
@@ -347,9 +347,46 @@ parts meta rest = regroup (head_line meta.target) (front meta) (middle meta)
 head-one : (target : List ℕ) → IsWithout newline (head_line target)
 head-one target =
     IsWithout-append newline (codes "# Meta data file " ++ escaped false target) (codes ".meta")
-    (IsWithout-append newline (codes "# Meta data file ") (escaped false target)
-    (refl, (refl, (refl, (refl, (refl, (refl, (refl, (refl, (refl, (refl, (refl, (refl, (refl,
-    (refl, (refl, (refl, (refl, tt))))))))))))))))) (escaped-line false target))
+    (IsWithout-append newline (codes "# Meta data file ") (escaped false target) (
+      refl,
+      (
+        refl,
+        (
+          refl,
+          (
+            refl,
+            (
+              refl,
+              (
+                refl,
+                (
+                  refl,
+                  (
+                    refl,
+                    (
+                      refl,
+                      (
+                        refl,
+                        (
+                          refl,
+                          (
+                            refl,
+                            (
+                              refl,
+                              (refl, (refl, (refl, (refl, tt)))),
+                            ),
+                          ),
+                        ),
+                      ),
+                    ),
+                  ),
+                ),
+              ),
+            ),
+          ),
+        ),
+      ),
+    ) (escaped-line false target))
     (refl, (refl, (refl, (refl, (refl, tt)))))
 
 -- What is written is read, whatever follows it.
@@ -398,17 +435,19 @@ behind-written first text found meta rest is small each =
     let same : ◌≡◌ {A = Meta × List ℕ} (value, r.1) (meta, rest) = ends.1 in
     subst (λ (p : Meta × List ℕ). (found ≡ front_of p.0) × (first ≡ head_line p.0.target)
     × (text ≡ middle p.0 ++ ((records_lines p.0.records ++ codes "# end 3\n") ++ p.1))
-    × IsLawful p.0) same
-    (refl, sym (same_bytes (head_line value.target) first ends.0),
-    center.is ∙ ap (λ b. middle value ++ b) last.0,
-    record {
-      stamp = small;
-      output = center.output;
-      lines = each;
-      names = center.names;
-      sorted = center.in_order;
-      records = last.1;
-    })))
+    × IsLawful p.0) same (
+      refl,
+      sym (same_bytes (head_line value.target) first ends.0),
+      center.is ∙ ap (λ b. middle value ++ b) last.0,
+      record {
+        stamp = small;
+        output = center.output;
+        lines = each;
+        names = center.names;
+        sorted = center.in_order;
+        records = last.1;
+      },
+    )))
 
 pub meta-written : (text : List ℕ) (meta : Meta) (rest : List ℕ)
     → meta_at text ≡ Some (meta, rest) → MetaIs text meta rest
@@ -445,10 +484,11 @@ pub meta_in-written : (text : List ℕ) (meta : Meta) → meta_in text ≡ Some 
 meta_in-written text meta is =
     option_and_then_some no_rest (meta_at text) meta is
     (λ found at so. let over = no_rest-some found meta so in
-    let whole = meta-written text found.0 found.1 at in
-    (subst IsLawful over.0 whole.lawful,
-    whole.is ∙ ap₂ (λ (m : Meta) r. meta_text m ++ r) over.0 over.1
-    ∙ append-nil (meta_text meta)))
+    let whole = meta-written text found.0 found.1 at in (
+      subst IsLawful over.0 whole.lawful,
+      whole.is ∙ ap₂ (λ (m : Meta) r. meta_text m ++ r) over.0 over.1
+          ∙ append-nil (meta_text meta),
+    ))
 
 pub none_begins : NoneBegins
 none_begins one other rest is also same =

@@ -1,5 +1,5 @@
 -- How the text of a meta file is read, line by line from its beginning.
-use Rattle.std.specs.Prelude.{ℕ, zero, suc, ◌==◌, ◌&&◌, Bool, true, false, nat_eq, nat_le, nat_lt}
+use Rattle.std.specs.Prelude.{ℕ, zero, suc, ◌==◌, Bool, true, false, nat_eq, nat_le, nat_lt}
 use Rattle.std.specs.Prelude.{List}
 use Rattle.std.specs.Prelude.{[], ◌∷◌, length, take, drop, codes, Option, Some, None, if◌then◌else◌}
 use Rattle.std.specs.Prelude.{option_and_then}
@@ -8,7 +8,7 @@ use Rattle.std.specs.Option.{option_map}
 use Rattle.std.specs.Str.{bytes_eq}
 use Rattle.mk_bytes.specs.Bytes.{newline, minus, equals_sign}
 use Rattle.mk_bytes.specs.declared.pair.Pair.{Pair}
-use Rattle.mk_filemon.specs.Escapes.{Part, cut_at, unescaped, number_in}
+use Rattle.mk_filemon.specs.Escapes.{cut_at, unescaped, number_in}
 use Rattle.mk_filemon.specs.Records.{record_in}
 use Rattle.mk_filemon.specs.declared.record.Rec.{Rec}
 use Rattle.mk_world.specs.declared.command.TaskLine.{TaskLine}

@@ -1,6 +1,6 @@
 -- The text of a meta file (make(1), "META MODE"), in this project's own form.
 use Rattle.std.specs.Prelude.{ℕ, Bool, true, false, List, [], ◌∷◌, ◌++◌, length, flat_map, codes}
-use Rattle.std.specs.Prelude.{Option, Some, None, if◌then◌else◌, decimal}
+use Rattle.std.specs.Prelude.{Option, Some, None, decimal}
 use Rattle.mk_bytes.specs.Bytes.{newline, minus, equals_sign}
 use Rattle.mk_bytes.specs.declared.pair.Pair.{Pair}
 use Rattle.mk_filemon.specs.Escapes.{escaped}

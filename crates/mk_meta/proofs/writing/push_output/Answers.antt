@@ -1,4 +1,4 @@
-use Rattle.std.proofs.Common.{◌∙◌, ap, ap₂, codes, length, ◌++◌, ◌∷◌, []}
+use Rattle.std.proofs.Common.{◌∙◌, ap, codes, length, ◌++◌, ◌∷◌, []}
 use Rattle.mk_bytes.specs.Bytes.{newline}
 use Rattle.mk_meta.specs.Texts.{number_line}
 use Rattle.mk_meta.proofs.LineLemmas.{pushed}
