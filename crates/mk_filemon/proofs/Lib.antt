@@ -1,7 +1,10 @@
+pub mod CutLemmas
 pub mod DirectoryLemmas
 pub mod EscapeLemmas
 pub mod LogLemmas
+pub mod PathLemmas
 pub mod RecordLemmas
 pub mod Rows
 pub mod StepLemmas
 pub mod TableLemmas
+pub mod TraceLemmas

@@ -2,7 +2,8 @@
 use Rattle.std.proofs.Common.{◌≡◌, ℕ, ◌<◌, ◌≤◌, ◌+◌, ◌%◌, ◌^◌, Bool, true, false, ◌==◌}
 use Rattle.std.proofs.Common.{◌&&◌, nat_le, nat_lt, List, [], ◌∷◌, ◌++◌, Option, Some, None}
 use Rattle.std.proofs.Common.{decimal}
-use Rattle.std.proofs.Common.{if◌then◌else◌, option_and_then, refl, sym, ◌∙◌, ap, ap₂, subst, lit<, arith}
+use Rattle.std.proofs.Common.{if◌then◌else◌, option_and_then, refl, sym, ◌∙◌, ap, ap₂, subst, lit<}
+use Rattle.std.proofs.Common.{arith}
 use Rattle.std.proofs.lemmas.Bool.Decides.{nat_tests}
 use Rattle.std.proofs.lemmas.Fmt.{decimal_by_steps, decimal_is_IsNumeral}
 use Rattle.std.proofs.lemmas.List.{append-nil, append_assoc}
@@ -20,9 +21,9 @@ use Rattle.mk_filemon.specs.Records.{IsLine, letter_of, quoted, data_of, record_
 use Rattle.mk_filemon.specs.Records.{line_in, numbered, head_at, quoted_at, moved, move_to, move_in}
 use Rattle.mk_filemon.specs.Records.{op_with, op_in, with_op, record_in}
 use Rattle.mk_filemon.proofs.EscapeLemmas.{cases, same_number, part-again, part-written}
-use Rattle.mk_filemon.proofs.EscapeLemmas.{IsWithout, IsWithout-push, cut_at-again}
-use Rattle.mk_filemon.proofs.EscapeLemmas.{cut_at-written}
-use Rattle.mk_filemon.proofs.TableLemmas.{same_bytes, bytes_eq-same}
+use Rattle.mk_filemon.proofs.CutLemmas.{IsWithout, IsWithout-push, cut_at-again}
+use Rattle.mk_filemon.proofs.CutLemmas.{cut_at-written}
+use Rattle.mk_filemon.proofs.PathLemmas.{same_bytes, bytes_eq-same}
 
 pub both_true : (a b : Bool) → (a && b) ≡ true → (a ≡ true) × (b ≡ true)
 both_true true true is = (refl, refl)

@@ -15,7 +15,7 @@ use Rattle.mk_filemon.specs.Outer.{once, named}
 use Rattle.mk_filemon.specs.Steps.{TellOuterReads, TellWritten, SameByRecords, stands_by}
 use Rattle.mk_filemon.specs.declared.trace.Touch.TheVariants.{Found, Missed, Written, Gone}
 use Rattle.mk_filemon.proofs.EscapeLemmas.{cases}
-use Rattle.mk_filemon.proofs.TableLemmas.{same_bytes, bytes_eq-same}
+use Rattle.mk_filemon.proofs.PathLemmas.{same_bytes, bytes_eq-same}
 
 abbrev Paths : Type 0
 Paths = List (List ℕ)

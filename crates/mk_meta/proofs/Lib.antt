@@ -1,3 +1,9 @@
+pub mod CommandLemmas
+pub mod EndLemmas
+pub mod ExportLemmas
+pub mod FrontLemmas
 pub mod LineLemmas
 pub mod ManyLemmas
 pub mod MetaLemmas
+pub mod MiddleLemmas
+pub mod RecordLineLemmas

@@ -22,6 +22,7 @@
 
 mod law;
 mod line;
+mod lines;
 mod meta;
 mod reading;
 mod writing;

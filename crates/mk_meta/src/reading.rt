@@ -1,5 +1,5 @@
 //! Meta files as they are read.
-ghost use Rattle.std.specs.Prelude.{◌≡◌, ◌<◌, ◌≤◌, Some, length, IfOk, IfSome};
+ghost use Rattle.std.specs.Prelude.{◌≡◌, Some, IfOk, IfSome};
 ghost use Rattle.std.specs.Option.{option_map};
 ghost use Rattle.std.specs.Str.{bytes_eq};
 ghost use Rattle.mk_meta.specs.Lawful as lawful;
@@ -8,12 +8,13 @@ ghost use Rattle.mk_meta.specs.Texts.{meta_text, head_line as head_line_of};
 ghost use Rattle.mk_meta.specs.Views.{front_view, middle_view};
 ghost use Rattle.mk_meta.specs.declared.meta.Meta.{Meta as Meta'};
 
-use crate::line::{command_in, export_in, number_behind, record_of, stripped, text_in};
+use crate::line::stripped;
+use crate::lines::{command_lines, export_lines, number_line, record_lines, text_line};
 use crate::meta::Meta;
 use crate::writing::head_line;
-use mk_bytes::{Items, NoMemory, Pair, Pairs, Text};
-use mk_filemon::{Rec, Recs, cut_at};
-use mk_world::{Lines, TaskLine, Time};
+use mk_bytes::{NoMemory, Pair, Pairs, Text};
+use mk_filemon::{Recs, cut_at};
+use mk_world::{Lines, Time};
 use std::alloc::Global;
 
 // The stamp, the commands and their directory.
@@ -30,127 +31,6 @@ struct Middle {
     exports: Pairs,
     target: Text,
     output: Text,
-}
-
-fn text_line<'t>(
-    alloc: Global,
-    label: &[u8],
-    text: &'t [u8],
-) -> Result<Option<(Text, &'t [u8])>, NoMemory>
-    ensures { IfOk result (λ found. option_map (λ read. (read.0, read.1.now)) found
-        ≡ spec.line_read (spec.text_in label.now) text.now) }
-{
-    let Some((line, rest)) = cut_at(b'\n', text) else {
-        return Ok(None);
-    };
-    match text_in(alloc, label, line)? {
-        Some(value) => Ok(Some((value, rest))),
-        None => Ok(None),
-    }
-}
-
-fn number_line<'t>(label: &[u8], text: &'t [u8]) -> Option<(u64, &'t [u8])>
-    ensures { option_map (λ read. (read.0, read.1.now)) result
-        ≡ spec.line_read (spec.number_behind label.now) text.now }
-{
-    let (line, rest) = cut_at(b'\n', text)?;
-    let number = number_behind(label, line)?;
-    Some((number, rest))
-}
-
-fn command_line<'t>(alloc: Global, text: &'t [u8]) -> Result<Option<(TaskLine, &'t [u8])>, NoMemory>
-    ensures read { IfOk result (λ found. option_map (λ read. (read.0, read.1.now)) found
-        ≡ spec.line_read spec.command_in text.now) }
-    ensures shorter { IfOk result (λ found.
-        IfSome found (λ read. length read.1.now < length text.now)) }
-{
-    let Some((line, rest)) = cut_at(b'\n', text) else {
-        return Ok(None);
-    };
-    match command_in(alloc, line)? {
-        Some(command) => Ok(Some((command, rest))),
-        None => Ok(None),
-    }
-}
-
-// As many commands as follow one another.
-fn command_lines<'t>(alloc: Global, text: &'t [u8]) -> Result<(Lines, &'t [u8]), NoMemory>
-    ensures { IfOk result (λ read.
-        (read.0, read.1.now) ≡ spec.all_of (spec.line_read spec.command_in) text.now) }
-{
-    let mut lines = Items::new(alloc, 0)?;
-    let mut rest = text;
-    'lines: while let Some((line, after)) = command_line(alloc, rest)? {
-        lines.push(line)?;
-        rest = after;
-    }
-    Ok((lines, rest))
-}
-
-fn export_line<'t>(alloc: Global, text: &'t [u8]) -> Result<Option<(Pair, &'t [u8])>, NoMemory>
-    ensures read { IfOk result (λ found. option_map (λ read. (read.0, read.1.now)) found
-        ≡ spec.line_read spec.export_in text.now) }
-    ensures shorter { IfOk result (λ found.
-        IfSome found (λ read. length read.1.now < length text.now)) }
-{
-    let Some((line, rest)) = cut_at(b'\n', text) else {
-        return Ok(None);
-    };
-    match export_in(alloc, line)? {
-        Some(pair) => Ok(Some((pair, rest))),
-        None => Ok(None),
-    }
-}
-
-// As many exported variables as follow one another.
-fn export_lines<'t>(alloc: Global, text: &'t [u8]) -> Result<(Pairs, &'t [u8]), NoMemory>
-    ensures { IfOk result (λ read.
-        (read.0, read.1.now) ≡ spec.all_of (spec.line_read spec.export_in) text.now) }
-{
-    let mut exports = Items::new(alloc, 0)?;
-    let mut rest = text;
-    'lines: while let Some((pair, after)) = export_line(alloc, rest)? {
-        exports.push(pair)?;
-        rest = after;
-    }
-    Ok((exports, rest))
-}
-
-fn record_line<'t>(
-    alloc: Global,
-    count: usize,
-    text: &'t [u8],
-) -> Result<Option<(Rec, &'t [u8])>, NoMemory>
-    ensures read { IfOk result (λ found. option_map (λ read. (read.0, read.1.now)) found
-        ≡ spec.line_read (spec.record_of count) text.now) }
-    ensures shorter { IfOk result (λ found.
-        IfSome found (λ read. length read.1.now < length text.now)) }
-{
-    let Some((line, rest)) = cut_at(b'\n', text) else {
-        return Ok(None);
-    };
-    match record_of(alloc, count, line)? {
-        Some(one) => Ok(Some((one, rest))),
-        None => Ok(None),
-    }
-}
-
-// As many records as follow one another.
-fn record_lines<'t>(
-    alloc: Global,
-    count: usize,
-    text: &'t [u8],
-) -> Result<(Recs, &'t [u8]), NoMemory>
-    ensures { IfOk result (λ read.
-        (read.0, read.1.now) ≡ spec.all_of (spec.line_read (spec.record_of count)) text.now) }
-{
-    let mut records = Items::new(alloc, 0)?;
-    let mut rest = text;
-    'lines: while let Some((one, after)) = record_line(alloc, count, rest)? {
-        records.push(one)?;
-        rest = after;
-    }
-    Ok((records, rest))
 }
 
 fn read_front<'t>(alloc: Global, text: &'t [u8]) -> Result<Option<(Front, &'t [u8])>, NoMemory>

@@ -1,5 +1,5 @@
 use Rattle.std.proofs.Common.{◌+◌, sym, ◌∙◌, ap}
-use Rattle.mk_filemon.proofs.EscapeLemmas.{placed, cut_at-position, rest_is}
+use Rattle.mk_filemon.proofs.CutLemmas.{placed, cut_at-position, rest_is}
 use Rattle.mk_filemon.proofs.escape.cut_at.Goals as goal
 
 pub returns-in-Some-clause-parts : goal.returns-in-Some-clause-parts

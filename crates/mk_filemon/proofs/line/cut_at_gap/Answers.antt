@@ -1,6 +1,6 @@
 use Rattle.std.proofs.Common.{◌≡◌, true, false, sym, ◌∙◌, drop}
 use Rattle.mk_filemon.specs.Log.{is_gap}
-use Rattle.mk_filemon.proofs.EscapeLemmas.{rest_is, gap-found, gap-later, gap-none}
+use Rattle.mk_filemon.proofs.CutLemmas.{rest_is, gap-found, gap-later, gap-none}
 use Rattle.mk_filemon.proofs.line.cut_at_gap.Goals as goal
 
 pub returns-then-starts_with : goal.returns-then-starts_with

@@ -3,7 +3,7 @@ use Rattle.std.proofs.lemmas.Bool.{false≢true}
 use Rattle.std.specs.Str.{bytes_eq}
 use Rattle.mk_filemon.specs.Escapes.{number_in}
 use Rattle.mk_filemon.proofs.RecordLemmas.{number_in-decimal, number_in-none, number_in-other}
-use Rattle.mk_filemon.proofs.TableLemmas.{same_bytes, bytes_eq-same}
+use Rattle.mk_filemon.proofs.PathLemmas.{same_bytes, bytes_eq-same}
 use Rattle.mk_filemon.proofs.number.read_decimal.Goals as goal
 
 pub returns-in_err-number : goal.returns-in_err-number

@@ -1,6 +1,6 @@
 use Rattle.mk_meta.specs.Reading.{line_read, export_in}
 use Rattle.mk_meta.proofs.ManyLemmas.{going-read, going-over}
-use Rattle.mk_meta.proofs.reading.export_lines.Goals as goal
+use Rattle.mk_meta.proofs.lines.export_lines.Goals as goal
 
 pub lines-preserved : goal.lines-preserved
 lines-preserved c =

@@ -1,6 +1,6 @@
 use Rattle.mk_meta.specs.Reading.{line_read, command_in}
 use Rattle.mk_meta.proofs.ManyLemmas.{going-read, going-over}
-use Rattle.mk_meta.proofs.reading.command_lines.Goals as goal
+use Rattle.mk_meta.proofs.lines.command_lines.Goals as goal
 
 pub lines-preserved : goal.lines-preserved
 lines-preserved c =

@@ -1,7 +1,7 @@
 use Rattle.std.proofs.Common.{length}
 use Rattle.mk_meta.specs.Reading.{line_read, export_in}
 use Rattle.mk_meta.proofs.ManyLemmas.{IsGoing}
-use Rattle.mk_meta.proofs.reading.export_lines.Given as goal
+use Rattle.mk_meta.proofs.lines.export_lines.Given as goal
 
 -- the lines so far, and those that the rest begins with
 abbrev pub invariant-lines : goal.invariant-lines
