@@ -5,6 +5,7 @@ pub mod NumberLemmas
 pub mod OrderLemmas
 pub mod PieceLemmas
 pub mod ReplaceLemmas
+pub mod ResultLemmas
 mod Rows
 pub mod SearchLemmas
 pub mod TextLemmas

@@ -6,5 +6,6 @@ pub mod Parts
 pub mod Pieces
 pub mod Places
 pub mod Quotes
+pub mod Results
 pub mod State
 pub mod Substitution

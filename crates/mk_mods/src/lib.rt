@@ -17,9 +17,11 @@ mod piece;
 mod places;
 mod quote;
 mod replace;
+mod results;
 mod val;
 
 pub use chain::apply;
 pub use fault::ModFault;
 pub use modifier::Mod;
+pub use results::{Results, with_results};
 pub use val::{Separator, Val, text, with_items, words_of};

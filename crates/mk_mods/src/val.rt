@@ -86,8 +86,13 @@ fn push_item(out: &mut Text, separator: Separator, left: &[u8], item: &[u8]) -> 
     Ok(())
 }
 
-// The room that an item leaves with what stands before it.
-fn room_behind(room: usize, separator: Separator, left: &[u8], item: &[u8]) -> Option<usize>
+/// The room that an item leaves with what stands before it.
+pub(crate) fn room_behind(
+    room: usize,
+    separator: Separator,
+    left: &[u8],
+    item: &[u8],
+) -> Option<usize>
     ensures { SomeIff result
         (length (spec.between separator left.now item.now ++ item.now) ≤ room)
         (room - length (spec.between separator left.now item.now ++ item.now)) }
