@@ -1,3 +1,4 @@
+pub mod AskLemmas
 pub mod ChildLemmas
 pub mod ChronicleLemmas
 pub mod FileLemmas
@@ -8,4 +9,5 @@ pub mod OldestLemmas
 pub mod RestLemmas
 mod Rows
 pub mod StepLemmas
+pub mod TimeLemmas
 pub mod WorldLemmas

@@ -13,13 +13,14 @@ use Rattle.mk_world.specs.declared.history.History.{History}
 use Rattle.mk_world.specs.declared.step.Deed.{Deed}
 use Rattle.mk_world.specs.declared.step.Ended.{Ended}
 use Rattle.mk_world.proofs.CallLemmas.{MayAll-append, adds_steps_own, state_of-run}
+use Rattle.mk_world.proofs.ChangeLemmas.{contents-effected_all}
 use Rattle.mk_memworld.specs.Chronicle.{with_event}
 use Rattle.mk_memworld.specs.Clock.{last_number, numbers, time_of}
 use Rattle.mk_memworld.specs.Meaning.{language}
 use Rattle.mk_memworld.specs.Oldest.{AddsSteps, DidStep, IsRest, IsRestOf, OfOldest, TakesIn}
 use Rattle.mk_memworld.proofs.ChildLemmas.{child_in-first, stepped-first, without_child-first}
 use Rattle.mk_memworld.proofs.ChronicleLemmas.{state_of-with_event}
-use Rattle.mk_memworld.proofs.StepLemmas.{IsRising-step, contents-effected_all, last_time-step}
+use Rattle.mk_memworld.proofs.StepLemmas.{IsRising-step, last_time-step}
 
 AreSteps-append : (first second : List Happening) → AreSteps first → AreSteps second
     → AreSteps (first ++ second)

@@ -1,12 +1,19 @@
--- Command lines and what they ask, or how they end.
-use Rattle.std.proofs.Common.{◌≡◌, ℕ, List, [], ◌∷◌, ◌++◌, refl, codes}
+-- Command lines and what they ask, or how they end, and what they do where they are asked.
+use Rattle.std.proofs.Common.{◌≡◌, ℕ, List, [], ◌∷◌, ◌++◌, Some, refl, codes}
 use Rattle.mk_bytes.specs.Bytes.{newline}
 use Rattle.mk_world.specs.declared.step.Answer.{Answer}
 use Rattle.mk_world.specs.declared.step.Answer.TheVariants.{Found, Missing, Stands, Done}
 use Rattle.mk_world.specs.declared.step.Next.{Next}
 use Rattle.mk_world.specs.declared.step.Next.TheVariants.{More, Over}
 use Rattle.mk_world.specs.declared.step.Request.TheVariants.{Look, Write, Delete, Move}
+use Rattle.mk_world.specs.Talks.{does}
+use Rattle.mk_world.specs.declared.step.Deed.TheVariants as deed
+use Rattle.mk_world.specs.declared.step.Ended.{Ended}
+use Rattle.mk_world.specs.declared.step.Op.TheVariants as op
+use Rattle.mk_memworld.specs.Clock.{timed}
 use Rattle.mk_memworld.specs.Language.{language_next}
+use Rattle.mk_memworld.specs.Meaning.{language}
+use Rattle.mk_memworld.specs.Rest.{answer_of}
 
 -- a line in the directory `/w`, after these answers
 abbrev line : List ℕ → List Answer → Next
@@ -113,3 +120,33 @@ outputs_are_joined = refl
 
 failure_in_the_middle : line (codes "say a ; fail 3 ; say b") [] ≡ Over 3 (text_line (codes "a"))
 failure_in_the_middle = refl
+
+-- a command that is asked where every file has the line `1`
+abbrev asked : List ℕ → Ended
+asked text =
+    answer_of (does language (record { text = text; cwd = codes "/w"; exports = [] })
+    (λ path. Some (text_line (codes "1"))))
+
+asked_command_prints : asked (codes "show s ; put p a ; del ../q") ≡ record {
+  ticket = record { 0 = 0 };
+  status = 0;
+  output = text_line (codes "1");
+  records = Some (op.Read (codes "s") ∷ op.Write (codes "p") ∷ op.Read (codes "/q")
+      ∷ op.Delete (codes "/q") ∷ []);
+}
+asked_command_prints = refl
+
+asked_command_fails : asked (codes "say a ; fail 3") ≡ record {
+  ticket = record { 0 = 0 };
+  status = 3;
+  output = text_line (codes "a");
+  records = Some [];
+}
+asked_command_fails = refl
+
+looks_take_no_number : timed 7 (deed.Write (codes "p") [] ∷ deed.Miss (codes "q")
+    ∷ deed.Delete (codes "p") ∷ [])
+    ≡ record { deed = deed.Write (codes "p") []; time = 8 }
+    ∷ record { deed = deed.Miss (codes "q"); time = 8 }
+    ∷ record { deed = deed.Delete (codes "p"); time = 9 } ∷ []
+looks_take_no_number = refl

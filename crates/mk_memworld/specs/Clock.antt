@@ -1,5 +1,6 @@
 -- The numbers of the clock: each change takes the next one as its time.
 use Rattle.std.specs.Prelude.{ℕ, ◌+◌, ◌-◌, ◌^◌, List, [], ◌∷◌}
+use Rattle.mk_world.specs.declared.history.Timed.{Timed}
 use Rattle.mk_world.specs.declared.step.Deed.{Deed}
 use Rattle.mk_world.specs.declared.step.Deed.TheVariants.{Read, Miss, Write, Delete, Move}
 
@@ -22,3 +23,9 @@ numbers (deed ∷ deeds) = numbers_of deed + numbers deeds
 -- the time of a step: the next number where it takes one, and else the present one
 abbrev pub time_of : ℕ → Deed → ℕ
 time_of clock deed = clock + numbers_of deed
+
+-- steps with their times, where the clock stands at this number before them
+abbrev pub timed : ℕ → List Deed → List Timed
+timed clock [] = []
+timed clock (deed ∷ deeds) =
+    record { deed = deed; time = time_of clock deed } ∷ timed (time_of clock deed) deeds

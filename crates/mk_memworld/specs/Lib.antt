@@ -1,5 +1,6 @@
 pub mod Children
 pub mod Base
+pub mod Changes
 pub mod Chronicle
 pub mod Clock
 pub mod CommandEnds

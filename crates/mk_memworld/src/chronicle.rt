@@ -4,13 +4,15 @@ ghost use Rattle.std.specs.Option.{option_copied};
 ghost use Rattle.mk_world.specs.Calls.{AddsEvents, OwnEnd, OwnNothing};
 ghost use Rattle.mk_world.specs.Deeds.{changes};
 ghost use Rattle.mk_world.specs.History.{at_time, effected_all, files_of, state_of, tickets_of};
-ghost use Rattle.mk_world.specs.declared.history.Happening.TheVariants.{Edit, Look, Start};
+ghost use Rattle.mk_world.specs.Talks.{does};
+ghost use Rattle.mk_world.specs.declared.history.Happening.TheVariants.{Ask, Edit, Gone, Look, Start};
 ghost use Rattle.mk_memworld.specs.Children.{first_with_deed, first_without_last, HasDeed};
-ghost use Rattle.mk_memworld.specs.Clock.{last_number, numbers, numbers_of};
+ghost use Rattle.mk_memworld.specs.Clock.{last_number, numbers, numbers_of, timed};
 ghost use Rattle.mk_memworld.specs.Files.{as_filed, files_in};
 ghost use Rattle.mk_memworld.specs.Meaning.{language};
-ghost use Rattle.mk_memworld.specs.Rest.{doing_of};
+ghost use Rattle.mk_memworld.specs.Rest.{answer_of, doing_of};
 
+use crate::clock::{self, all_taken, numbers_taken};
 use crate::copy::{copy_cmd, copy_deed};
 use crate::files::{Files, Stored};
 use crate::rest::{Rest, records_of, rest_of};
@@ -133,6 +135,61 @@ impl Chronicle {
                 Ok(())
             }
         }
+    }
+
+    /// Make removes a file, at the next time.
+    pub fn remove(&mut self, path: &[u8]) -> Result<(), NoMemory>
+        requires { (state_of self.old).clock < last_number }
+        ensures ok { OnOk result (self.new ≡ with_event self.old
+            (Gone path.now ((state_of self.old).clock + 1))) }
+        ensures err { OnErr result (self.new ≡ self.old) }
+    {
+        let time = self.clock + 1;
+        let copy = Text::from_bytes(self.alloc, path)?;
+        self.events.reserve(self.children.len() + 1)?;
+        self.files.remove(path);
+        self.clock = time;
+        self.events
+            .push(Happening::Gone { path: copy, time })
+            .unwrap();
+        Ok(())
+    }
+
+    /// What a command does on the files as they stand, from its beginning to its end.
+    pub fn doing(&self, cmd: &Cmd) -> Result<Rest, NoMemory>
+        ensures { IfOk result
+            (λ rest. doing_of rest ≡ does language cmd.now (files_of self.now)) }
+    {
+        rest_of(self.alloc, &self.files, cmd, &[])
+    }
+
+    /// Make runs a command to its end, with nothing between its steps. After a refusal nothing has
+    /// happened.
+    pub fn ask(&mut self, cmd: &Cmd, rest: Rest) -> Result<Ended, NoMemory>
+        requires { (state_of self.old).clock + numbers rest.deeds ≤ last_number }
+        ensures ok { OnOk result (self.new ≡ with_event self.old
+            (Ask cmd.now (timed (state_of self.old).clock rest.deeds))) }
+        ensures answer { IfOk result (λ ended. ended ≡ answer_of (doing_of rest)) }
+        ensures err { OnErr result (self.new ≡ self.old) }
+    {
+        let Rest {
+            deeds,
+            status,
+            output,
+        } = rest;
+        let records = records_of(self.alloc, deeds.as_slice())?;
+        let steps = clock::timed(self.alloc, self.clock, deeds.as_slice())?;
+        let cmd = copy_cmd(self.alloc, cmd)?;
+        self.events.reserve(self.children.len() + 1)?;
+        self.files.apply_all(steps.as_slice())?;
+        self.clock += all_taken(deeds.as_slice());
+        self.events.push(Happening::Ask { cmd, steps }).unwrap();
+        Ok(Ended {
+            ticket: Ticket(0),
+            status,
+            output,
+            records: Some(records),
+        })
     }
 
     /// Make starts a child.
@@ -265,28 +322,6 @@ impl Chronicle {
         let Child { ticket, owner, .. } = self.children.remove(0);
         self.events.push(Happening::Left { ticket, owner }).unwrap();
     }
-}
-
-// How many numbers of the clock a step takes.
-fn numbers_taken(deed: &Deed) -> u64
-    ensures { result ≡ numbers_of deed.now }
-{
-    match deed {
-        Deed::Read { .. } | Deed::Miss { .. } => 0,
-        Deed::Write { .. } | Deed::Delete { .. } | Deed::Move { .. } => 1,
-    }
-}
-
-// How many numbers several steps take.
-fn all_taken(deeds: &[Deed]) -> u64
-    requires { length deeds.now < 2 ^ 32 }
-    ensures { result ≡ numbers deeds.now }
-{
-    let mut taken = 0;
-    for deed in deeds {
-        taken += numbers_taken(deed);
-    }
-    taken
 }
 
 // The first child does a step.

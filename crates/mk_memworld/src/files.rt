@@ -1,14 +1,15 @@
 //! The files as they stand.
-ghost use Rattle.std.specs.Prelude.{◌≡◌, ℕ, Some, None, OnOk, OnErr};
+ghost use Rattle.std.specs.Prelude.{◌≡◌, ◌+◌, ◌<◌, ◌≤◌, ℕ, Some, None, OnOk, OnErr, length};
 ghost use Rattle.std.specs.Option.{option_copied};
 ghost use Rattle.mk_world.specs.Deeds.{changes};
-ghost use Rattle.mk_world.specs.History.{at_time, contents, effected, effected_all};
-ghost use Rattle.mk_world.specs.declared.step.Deed.TheVariants.{Move};
-ghost use Rattle.mk_memworld.specs.Files.{as_filed, files_in, no_files};
+ghost use Rattle.mk_world.specs.History.{at_time, contents, effected, effected_all, timed_effects};
+ghost use Rattle.mk_memworld.specs.Changes.{changed, changed_all, written};
+ghost use Rattle.mk_memworld.specs.Files.{as_filed, files_in, no_files, room_in};
 
+use crate::change::{Change, change_of, changes_of};
 use indexmap::IndexMap;
 use mk_bytes::{NoMemory, Text};
-use mk_world::Deed;
+use mk_world::{Deed, Timed};
 use std::alloc::Global;
 
 /// The bytes of a file, and the time of its last change.
@@ -67,24 +68,47 @@ impl Files {
 
     /// A file is missing from now on. Takes no memory.
     pub fn remove(&mut self, path: &[u8])
-        ensures { (time : ℕ) → files_in self.new ≡ effected (files_in self.old)
+        ensures files { (time : ℕ) → files_in self.new ≡ effected (files_in self.old)
             (record { path = path.now; bytes = None; time = time }) }
+        ensures room { room_in self.old ≤ room_in self.new }
     {
         self.stored.swap_remove(path);
     }
 
-    // A file is missing from now on, and its bytes stand at another path.
-    fn rename(&mut self, from: &[u8], to: &[u8], bytes: &[u8], time: u64) -> Result<(), NoMemory>
-        ensures ok { OnOk result (files_in self.new ≡ effected_all (files_in self.old)
-            (at_time time (changes (Move from.now to.now bytes.now)))) }
-        ensures err { OnErr result (files_in self.new ≡ files_in self.old) }
+    // A file is kept from now on, where there is room. Takes no memory.
+    fn keep(&mut self, path: Vec<u8>, file: Stored)
+        requires { 0 < room_in self.old }
+        ensures files { files_in self.new ≡ written (files_in self.old) path.items file }
+        ensures room { room_in self.old ≤ room_in self.new + 1 }
     {
-        let to = Vec::from_slice(self.alloc, to)?;
-        let bytes = Text::from_bytes(self.alloc, bytes)?;
-        self.stored.reserve(1)?;
-        self.stored.swap_remove(from);
-        self.stored.insert(to, Stored { bytes, time }).unwrap();
-        Ok(())
+        self.stored.insert(path, file).unwrap();
+    }
+
+    // A change is made, where there is room. Takes no memory.
+    fn make(&mut self, change: Change)
+        requires { 0 < room_in self.old }
+        ensures files { files_in self.new ≡ changed (files_in self.old) change }
+        ensures room { room_in self.old ≤ room_in self.new + 1 }
+    {
+        match change {
+            Change::Nothing => {}
+            Change::Write { path, file } => self.keep(path, file),
+            Change::Delete { path } => self.remove(path.bytes()),
+            Change::Move { from, to, file } => {
+                self.remove(from.bytes());
+                self.keep(to, file);
+            }
+        }
+    }
+
+    // All changes are made, in order, where there is room. Takes no memory.
+    fn make_all(&mut self, changes: Vec<Change>)
+        requires { length changes.items ≤ room_in self.old }
+        ensures { files_in self.new ≡ changed_all (files_in self.old) changes.items }
+    {
+        for change in changes {
+            self.make(change);
+        }
     }
 
     /// The files after a step at this time.
@@ -93,16 +117,21 @@ impl Files {
             ≡ effected_all (files_in self.old) (at_time time (changes deed.now))) }
         ensures err { OnErr result (files_in self.new ≡ files_in self.old) }
     {
-        match deed {
-            Deed::Read { .. } | Deed::Miss { .. } => Ok(()),
-            Deed::Write { path, bytes } => self.write(path.bytes(), bytes.bytes(), time),
-            Deed::Delete { path } => {
-                self.remove(path.bytes());
-                Ok(())
-            }
-            Deed::Move { from, to, bytes } => {
-                self.rename(from.bytes(), to.bytes(), bytes.bytes(), time)
-            }
-        }
+        let change = change_of(self.alloc, deed, time)?;
+        self.stored.reserve(1)?;
+        self.make(change);
+        Ok(())
+    }
+
+    /// The files after steps at their times.
+    pub fn apply_all(&mut self, steps: &[Timed]) -> Result<(), NoMemory>
+        ensures ok { OnOk result (files_in self.new
+            ≡ effected_all (files_in self.old) (timed_effects steps.now)) }
+        ensures err { OnErr result (files_in self.new ≡ files_in self.old) }
+    {
+        let changes = changes_of(self.alloc, steps)?;
+        self.stored.reserve(changes.len())?;
+        self.make_all(changes);
+        Ok(())
     }
 }

@@ -1,10 +1,11 @@
 //! A world in memory: files, children that act step by step, and the language of their commands.
 //!
 //! A [`MemWorld`] keeps its files at the beginning and all that has happened since, and this is the
-//! history that it tells. Each change, an edit, a step of a child, takes the next number of the
-//! clock as its time: a move takes one number, a look none. A child does nothing until
-//! `World::wait_any`, in which the oldest one does all its remaining steps and is taken in. A
-//! [`MemSink`] holds what was written. In both, calls that [`Fails`] names fail.
+//! history that it tells. Each change, an edit, a removal, a step of a child or of a command that
+//! is asked, takes the next number of the clock as its time: a move takes one number, a look none,
+//! and the removal of a missing file one. A child does nothing until `World::wait_any`, in which
+//! the oldest one does all its remaining steps and is taken in. A [`MemSink`] holds what was
+//! written. In both, calls that [`Fails`] names fail.
 //!
 //! ## The commands
 //!
@@ -31,7 +32,9 @@
 #![tactic(auto)]
 
 mod base;
+mod change;
 mod chronicle;
+mod clock;
 mod command;
 mod copy;
 mod files;

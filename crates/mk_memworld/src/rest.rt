@@ -1,4 +1,4 @@
-//! What a child does from here to its end.
+//! What a command does from here to its end.
 ghost use Rattle.std.specs.Prelude.{◌≡◌, map, IfOk};
 ghost use Rattle.std.specs.Option.{option_copied};
 ghost use Rattle.mk_world.specs.Calls.{op_of};

@@ -3,19 +3,21 @@ ghost use Rattle.std.specs.List.{list_any};
 ghost use Rattle.std.specs.Option.{option_copied};
 ghost use Rattle.mk_bytes.specs.Paths.{is_clean_directory};
 ghost use Rattle.mk_world.specs.Calls as spec;
-ghost use Rattle.mk_world.specs.Calls.{Adds, OwnEnd, OwnLeft, OwnNothing, OwnRead, OwnStart, OwnTime, TakenOut};
+ghost use Rattle.mk_world.specs.Calls.{Adds, OwnAsk, OwnEnd, OwnGone, OwnLeft, OwnNothing, OwnRead, OwnStart, OwnTime, OwnUnanswered, TakenOut};
 ghost use Rattle.mk_world.specs.Causes.{HasCause};
 ghost use Rattle.mk_world.specs.History.{files_of, state_of, tickets_of};
 ghost use Rattle.mk_world.specs.Runs.{Run};
+ghost use Rattle.mk_world.specs.Talks.{does};
 ghost use Rattle.mk_world.specs.declared.fault.WorldFault.TheVariants.{Failed};
-ghost use Rattle.mk_world.specs.declared.history.Happening.TheVariants.{Edit};
+ghost use Rattle.mk_world.specs.declared.history.Happening.TheVariants.{Ask, Edit, Gone};
 ghost use Rattle.mk_memworld.specs.Base.{are_clean, base_of};
 ghost use Rattle.mk_memworld.specs.Chronicle.{with_event};
-ghost use Rattle.mk_memworld.specs.Clock.{last_number};
+ghost use Rattle.mk_memworld.specs.Clock.{last_number, timed};
 ghost use Rattle.mk_memworld.specs.Files.{as_filed};
 ghost use Rattle.mk_memworld.specs.Meaning.{language};
 ghost use Rattle.mk_memworld.specs.Oldest.{IsShort};
 ghost use Rattle.mk_memworld.specs.Outages.{FailsWhere, IsStruck, OnFailed, first_outages, with_answer, with_call};
+ghost use Rattle.mk_memworld.specs.Rest.{IsTooShort, answer_of};
 ghost use Rattle.mk_memworld.specs.ToldChildren.{told_children};
 ghost use Rattle.mk_memworld.specs.declared.outage.CallKind.TheVariants as kind;
 
@@ -106,7 +108,7 @@ fn when_of(file: Option<&Stored>) -> When
     }
 }
 
-#[tactic(auto, using(crate::proofs::WorldLemmas::refused_here, crate::proofs::WorldLemmas::refused_same))]
+#[tactic(auto, using(crate::proofs::WorldLemmas::refused_here, crate::proofs::WorldLemmas::refused_same, crate::proofs::AskLemmas::unanswered_here, crate::proofs::AskLemmas::unanswered_same))]
 impl World for MemWorld {
     type Kid = ();
 
@@ -168,6 +170,70 @@ impl World for MemWorld {
         let when = when_of(self.chronicle.file(path));
         self.chronicle.look(path)?;
         Ok(when)
+    }
+
+    /// Takes a file away, at the next time, also where it is missing. `Failed` comes also where the
+    /// clock is at its last number.
+    fn remove(&mut self, _: Global, path: &[u8]) -> Result<(), WorldFault>
+        ensures done { OnOk result (Adds language (Some self.old.chronicle)
+            (Some self.new.chronicle) (OwnGone path.now)) }
+        ensures refused { OnErr result (Adds language (Some self.old.chronicle)
+            (Some self.new.chronicle) OwnNothing) }
+        ensures cause { HasCause Failed self.old.outages.faults self.new.outages.faults result }
+        ensures children { (kids : List ℕ)
+            → tickets_of (state_of self.old.chronicle).children ≡ kids
+            → tickets_of (state_of self.new.chronicle).children ≡ kids }
+        ensures event { OnOk result (self.new.chronicle ≡ with_event self.old.chronicle
+            (Gone path.now ((state_of self.old.chronicle).clock + 1))) }
+        ensures exactly { FailsWhere (IsStruck self.old.outages kind.Remove
+            ⊎ ((state_of self.old.chronicle).clock ≡ last_number)) result }
+        ensures nothing { OnErr result (self.new.chronicle ≡ self.old.chronicle) }
+        ensures counted { self.new.outages
+            ≡ with_answer (with_call self.old.outages kind.Remove) result }
+    {
+        if self.outages.strikes(CallKind::Remove) || self.chronicle.clock() == u64::MAX {
+            self.outages.fail();
+            return Err(WorldFault::Failed);
+        }
+        self.chronicle.remove(path)?;
+        Ok(())
+    }
+
+    /// Runs a command to its end on the files as they stand. `Failed` comes also where the clock has
+    /// too few numbers for its changes. After a refusal nothing has happened.
+    fn ask(&mut self, _: Global, cmd: &Cmd) -> Result<Ended, WorldFault>
+        requires directory { IsTrue (is_clean_directory cmd.now.cwd) }
+        ensures done { IfOk result (λ ended. Adds language (Some self.old.chronicle)
+            (Some self.new.chronicle) (OwnAsk language cmd.now ended)) }
+        ensures refused { OnErr result (Adds language (Some self.old.chronicle)
+            (Some self.new.chronicle) (OwnUnanswered cmd.now)) }
+        ensures ticket { IfOk result (λ ended. ended.ticket.0 ≡ 0) }
+        ensures cause { HasCause Failed self.old.outages.faults self.new.outages.faults result }
+        ensures children { (kids : List ℕ)
+            → tickets_of (state_of self.old.chronicle).children ≡ kids
+            → tickets_of (state_of self.new.chronicle).children ≡ kids }
+        ensures answer { IfOk result (λ ended. ended
+            ≡ answer_of (does language cmd.now (files_of self.old.chronicle))) }
+        ensures event { OnOk result (self.new.chronicle ≡ with_event self.old.chronicle
+            (Ask cmd.now (timed (state_of self.old.chronicle).clock
+            (does language cmd.now (files_of self.old.chronicle)).deeds))) }
+        ensures exactly { FailsWhere (IsStruck self.old.outages kind.Ask
+            ⊎ IsTooShort cmd.now (state_of self.old.chronicle)) result }
+        ensures nothing { OnErr result (self.new.chronicle ≡ self.old.chronicle) }
+        ensures counted { self.new.outages
+            ≡ with_answer (with_call self.old.outages kind.Ask) result }
+    {
+        if self.outages.strikes(CallKind::Ask) {
+            self.outages.fail();
+            return Err(WorldFault::Failed);
+        }
+        let rest = self.chronicle.doing(cmd)?;
+        if !self.chronicle.has_numbers(&rest) {
+            self.outages.fail();
+            return Err(WorldFault::Failed);
+        }
+        let ended = self.chronicle.ask(cmd, rest)?;
+        Ok(ended)
     }
 
     /// Starts a child. It does nothing yet.

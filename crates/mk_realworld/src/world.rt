@@ -128,6 +128,18 @@ impl<R: Files + AllocGlobal> World for RealWorld<R> {
     }
 
     /// Not built yet: a counted fault.
+    fn remove(&mut self, _: Global, _: &[u8]) -> Result<(), WorldFault> {
+        count_fault(&mut self.faults);
+        Err(WorldFault::Failed)
+    }
+
+    /// Not built yet: a counted fault.
+    fn ask(&mut self, _: Global, _: &Cmd) -> Result<Ended, WorldFault> {
+        count_fault(&mut self.faults);
+        Err(WorldFault::Failed)
+    }
+
+    /// Not built yet: a counted fault.
     fn start(
         &mut self,
         _: Global,

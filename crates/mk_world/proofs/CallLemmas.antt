@@ -1,16 +1,15 @@
 -- What one call adds, and what several calls add together.
-use Rattle.std.proofs.Common.{◌≡◌, ℕ, List, [], ◌∷◌, ◌++◌, map, Option, Some, None, Result, Ok, Err}
+use Rattle.std.proofs.Common.{◌≡◌, List, [], ◌∷◌, ◌++◌, Option, Some, None, Result, Ok, Err}
 use Rattle.std.proofs.Common.{OnErr, refl, sym, ◌∙◌, ap, subst, append_assoc}
 use Rattle.std.proofs.lemmas.List.{append-nil}
-use Rattle.mk_world.specs.Calls.{AreSteps, AddsEvents, Adds, OwnNothing, OwnRead}
+use Rattle.mk_world.specs.Calls.{AreSteps, AddsEvents, Adds, OwnNothing}
 use Rattle.mk_world.specs.History.{State, MayAll, MayStep, after, after_all, child_in, contents}
 use Rattle.mk_world.specs.History.{first_state, state_of, tickets_of}
-use Rattle.mk_world.specs.Runs.{Run, Looked, Same}
+use Rattle.mk_world.specs.Runs.{Run}
 use Rattle.mk_world.specs.Talks.{Meaning}
 use Rattle.mk_world.specs.Told.{Told}
 use Rattle.mk_world.specs.declared.history.Child.{Child}
 use Rattle.mk_world.specs.declared.history.Happening.{Happening}
-use Rattle.mk_world.specs.declared.history.Happening.TheVariants.{Step}
 use Rattle.mk_world.specs.declared.history.History.{History}
 
 pub after_all-append : (state : State) (first second : List Happening)
@@ -24,6 +23,14 @@ pub MayAll-append : (meaning : Meaning) (state : State) (first second : List Hap
 MayAll-append meaning state [] second may then_may = then_may
 MayAll-append meaning state (event ∷ first) second may then_may =
     (may.0, MayAll-append meaning (after state event) first second may.1 then_may)
+
+pub MayAll-parts : (meaning : Meaning) (state : State) (first second : List Happening)
+    → MayAll meaning state (first ++ second)
+    → MayAll meaning state first × MayAll meaning (after_all state first) second
+MayAll-parts meaning state [] second may = (tt, may)
+MayAll-parts meaning state (event ∷ first) second may =
+    let parts = MayAll-parts meaning (after state event) first second may.1 in
+    ((may.0, parts.0), parts.1)
 
 -- the state behind a run is that of its events
 pub state_of-run : {meaning : Meaning} {old new : History} → (run : Run meaning old new)

@@ -1,62 +1,87 @@
 -- Calls of a world that runs no child.
-use Rattle.std.proofs.Common.{◌≡◌, ℕ, List, [], ◌∷◌, ◌++◌, Option, Some, None, inl, inr}
+use Rattle.std.proofs.Common.{◌≡◌, ℕ, List, [], ◌++◌, Option, Some, None, inl, inr}
 use Rattle.std.proofs.Common.{refl, sym, ◌∙◌, ap, subst}
 use Rattle.std.proofs.lemmas.List.{append-nil}
-use Rattle.mk_world.specs.Calls.{AreSteps, AddsEvents, Adds, OwnNothing, OwnRead}
+use Rattle.mk_world.specs.Calls.{AddsEvents, Adds, OwnNothing, OwnRead}
 use Rattle.mk_world.specs.Deeds.{Store}
 use Rattle.mk_world.specs.History.{State, MayAll, after, after_all, files_of, state_of, tickets_of}
 use Rattle.mk_world.specs.Runs.{Looked, LooksAt, OnFiles, Same}
 use Rattle.mk_world.specs.Talks.{Meaning}
 use Rattle.mk_world.specs.Told.{Told}
 use Rattle.mk_world.specs.declared.history.Happening.{Happening}
-use Rattle.mk_world.specs.declared.history.Happening.TheVariants.{Look}
 use Rattle.mk_world.specs.declared.history.History.{History}
-use Rattle.mk_world.proofs.CallLemmas.{no_steps, no_tickets}
+use Rattle.mk_world.proofs.CallLemmas.{MayAll-parts, no_steps, no_tickets}
 
 -- no child runs in the history, where it is told
 abbrev pub IsIdle : Option History → Type 0
 IsIdle told = (h : History) → told ≡ Some h → tickets_of (state_of h).children ≡ []
 
+-- own events that leave no child running
+abbrev pub KeepsIdle : (State → List Happening → Type 0) → Type 0
+KeepsIdle Own =
+    (state : State) (own : List Happening) → Own state own → state.children ≡ []
+    → (after_all state own).children ≡ []
+
+-- what a call adds where no child runs: its own events, and nothing else
+pub record AddsAlone (meaning : Meaning) (Own : State → List Happening → Type 0) (old new : History)
+    : Type 0 where
+  pub own : List Happening
+  pub base : new.base ≡ old.base
+  pub events : new.events ≡ old.events ++ own
+  pub lawful : MayAll meaning (state_of old) own
+  pub is_own : Own (state_of old) own
+
+pub adds_alone : {meaning : Meaning} {Own : State → List Happening → Type 0} {old new : History}
+    → KeepsIdle Own → tickets_of (state_of old).children ≡ [] → AddsEvents meaning Own old new
+    → AddsAlone meaning Own old new
+adds_alone {meaning} {Own} {old} {new} keeps idle adds =
+    let state = state_of old in
+    let none = no_tickets state.children idle in
+    let early : adds.early ≡ [] =
+    no_steps meaning state adds.early (adds.own ++ adds.late) none adds.early_steps
+    adds.lawful in
+    let is_own : Own state adds.own =
+    subst (λ l. Own (after_all state l) adds.own) early adds.is_own in
+    let may : MayAll meaning state (adds.own ++ adds.late) =
+    subst (λ l. MayAll meaning state (l ++ (adds.own ++ adds.late))) early adds.lawful in
+    let then_may = MayAll-parts meaning state adds.own adds.late may in
+    let late : adds.late ≡ [] =
+    no_steps meaning (after_all state adds.own) adds.late []
+    (keeps state adds.own is_own none) adds.late_steps
+    (subst (MayAll meaning (after_all state adds.own)) (sym (append-nil adds.late))
+    then_may.1) in record {
+      own = adds.own;
+      base = adds.base;
+      events = adds.events
+          ∙ ap (λ l. old.events ++ (l ++ (adds.own ++ adds.late))) early
+          ∙ ap (λ l. old.events ++ (adds.own ++ l)) late
+          ∙ ap (λ l. old.events ++ l) (append-nil adds.own);
+      lawful = then_may.0;
+      is_own = is_own;
+    }
+
 looked_alone : {meaning : Meaning} {path : List ℕ} {found : Option (List ℕ)} {old new : History}
     → tickets_of (state_of old).children ≡ []
     → AddsEvents meaning (OwnRead path found) old new → Looked path found old new
 looked_alone {meaning} {path} {found} {old} {new} idle adds =
-    let none = no_tickets (state_of old).children idle in
-    let early : adds.early ≡ [] =
-    no_steps meaning (state_of old) adds.early (adds.own ++ adds.late) none
-    adds.early_steps adds.lawful in
-    let own = adds.is_own in
-    let may : MayAll meaning (state_of old) (Look path ∷ adds.late) =
-    subst (λ l. MayAll meaning (state_of old) (l ++ adds.late)) own.0
-    (subst (λ l. MayAll meaning (state_of old) (l ++ (adds.own ++ adds.late))) early
-    adds.lawful) in
-    let late : adds.late ≡ [] =
-    no_steps meaning (state_of old) adds.late [] none adds.late_steps
-    (subst (MayAll meaning (state_of old)) (sym (append-nil adds.late)) may.1) in
-    record {
-      base = adds.base;
-      event = adds.events ∙ rw (early, late, own.0) refl;
-      answered = own.1 ∙ rw early refl;
+    let alone = adds_alone
+    (λ state own is none. subst (λ l. (after_all state l).children ≡ []) (sym is.0) none)
+    idle adds in record {
+      base = alone.base;
+      event = alone.events ∙ ap (λ l. old.events ++ l) alone.is_own.0;
+      answered = alone.is_own.1;
     }
 
 nothing_alone : {meaning : Meaning} {old new : History}
     → tickets_of (state_of old).children ≡ [] → AddsEvents meaning OwnNothing old new
     → Same old new
 nothing_alone {meaning} {old} {new} idle adds =
-    let none = no_tickets (state_of old).children idle in
-    let early : adds.early ≡ [] =
-    no_steps meaning (state_of old) adds.early (adds.own ++ adds.late) none
-    adds.early_steps adds.lawful in
-    let may : MayAll meaning (state_of old) adds.late =
-    subst (λ l. MayAll meaning (state_of old) (l ++ adds.late)) adds.is_own
-    (subst (λ l. MayAll meaning (state_of old) (l ++ (adds.own ++ adds.late))) early
-    adds.lawful) in
-    let late : adds.late ≡ [] =
-    no_steps meaning (state_of old) adds.late [] none adds.late_steps
-    (subst (MayAll meaning (state_of old)) (sym (append-nil adds.late)) may) in
-    record {
-      base = adds.base;
-      events = adds.events ∙ rw (early, late, adds.is_own) (append-nil old.events);
+    let alone = adds_alone
+    (λ state own is none. subst (λ l. (after_all state l).children ≡ []) (sym is) none)
+    idle adds in record {
+      base = alone.base;
+      events = alone.events ∙ ap (λ l. old.events ++ l) alone.is_own
+          ∙ append-nil old.events;
     }
 
 -- a look of a world that runs no child

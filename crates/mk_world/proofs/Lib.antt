@@ -1,5 +1,7 @@
+pub mod AskLemmas
 pub mod CallLemmas
 pub mod CauseLemmas
+pub mod ChangeLemmas
 pub mod IdleLemmas
 pub mod OuterLemmas
 pub mod SinkLemmas

@@ -4,7 +4,7 @@ use Rattle.std.proofs.Common.{length-append, Option, Some, None, refl, sym, â—Œâ
 use Rattle.std.proofs.Common.{arith, lt_irrefl, lt_of_lt_of_le, le_trans, le_of_eq, zero-add}
 use Rattle.std.proofs.Common.{lt_of_not-le}
 use Rattle.mk_world.specs.Deeds.{Store, IsRight, Meets, after_deed}
-use Rattle.mk_world.specs.Outer.{nothing_over, outer, AgreeOn, SameDoing}
+use Rattle.mk_world.specs.Outer.{nothing_over, SameDoing}
 use Rattle.mk_world.specs.Talks.{NextOf, Meaning, Doing, Talks, IsDoing, IsOver, answer, looked}
 use Rattle.mk_world.specs.Talks.{moved, deed_at, deed_on, place, with_deed, at_next, does_in, does}
 use Rattle.mk_world.specs.declared.command.Cmd.{Cmd}

@@ -1,13 +1,14 @@
 -- What one call of a world adds to its history.
-use Rattle.std.specs.Prelude.{◌≡◌, ℕ, List, [], ◌∷◌, ◌++◌, map, Option, Some, None}
-use Rattle.mk_world.specs.History.{FileMap, Filed, State, MayAll, after_all, child_in, contents, state_of}
-use Rattle.mk_world.specs.Talks.{Meaning, answer}
+use Rattle.std.specs.Prelude.{◌≡◌, ◌⊎◌, ℕ, List, [], ◌∷◌, ◌++◌, map, Option, Some, None}
+use Rattle.mk_world.specs.History.{Filed, State, MayAll, after_all, child_in, contents, state_of}
+use Rattle.mk_world.specs.Talks.{Meaning, Doing, answer, does}
 use Rattle.mk_world.specs.Told.{Told}
 use Rattle.mk_world.specs.declared.command.Cmd.{Cmd}
 use Rattle.mk_world.specs.declared.history.Child.{Child}
 use Rattle.mk_world.specs.declared.history.Happening.{Happening}
-use Rattle.mk_world.specs.declared.history.Happening.TheVariants.{Look, Start, Step, End, Left}
+use Rattle.mk_world.specs.declared.history.Happening.TheVariants.{Look, Gone, Ask, Start, Step, End, Left}
 use Rattle.mk_world.specs.declared.history.History.{History}
+use Rattle.mk_world.specs.declared.history.Timed.{Timed}
 use Rattle.mk_world.specs.declared.step.Deed.{Deed}
 use Rattle.mk_world.specs.declared.step.Deed.TheVariants as deed
 use Rattle.mk_world.specs.declared.step.Ended.{Ended}
@@ -55,6 +56,10 @@ when_of (Some file) = At (record { 0 = file.time })
 abbrev pub OwnTime : List ℕ → When → State → List Happening → Type 0
 OwnTime path when state own = (own ≡ Look path ∷ []) × (when ≡ when_of (state.files path))
 
+-- a removal, at some time
+abbrev pub OwnGone : List ℕ → State → List Happening → Type 0
+OwnGone path state own = (time : ℕ) × (own ≡ Gone path time ∷ [])
+
 abbrev pub OwnStart : ℕ → ℕ → Cmd → State → List Happening → Type 0
 OwnStart ticket owner cmd state own = own ≡ Start ticket owner cmd ∷ []
 
@@ -70,6 +75,25 @@ op_of (deed.Move from to bytes) = op.Move from to
 abbrev pub AreRecords : Option (List Op) → List Deed → Type 0
 AreRecords None deeds = Unit {0}
 AreRecords (Some records) deeds = records ≡ map op_of deeds
+
+-- a command that was run to its end, with times for its steps
+abbrev pub IsAsk : Cmd → List Happening → Type 0
+IsAsk cmd own = (steps : List Timed) × (own ≡ Ask cmd steps ∷ [])
+
+-- the answer to a command: the status, the output and the records of its doing
+pub record Answers (doing : Doing) (ended : Ended) : Type 0 where
+  pub status : ended.status ≡ doing.status
+  pub output : ended.output ≡ doing.output
+  pub records : AreRecords ended.records doing.deeds
+
+-- a command that is answered with its doing on the files at that moment
+abbrev pub OwnAsk : Meaning → Cmd → Ended → State → List Happening → Type 0
+OwnAsk meaning cmd ended state own =
+    IsAsk cmd own × Answers (does meaning cmd (contents state.files)) ended
+
+-- a command that is not answered may have been run
+abbrev pub OwnUnanswered : Cmd → State → List Happening → Type 0
+OwnUnanswered cmd state own = (own ≡ []) ⊎ IsAsk cmd own
 
 -- a child that is at its end: its status and output are those of its command by its steps
 pub record EndsAs (meaning : Meaning) (ended : Ended) (child : Child) : Type 0 where

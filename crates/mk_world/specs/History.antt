@@ -4,7 +4,6 @@ use Rattle.std.specs.Option.{option_map}
 use Rattle.std.specs.Str.{bytes_eq}
 use Rattle.mk_world.specs.Deeds.{Store, Spot, changes, IsRight}
 use Rattle.mk_world.specs.Talks.{Meaning, NextOf, answer, deed_at, does, IsOver}
-use Rattle.mk_world.specs.declared.command.Cmd.{Cmd}
 use Rattle.mk_world.specs.declared.history.Child.{Child}
 use Rattle.mk_world.specs.declared.history.File.{File}
 use Rattle.mk_world.specs.declared.history.Happening.{Happening}
@@ -148,6 +147,13 @@ abbrev pub IsRising : ℕ → List Effect → Type 0
 IsRising time [] = Unit {0}
 IsRising time (effect ∷ more) = (time < effect.time) × NotEarlier effect.time more
 
+-- the changes of each step have a time later than all before them
+abbrev pub AreRising : ℕ → List Timed → Type 0
+AreRising time [] = Unit {0}
+AreRising time (step ∷ steps) =
+    IsRising time (at_time step.time (changes step.deed))
+    × AreRising (last_time time (at_time step.time (changes step.deed))) steps
+
 -- a step is that of a running child of this owner: it is what the child asks for next, by what
 -- stands there, and it tells what stands there
 pub record IsStep (next : NextOf) (store : Store) (owner : ℕ) (deed : Deed) (child : Child) : Type 0 where
@@ -173,11 +179,12 @@ MayLeave owner None = ⊥
 MayLeave owner (Some child) = child.owner ≡ owner
 
 -- what may happen, beside the times: no edit falls while a child runs, a started ticket is free,
--- and the steps of an asked command are its doing on the files at that moment
+-- and the steps of an asked command are its doing on the files at that moment, one after the other
 abbrev pub MayNow : Meaning → State → Happening → Type 0
 MayNow meaning state (Edit path bytes time) = state.children ≡ []
 MayNow meaning state (Ask cmd steps) =
-    map (λ step. step.deed) steps ≡ (does meaning cmd (contents state.files)).deeds
+    (map (λ step. step.deed) steps ≡ (does meaning cmd (contents state.files)).deeds)
+    × AreRising state.clock steps
 MayNow meaning state (Start ticket owner cmd) = child_in state.children ticket ≡ None
 MayNow meaning state (Step ticket owner deed time) =
     MayStep meaning.next (contents state.files) owner deed (child_in state.children ticket)

@@ -14,7 +14,7 @@ use Rattle.std.specs.Prelude.{
   Some,
   None,
 }
-use Rattle.mk_world.specs.Deeds.{Store, Meets, after_deed}
+use Rattle.mk_world.specs.Deeds.{Store, Meets, after_deed, after_deeds}
 use Rattle.mk_world.specs.declared.command.Cmd.{Cmd}
 use Rattle.mk_world.specs.declared.step.Answer.{Answer}
 use Rattle.mk_world.specs.declared.step.Answer.TheVariants as answered
@@ -104,6 +104,10 @@ pub record Meaning : Type 0 where
 -- What a command does on a map.
 abbrev pub does : Meaning → Cmd → Store → Doing
 does meaning cmd store = does_in (suc (meaning.limit cmd)) meaning.next cmd [] store
+
+-- the bytes after a command, with nothing between its steps
+abbrev pub after_doing : Meaning → Cmd → Store → Store
+after_doing meaning cmd store = after_deeds store (does meaning cmd store).deeds
 
 -- a doing is one of the command, and it is right on the map
 abbrev pub IsDoing : NextOf → Cmd → List Answer → Store → Doing → Type 0

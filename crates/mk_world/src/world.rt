@@ -1,7 +1,7 @@
 ghost use Rattle.std.specs.Prelude.{◌≡◌, ◌<◌, ℕ, List, [], ◌∷◌, ◌++◌, Option, Some, false, length, nat_eq, IsTrue, IfOk, OnOk, OnErr};
 ghost use Rattle.std.specs.List.{list_any};
 ghost use Rattle.mk_bytes.specs.Paths.{is_clean_directory};
-ghost use Rattle.mk_world.specs.Calls.{Adds, OwnNothing, OwnRead, OwnTime, OwnStart, OwnEnd, OwnLeft, TakenOut};
+ghost use Rattle.mk_world.specs.Calls.{Adds, OwnNothing, OwnRead, OwnTime, OwnGone, OwnAsk, OwnUnanswered, OwnStart, OwnEnd, OwnLeft, TakenOut};
 ghost use Rattle.mk_world.specs.Causes.{HasCause};
 ghost use Rattle.mk_world.specs.History.{state_of, tickets_of};
 ghost use Rattle.mk_world.specs.Talks.{Meaning};
@@ -20,8 +20,9 @@ use std::alloc::Global;
 /// current directory.
 ///
 /// Every call adds to the history, where the world tells it, steps of running children and the
-/// events of its own that its clauses name, and nothing else; a refused call adds none of its own.
-/// `Failed` comes only where the count of faults rose in the call or is at its end.
+/// events of its own that its clauses name, and nothing else; a refused call adds none of its own,
+/// except that a refused `ask` may. `Failed` comes only where the count of faults rose in the call
+/// or is at its end.
 pub trait World {
     /// A running child.
     type Kid;
@@ -50,6 +51,25 @@ pub trait World {
     fn time(&mut self, alloc: Global, path: &[u8]) -> Result<When, WorldFault>
         ensures done { IfOk result (λ when. Adds meaning (history self.old) (history self.new) (OwnTime path.now when)) }
         ensures refused { OnErr result (Adds meaning (history self.old) (history self.new) OwnNothing) }
+        ensures cause { HasCause Failed (faults self.old) (faults self.new) result }
+        ensures children { (kids : List ℕ) → runs self.old kids → runs self.new kids };
+
+    /// Takes a file away. A missing file is no fault: it is removed like another one, at a time of its
+    /// own. After a refusal it is as it was.
+    fn remove(&mut self, alloc: Global, path: &[u8]) -> Result<(), WorldFault>
+        ensures done { OnOk result (Adds meaning (history self.old) (history self.new) (OwnGone path.now)) }
+        ensures refused { OnErr result (Adds meaning (history self.old) (history self.new) OwnNothing) }
+        ensures cause { HasCause Failed (faults self.old) (faults self.new) result }
+        ensures children { (kids : List ℕ) → runs self.old kids → runs self.new kids };
+
+    /// Runs a command to its end, with nothing between its steps, and answers with its status, what
+    /// it printed, and the records of its steps, where there are any; the ticket of the answer is 0.
+    /// After a refusal the command has not run, or has run to its end.
+    fn ask(&mut self, alloc: Global, cmd: &Cmd) -> Result<Ended, WorldFault>
+        requires directory { IsTrue (is_clean_directory cmd.now.cwd) }
+        ensures done { IfOk result (λ ended. Adds meaning (history self.old) (history self.new) (OwnAsk meaning cmd.now ended)) }
+        ensures refused { OnErr result (Adds meaning (history self.old) (history self.new) (OwnUnanswered cmd.now)) }
+        ensures ticket { IfOk result (λ ended. ended.ticket.0 ≡ 0) }
         ensures cause { HasCause Failed (faults self.old) (faults self.new) result }
         ensures children { (kids : List ℕ) → runs self.old kids → runs self.new kids };
 

@@ -14,7 +14,7 @@ invariant_of-self-in-None c =
     let items : c.push.new.self.items ≡ c.self.inside.events.items ++ event ∷ [] =
     grind (arith, common_steps) in
     IsPresent-more c.self.inside _ event c.self.invariant refl items
-    (c.remove.ensures time ∙ ap (λ p. effected files
+    (c.remove.ensures.files time ∙ ap (λ p. effected files
     (record { path = p; bytes = None; time = time })) (sym c.in_ok-copy.ensures))
     refl refl (search rules)
 

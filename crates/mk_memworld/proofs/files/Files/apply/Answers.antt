@@ -1,13 +1,15 @@
-use Rattle.std.proofs.Common.{None, ◌∙◌, ap, sym}
-use Rattle.mk_world.specs.Deeds.{changes}
-use Rattle.mk_world.specs.History.{at_time, effected, effected_all}
+use Rattle.std.proofs.Common.{◌∙◌, ap}
+use Rattle.mk_memworld.specs.Changes.{changed}
 use Rattle.mk_memworld.specs.Files.{files_in}
+use Rattle.mk_memworld.specs.declared.files.Files.{Files}
+use Rattle.mk_memworld.proofs.FileLemmas.{files_in-entries}
 use Rattle.mk_memworld.proofs.files.Files.apply.Goals as goal
 
-pub returns-in-Delete-clause-ok : goal.returns-in-Delete-clause-ok
-returns-in-Delete-clause-ok c =
-    let old = files_in c.args.self.now in
-    c.remove.ensures c.args.time
-    ∙ ap (λ p. effected old (record { path = p; bytes = None; time = c.args.time }))
-    c.bytes-in-Delete.ensures.value
-    ∙ ap (λ d. effected_all old (at_time c.args.time (changes d))) (sym c.in-Delete.is)
+pub returns-clause-ok : goal.returns-clause-ok
+returns-clause-ok c =
+    let old = c.args.self.now in
+    let roomy : Files = record old { stored = c.reserve.new.self } in
+    c.make.ensures.files
+    ∙ ap (λ files. changed files c.in_ok-change.change)
+    (files_in-entries old roomy c.in_ok-reserve.ensures.entries)
+    ∙ c.in_ok-change.ensures (files_in old)

@@ -1,6 +1,6 @@
 use Rattle.std.proofs.Common.{◌≡◌, ◌+◌, ◌≤◌, drop}
 use Rattle.mk_memworld.specs.Clock.{numbers}
-use Rattle.mk_memworld.proofs.chronicle.all_taken.Given as goal
+use Rattle.mk_memworld.proofs.clock.all_taken.Given as goal
 
 abbrev pub invariant-loop-deed : goal.invariant-loop-deed
 invariant-loop-deed l = record {
