@@ -1,46 +1,104 @@
--- One step through a chain of modifiers.
-use Rattle.std.proofs.Common.{◌≡◌, ℕ, ◌+◌, ◌<◌, ◌≤◌, List, [], ◌∷◌, Ok, length, drop, get_or, refl}
-use Rattle.std.proofs.Common.{sym, ap, ◌∙◌}
+-- One step through a chain of modifiers, and through the words of `:@`.
+use Rattle.std.proofs.Common.{◌≡◌, ℕ, ◌+◌, ◌<◌, ◌≤◌, List, [], ◌∷◌, Ok, length, drop, get_or, refl, Err, Result}
+use Rattle.std.proofs.Common.{sym, ap, ◌∙◌, rules}
 use Rattle.std.proofs.lemmas.List.{drop_more, at_drop_all, append-nil}
-use Rattle.mk_ast.specs.Tree.{no_mods}
+use Rattle.mk_ast.specs.Tree.{Tree, no_mods}
 use Rattle.mk_ast.specs.View.{mod_view, mods_view}
-use Rattle.mk_ast.specs.declared.tree.ModTree.{ModTree}
-use Rattle.mk_bytes.specs.Agrees.{◌>>=◌}
-use Rattle.mk_mods.specs.State.{plain, text_of}
-use Rattle.mk_expand.specs.Chains.{Chain, modified, all_modified, chained}
-use Rattle.mk_expand.specs.Evaluators.{Evaluator}
-use Rattle.mk_expand.specs.Names.{Context}
+use Rattle.mk_ast.specs.declared.tree.ModTree.{ModTree, IfUndefined, IfDefined, NameOf, Choose}
+use Rattle.mk_ast.specs.declared.tree.ModTree.{Each, the_lemmas}
+use Rattle.mk_ast.specs.declared.tree.Part.{Part}
+use Rattle.mk_ast.proofs.Views.{views}
+use Rattle.mk_bytes.specs.Agrees.{AgreesBut, ◌>>=◌}
+use Rattle.mk_mods.specs.Results.{with_result}
+use Rattle.mk_mods.specs.State.{State, plain, text_of}
+use Rattle.mk_expand.specs.Chains.{Chain, modified, given_modified, word_modified, all_modified}
+use Rattle.mk_expand.specs.Chains.{chained, each_behind, with_fault}
+use Rattle.mk_expand.specs.Facts.{IsOutside}
+use Rattle.mk_expand.specs.declared.fault.ExpandFault.{ExpandFault}
+use Rattle.mk_expand.specs.Evaluators.{Counted, Finder, Progress}
+use Rattle.mk_expand.specs.Names.{Context, while_bound}
+use Rattle.mk_expand.specs.Parts.{tree_value}
 use Rattle.mk_expand.specs.declared.chain.Found.{Found}
 
-pub all_modified-mod : (evaluate : Evaluator) (c : Context) (count : ℕ) (name : List ℕ)
+pub all_modified-mod : (find : Finder) (c : Context) (p : Progress) (name : List ℕ)
     (chain : Chain) (mods : List ModTree) (i : ℕ) (m : ModTree)
     → i < length mods → m ≡ get_or mods i m
-    → all_modified evaluate c count name chain (mods_view (drop i mods))
-    ≡ (modified evaluate c count name chain (mod_view m)
-    >>= λ more. all_modified evaluate c more.1 name more.0 (mods_view (drop (i + 1) mods)))
+    → all_modified find c p name chain (mods_view (drop i mods))
+    ≡ (modified find c p name chain (mod_view m)
+    >>= λ more. all_modified find c more.1 name more.0 (mods_view (drop (i + 1) mods)))
 unfolding all_modified
-all_modified-mod evaluate c count name chain mods i m within is =
-    ap (λ (rest : List ModTree). all_modified evaluate c count name chain (mods_view rest))
+all_modified-mod find c p name chain mods i m within is =
+    ap (λ (rest : List ModTree). all_modified find c p name chain (mods_view rest))
     (drop_more mods i m within)
     ∙ ap (λ (one : ModTree).
-    all_modified evaluate c count name chain (mods_view (one ∷ drop (i + 1) mods))) (sym is)
+    all_modified find c p name chain (mods_view (one ∷ drop (i + 1) mods))) (sym is)
 
-pub all_modified-end : (evaluate : Evaluator) (c : Context) (count : ℕ) (name : List ℕ)
+pub all_modified-end : (find : Finder) (c : Context) (p : Progress) (name : List ℕ)
     (chain : Chain) (mods : List ModTree) (i : ℕ)
     → length mods ≤ i
-    → all_modified evaluate c count name chain (mods_view (drop i mods)) ≡ Ok (chain, count)
+    → all_modified find c p name chain (mods_view (drop i mods)) ≡ Ok (chain, p)
 unfolding all_modified
-all_modified-end evaluate c count name chain mods i past =
-    at_drop_all (λ (rest : List ModTree).
-    all_modified evaluate c count name chain (mods_view rest)) mods i past
+all_modified-end find c p name chain mods i past =
+    at_drop_all (λ (rest : List ModTree). all_modified find c p name chain (mods_view rest))
+    mods i past
 
 -- the text of a plain text's state is that text
 text_of-plain : (text : List ℕ) → text_of (plain text) ≡ text
 text_of-plain [] = refl
 text_of-plain (byte ∷ bytes) = append-nil (byte ∷ bytes)
 
-pub chained_none : (evaluate : Evaluator) (c : Context) (count : ℕ) (name : List ℕ)
+pub chained_none : (find : Finder) (c : Context) (p : Progress) (name : List ℕ)
     (found : Found)
-    → chained evaluate c count name found no_mods ≡ Ok (found, count)
+    → chained find c p name found no_mods ≡ Ok (found, p)
 unfolding all_modified
-chained_none evaluate c count name found = rw (text_of-plain found.value) refl
+chained_none find c p name found = rw (text_of-plain found.value) refl
+
+-- a value without modifiers is what is found
+pub unmodified : (find : Finder) (c : Context) (name : List ℕ) (found : Counted Found)
+    → (found >>= λ v. chained find c v.1 name v.0 no_mods) ≡ found
+unmodified find c name (Ok v) = chained_none find c v.1 name v.0
+unmodified find c name (Err fault) = refl
+
+pub agrees_unmodified : {X : Type 0} (view : X → Found × Progress) (answer : Result X ExpandFault)
+    (find : Finder) (c : Context) (name : List ℕ) (found : Counted Found)
+    → AgreesBut IsOutside view answer found
+    → AgreesBut IsOutside view answer (found >>= λ v. chained find c v.1 name v.0 no_mods)
+agrees_unmodified view answer find c name found agrees = rw (unmodified find c name found) agrees
+
+pub each_behind-word : (find : Finder) (c : Context) (p : Progress) (name : List ℕ) (body : Tree)
+    (results : State) (words : List (List ℕ)) (i : ℕ) (word : List ℕ)
+    → i < length words → word ≡ get_or words i word
+    → each_behind find c p name body results (drop i words)
+    ≡ (tree_value find (while_bound c name word) p body
+    >>= λ v. with_fault (with_result results v.0)
+    >>= λ more. each_behind find c v.1 name body more (drop (i + 1) words))
+unfolding each_behind
+each_behind-word find c p name body results words i word within is =
+    ap (λ (rest : List (List ℕ)). each_behind find c p name body results rest)
+    (drop_more words i word within)
+    ∙ ap (λ (one : List ℕ). each_behind find c p name body results (one ∷ drop (i + 1) words))
+    (sym is)
+
+pub each_behind-end : (find : Finder) (c : Context) (p : Progress) (name : List ℕ) (body : Tree)
+    (results : State) (words : List (List ℕ)) (i : ℕ)
+    → length words ≤ i
+    → each_behind find c p name body results (drop i words) ≡ Ok (results, p)
+unfolding each_behind
+each_behind-end find c p name body results words i past =
+    at_drop_all (λ (rest : List (List ℕ)). each_behind find c p name body results rest) words i past
+
+-- the other modifiers are those of words
+pub modified-words : (find : Finder) (c : Context) (p : Progress) (name : List ℕ) (chain : Chain)
+    (m : ModTree)
+    → ((text : List Part) → m ≡ IfUndefined text → ⊥)
+    → ((text : List Part) → m ≡ IfDefined text → ⊥) → (m ≡ NameOf → ⊥)
+    → given_modified find c p name chain (mod_view m) ≡ word_modified find c p chain (mod_view m)
+modified-words find c p name chain m undefined defined named =
+    search (rules, the_lemmas, views, undefined, defined, named)
+
+pub modified-given : (find : Finder) (c : Context) (p : Progress) (name : List ℕ) (chain : Chain)
+    (m : ModTree)
+    → ((first second : List Part) → m ≡ Choose first second → ⊥)
+    → ((variable : List ℕ) (body : List Part) → m ≡ Each variable body → ⊥)
+    → modified find c p name chain (mod_view m) ≡ given_modified find c p name chain (mod_view m)
+modified-given find c p name chain m chosen each = search (rules, the_lemmas, views, chosen, each)

@@ -1,4 +1,8 @@
 pub mod ChainLemmas
+pub mod ConditionLemmas
+mod ConditionRows
+pub mod FactLemmas
+pub mod FaultLemmas
 pub mod PlainLemmas
 mod Rows
 pub mod SeparatorLemmas

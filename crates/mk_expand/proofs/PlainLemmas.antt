@@ -1,6 +1,6 @@
 -- A text without any `$` is its own value.
 use Rattle.std.proofs.Common.{◌≡◌, ℕ, Bool, true, false, ◌==◌, ◌&&◌, List, [], ◌∷◌}
-use Rattle.std.proofs.Common.{◌++◌, Option, Result, Ok, Err, refl, sym, ap, ◌∙◌, arith}
+use Rattle.std.proofs.Common.{◌++◌, Result, Ok, Err, Some, refl, sym, ap, ◌∙◌, arith}
 use Rattle.std.proofs.lemmas.Bool.{or_parts}
 use Rattle.std.proofs.lemmas.List.{append-nil}
 use Rattle.mk_bytes.specs.Agrees.{Agrees, ◌>>=◌}
@@ -14,28 +14,26 @@ use Rattle.mk_ast.specs.Text.{plain_run, text_at}
 use Rattle.mk_ast.specs.WellFormed.{after_all, FitsTree, IsWellFormed}
 use Rattle.mk_ast.specs.declared.place.Place.TheVariants.{Whole}
 use Rattle.mk_ast.proofs.ReadAgain.{tree_of_text-spell}
-use Rattle.mk_scopes.specs.Scopes.{Variables}
-use Rattle.mk_expand.specs.Limits.{max_open, appended}
-use Rattle.mk_expand.specs.Names.{Context, context}
+use Rattle.mk_expand.specs.Evaluators.{Counted, Finder, Progress}
+use Rattle.mk_expand.specs.Limits.{appended}
+use Rattle.mk_expand.specs.Chains.{defined_as, plain_found}
+use Rattle.mk_expand.specs.Names.{Context, is_among, raw_above, raw_of, while_open}
+use Rattle.mk_expand.specs.Parts.{text_value, joined}
 use Rattle.mk_expand.specs.Texts.{has_dollar, with_fault, parsed}
-use Rattle.mk_expand.specs.Evaluators.{Counted, Evaluator}
-use Rattle.mk_expand.specs.Value.{text_value, joined, value_at, inside}
-use Rattle.mk_expand.specs.Value.{value_of_text}
+use Rattle.mk_expand.specs.Value.{variable}
 use Rattle.mk_expand.specs.declared.fault.ExpandFault.{ExpandFault}
-use Rattle.mk_expand.specs.declared.local.Locals.{Locals}
-use Rattle.mk_expand.proofs.ValueLemmas.{value_at_joined}
 
--- what is found, with a number of references
-abbrev pub counted : {A : Type 0} → ℕ → Result A ExpandFault → Counted A
-counted count found = found >>= λ value. Ok (value, count)
+-- what is found, with no progress
+abbrev pub counted : {A : Type 0} → Progress → Result A ExpandFault → Counted A
+counted p found = found >>= λ value. Ok (value, p)
 
-pub Agrees-counted : {A : Type 0} (want : ExpandFault) (count : ℕ)
+pub Agrees-counted : {A : Type 0} (want : ExpandFault) (p : Progress)
     (answer defined : Result A ExpandFault)
     → Agrees want (λ value. value) answer defined
-    → Agrees want (λ value. (value, count)) answer (counted count defined)
-Agrees-counted want count (Ok value) defined is = rw is refl
-Agrees-counted want count (Err fault) defined is =
-    AgreesErr-bind want fault defined (λ value. Ok (value, count)) is
+    → Agrees want (λ value. (value, p)) answer (counted p defined)
+Agrees-counted want p (Ok value) defined is = rw is refl
+Agrees-counted want p (Err fault) defined is =
+    AgreesErr-bind want fault defined (λ value. Ok (value, p)) is
 
 and-false : (b : Bool) → (b && false) ≡ false
 and-false true = refl
@@ -63,37 +61,41 @@ parsed-plain byte bytes none =
     tree_of_text-spell (part (plain text) end) formed in
     ap with_fault (ap tree_of_text (sym (append-nil text)) ∙ read)
 
-joined-rest : (within : Option Evaluator) (c : Context) (count : ℕ)
-    (found : Result (List ℕ) ExpandFault)
-    → (counted count found >>= λ more. joined within c more.1 more.0 end) ≡ counted count found
+joined-rest : (find : Finder) (c : Context) (p : Progress) (found : Result (List ℕ) ExpandFault)
+    → (counted p found >>= λ more. joined find c more.1 more.0 end) ≡ counted p found
 unfolding joined
-joined-rest within c count (Ok text) = refl
-joined-rest within c count (Err fault) = refl
+joined-rest find c p (Ok text) = refl
+joined-rest find c p (Err fault) = refl
 
-joined-plain : (within : Option Evaluator) (c : Context) (count : ℕ) (text : List ℕ)
-    → joined within c count [] (part (plain text) end) ≡ counted count (appended [] text)
+joined-plain : (find : Finder) (c : Context) (p : Progress) (text : List ℕ)
+    → joined find c p [] (part (plain text) end) ≡ counted p (appended [] text)
 unfolding joined
-joined-plain within c count text = joined-rest within c count (appended [] text)
+joined-plain find c p text = joined-rest find c p (appended [] text)
 
-pub text_value-plain : (room : ℕ) (c : Context) (count : ℕ) (text : List ℕ)
+pub text_value-plain : (find : Finder) (c : Context) (p : Progress) (text : List ℕ)
     → has_dollar text ≡ false
-    → text_value (value_at room) c count text ≡ counted count (appended [] text)
+    → text_value find c p text ≡ counted p (appended [] text)
 unfolding joined text_at
-text_value-plain room c count [] none = value_at_joined room c count end
-text_value-plain room c count (byte ∷ bytes) none =
-    let tree = part (plain (byte ∷ bytes)) end in
-    rw (parsed-plain byte bytes none, value_at_joined room c count tree)
-    (joined-plain (inside room) c count (byte ∷ bytes))
+text_value-plain find c p [] none = refl
+text_value-plain find c p (byte ∷ bytes) none =
+    rw (parsed-plain byte bytes none) (joined-plain find c p (byte ∷ bytes))
 
-counted-count : (count : ℕ) (found : Result (List ℕ) ExpandFault)
-    → (counted count found >>= λ v. Ok v.0) ≡ found
-counted-count count (Ok text) = refl
-counted-count count (Err fault) = refl
+plain_found-counted : (p : Progress) (value : Result (List ℕ) ExpandFault)
+    → (counted p value >>= λ v. Ok (defined_as v.0, v.1))
+    ≡ counted p (value >>= λ v. Ok (defined_as v))
+plain_found-counted p (Ok value) = refl
+plain_found-counted p (Err fault) = refl
 
--- the whole value of a text without any `$`
-pub value_of_text_plain : (variables : Variables) (locals : Locals) (keep : Bool) (text : List ℕ)
-    → has_dollar text ≡ false
-    → value_of_text variables locals keep text ≡ appended [] text
-value_of_text_plain variables locals keep text none =
-    rw (text_value-plain max_open (context variables locals [] keep) 0 text none)
-    (counted-count 0 (appended [] text))
+-- a variable whose raw value has no `$`
+pub variable-plain : (find : Finder) (c : Context) (p : Progress) (name raw : List ℕ)
+    → is_among c.open_names name ≡ false → raw_of c name ≡ Ok (Some raw)
+    → has_dollar raw ≡ false
+    → variable find c p name ≡ counted p (plain_found raw)
+variable-plain find c p name raw among is none =
+    rw (among, is, text_value-plain find (while_open c name) p raw none)
+    (plain_found-counted p (appended [] raw))
+
+-- what stands above the variables is the raw value
+pub raw_of-above : (c : Context) (name raw : List ℕ)
+    → raw_above c.locals c.bound name ≡ Ok (Some raw) → raw_of c name ≡ Ok (Some raw)
+raw_of-above c name raw is = rw is refl

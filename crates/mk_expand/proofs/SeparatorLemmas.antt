@@ -1,6 +1,5 @@
 -- Numbers of many digits.
 use Rattle.std.proofs.Common.{◌≡◌, ℕ, ◌+◌, ◌*◌, ◌≤◌, ◌<◌, List, [], ◌∷◌, None, fold, arith}
-use Rattle.std.proofs.Common.{nat_le, false}
 use Rattle.std.proofs.Math.Nat.{le-mul_of_pos_right}
 use Rattle.std.proofs.lemmas.Bool.Decides.{nat_tests}
 use Rattle.mk_expand.specs.Separators.{digit_value, byte_of}

@@ -1,13 +1,18 @@
 -- What a reference has found, through its modifiers.
-use Rattle.std.specs.Prelude.{ℕ, ◌==◌, Bool, true, false, List, [], Option, Some, None, Result, Ok}
-use Rattle.std.specs.Prelude.{Err, if◌then◌else◌, codes}
+use Rattle.std.specs.Prelude.{ℕ, ◌==◌, Bool, true, false, List, [], ◌∷◌, Option, Some, None, Result}
+use Rattle.std.specs.Prelude.{Ok, Err, if◌then◌else◌, codes}
 use Rattle.std.specs.List.{list_any}
 use Rattle.mk_bytes.specs.Agrees.{◌>>=◌}
-use Rattle.mk_ast.specs.Spell.{spell_part}
 use Rattle.mk_ast.specs.Tree as tree
-use Rattle.mk_ast.specs.Tree.{Tree, Part, Mods, no_mods, mod_then}
+use Rattle.mk_ast.specs.Tree.{Tree, Mods, no_mods, mod_then}
+use Rattle.mk_cond.specs.Conditions.{condition_of}
+use Rattle.mk_cond.specs.Cond.{Cond}
+use Rattle.mk_cond.specs.declared.cond.Form.TheVariants.{Inner}
+use Rattle.mk_cond.specs.declared.fault.CondFault.{CondFault}
+use Rattle.mk_cond.specs.declared.fault.CondFault.TheVariants as of_conds
 use Rattle.mk_mods.specs.Modifiers.{apply}
-use Rattle.mk_mods.specs.State.{State, plain, text_of, with_items, items_of}
+use Rattle.mk_mods.specs.Results.{no_results, with_result}
+use Rattle.mk_mods.specs.State.{State, plain, text_of, words_of, with_items, items_of}
 use Rattle.mk_mods.specs.declared.fault.ModFault.{ModFault}
 use Rattle.mk_mods.specs.declared.fault.ModFault.TheVariants as of_mods
 use Rattle.mk_mods.specs.declared.modifier.Mod.{Mod}
@@ -16,14 +21,18 @@ use Rattle.mk_mods.specs.declared.modifier.Mod.TheVariants.{Root, Extension, Sor
 use Rattle.mk_mods.specs.declared.modifier.Mod.TheVariants.{Lower, Upper, Quote, QuoteDollar}
 use Rattle.mk_mods.specs.declared.modifier.Mod.TheVariants.{Separator, OneWord, ManyWords, Select}
 use Rattle.mk_mods.specs.declared.modifier.Mod.TheVariants.{Range}
-use Rattle.mk_expand.specs.Evaluators.{Counted, Evaluator}
-use Rattle.mk_expand.specs.Names.{Context}
+use Rattle.mk_expand.specs.Conditions.{truth_of}
+use Rattle.mk_expand.specs.Evaluators.{Progress, Counted, Finder}
+use Rattle.mk_expand.specs.Limits.{appended}
+use Rattle.mk_expand.specs.Names.{Context, while_bound}
+use Rattle.mk_expand.specs.Parts.{tree_value}
 use Rattle.mk_expand.specs.Separators.{separator_of}
 use Rattle.mk_expand.specs.Substitutions.{at_start, at_end, without_anchors, old_in_tree}
+use Rattle.mk_expand.specs.Texts.{of_tree}
 use Rattle.mk_expand.specs.declared.chain.Found.{Found}
 use Rattle.mk_expand.specs.declared.fault.ExpandFault.{ExpandFault}
-use Rattle.mk_expand.specs.declared.fault.ExpandFault.TheVariants.{Unbuilt, TooLong, BadPlace}
-use Rattle.mk_expand.specs.declared.fault.ExpandFault.TheVariants.{NoMemory}
+use Rattle.mk_expand.specs.declared.fault.ExpandFault.TheVariants.{TooLong, BadPlace, NoMemory}
+use Rattle.mk_expand.specs.declared.fault.ExpandFault.TheVariants as faults
 
 -- a reference to a variable without a value
 abbrev pub undefined : Found
@@ -32,30 +41,31 @@ undefined = record { value = []; defined = false }
 abbrev pub defined_as : List ℕ → Found
 defined_as value = record { value = value; defined = true }
 
--- A modifier without a text that has to be evaluated. The empty one does nothing; `:?` and `:@` are not
--- built yet.
-abbrev pub textless : tree.Mod → Result (Option Mod) ExpandFault
-textless tree.head = Ok (Some Head)
-textless tree.tail = Ok (Some Tail)
-textless tree.root = Ok (Some Root)
-textless tree.extension = Ok (Some Extension)
-textless tree.sort = Ok (Some Sort)
-textless tree.sort_back = Ok (Some SortBack)
-textless tree.unique = Ok (Some Unique)
-textless tree.lower = Ok (Some Lower)
-textless tree.upper = Ok (Some Upper)
-textless tree.quote = Ok (Some Quote)
-textless tree.quote_dollar = Ok (Some QuoteDollar)
-textless (tree.separator written) = Ok (Some (Separator (separator_of written)))
-textless (tree.one_word written) = Ok (Some OneWord)
-textless (tree.many_words written) = Ok (Some ManyWords)
-textless tree.range = Ok (Some (Range (codes "0")))
-textless tree.empty = Ok None
-textless _ = Err Unbuilt
+-- a raw value without any `$`, which is its own value
+abbrev pub plain_found : List ℕ → Result Found ExpandFault
+plain_found raw = appended [] raw >>= λ value. Ok (defined_as value)
 
-abbrev pub with_text : Evaluator → Context → ℕ → Tree → (List ℕ → Mod) → Counted (Option Mod)
-with_text evaluate c count text make =
-    evaluate c count text >>= λ v. Ok (Some (make v.0), v.1)
+-- A modifier of words without a text that has to be evaluated. The others are none.
+abbrev pub textless : tree.Mod → Option Mod
+textless tree.head = Some Head
+textless tree.tail = Some Tail
+textless tree.root = Some Root
+textless tree.extension = Some Extension
+textless tree.sort = Some Sort
+textless tree.sort_back = Some SortBack
+textless tree.unique = Some Unique
+textless tree.lower = Some Lower
+textless tree.upper = Some Upper
+textless tree.quote = Some Quote
+textless tree.quote_dollar = Some QuoteDollar
+textless (tree.separator written) = Some (Separator (separator_of written))
+textless (tree.one_word written) = Some OneWord
+textless (tree.many_words written) = Some ManyWords
+textless tree.range = Some (Range (codes "0"))
+textless _ = None
+
+abbrev pub with_text : Finder → Context → Progress → Tree → (List ℕ → Mod) → Counted (Option Mod)
+with_text find c p text make = tree_value find c p text >>= λ v. Ok (Some (make v.0), v.1)
 
 abbrev pub has_flag : List ℕ → ℕ → Bool
 has_flag flags flag = list_any (λ byte. byte == flag) flags
@@ -66,28 +76,27 @@ substitution from flags old new =
     Subst old new (at_start from) (at_end from) (has_flag flags 103) (has_flag flags 49)
     (has_flag flags 87)
 
-abbrev pub subst_of : Evaluator → Context → ℕ → Tree → Tree → List ℕ → Counted (Option Mod)
-subst_of evaluate c count from to flags =
-    evaluate c count (without_anchors from)
-    >>= λ old. evaluate c old.1 (old_in_tree old.0 to)
+abbrev pub subst_of : Finder → Context → Progress → Tree → Tree → List ℕ → Counted (Option Mod)
+subst_of find c p from to flags =
+    tree_value find c p (without_anchors from)
+    >>= λ old. tree_value find c old.1 (old_in_tree old.0 to)
     >>= λ new. Ok (Some (substitution from flags old.0 new.0), new.1)
 
-abbrev pub suffix_of : Evaluator → Context → ℕ → Tree → Tree → Counted (Option Mod)
-suffix_of evaluate c count from to =
-    evaluate c count from
-    >>= λ old. evaluate c old.1 to
+abbrev pub suffix_of : Finder → Context → Progress → Tree → Tree → Counted (Option Mod)
+suffix_of find c p from to =
+    tree_value find c p from
+    >>= λ old. tree_value find c old.1 to
     >>= λ new. Ok (Some (Suffix old.0 new.0), new.1)
 
 -- A modifier of words with its texts evaluated from left to right.
-abbrev pub mod_of : Evaluator → Context → ℕ → tree.Mod → Counted (Option Mod)
-mod_of evaluate c count (tree.keep pattern) = with_text evaluate c count pattern Keep
-mod_of evaluate c count (tree.without pattern) = with_text evaluate c count pattern Without
-mod_of evaluate c count (tree.subst delim from to flags) =
-    subst_of evaluate c count from to flags
-mod_of evaluate c count (tree.select places) = with_text evaluate c count places Select
-mod_of evaluate c count (tree.range_to number) = with_text evaluate c count number Range
-mod_of evaluate c count (tree.suffix from to) = suffix_of evaluate c count from to
-mod_of evaluate c count m = textless m >>= λ one. Ok (one, count)
+abbrev pub mod_of : Finder → Context → Progress → tree.Mod → Counted (Option Mod)
+mod_of find c p (tree.keep pattern) = with_text find c p pattern Keep
+mod_of find c p (tree.without pattern) = with_text find c p pattern Without
+mod_of find c p (tree.subst delim from to flags) = subst_of find c p from to flags
+mod_of find c p (tree.select places) = with_text find c p places Select
+mod_of find c p (tree.range_to number) = with_text find c p number Range
+mod_of find c p (tree.suffix from to) = suffix_of find c p from to
+mod_of find c p m = Ok (textless m, p)
 
 abbrev pub of_mod : ModFault → ExpandFault
 of_mod of_mods.TooLong = TooLong
@@ -119,47 +128,86 @@ abbrev pub given : Chain → Counted (List ℕ) → Counted Chain
 given chain value = value >>= λ v. Ok (given_as chain v.0, v.1)
 
 -- `:U` gives its text where the value is undefined
-abbrev pub if_undefined : Evaluator → Context → ℕ → Chain → Tree → Counted Chain
-if_undefined evaluate c count chain text =
-    if chain.defined then Ok (chain, count) else given chain (evaluate c count text)
+abbrev pub if_undefined : Finder → Context → Progress → Chain → Tree → Counted Chain
+if_undefined find c p chain text =
+    if chain.defined then Ok (chain, p) else given chain (tree_value find c p text)
 
 -- `:D` gives its text where the value is defined, and else nothing
-abbrev pub if_defined : Evaluator → Context → ℕ → Chain → Tree → Counted Chain
-if_defined evaluate c count chain text =
-    given chain (if chain.defined then evaluate c count text else Ok ([], count))
+abbrev pub if_defined : Finder → Context → Progress → Chain → Tree → Counted Chain
+if_defined find c p chain text =
+    given chain (if chain.defined then tree_value find c p text else Ok ([], p))
 
-abbrev pub word_modified : Evaluator → Context → ℕ → Chain → tree.Mod → Counted Chain
-word_modified evaluate c count chain m =
-    mod_of evaluate c count m
+-- a fault in the condition of a `:?`; want of memory is what it is everywhere
+abbrev pub of_cond : CondFault → ExpandFault
+of_cond (of_conds.Bad at) = faults.Cond at
+of_cond (of_conds.Tree fault) = of_tree fault
+of_cond (of_conds.TooDeep at) = faults.Cond at
+of_cond of_conds.NoMemory = NoMemory
+
+abbrev pub with_cond_fault : Result Cond CondFault → Result Cond ExpandFault
+with_cond_fault (Ok cond) = Ok cond
+with_cond_fault (Err fault) = Err (of_cond fault)
+
+-- the condition that the name of a `:?` is
+abbrev pub name_condition : List ℕ → Result Cond ExpandFault
+name_condition name = with_cond_fault (condition_of Inner name)
+
+abbrev pub chosen : Finder → Context → Progress → List ℕ → Tree → Tree → Counted (List ℕ)
+chosen find c p name first second =
+    name_condition name
+    >>= λ cond. truth_of find c p cond
+    >>= λ t. tree_value find c t.1 (if t.0 then first else second)
+
+-- The body of `:@` for each word, for which its variable stands, behind the results so far. They are
+-- too long from the first one on with which their printed text is.
+unfoldable pub each_behind : Finder → Context → Progress → List ℕ → Tree → State → List (List ℕ)
+    → Counted State
+each_behind find c p name body results [] = Ok (results, p)
+each_behind find c p name body results (word ∷ words) =
+    tree_value find (while_bound c name word) p body
+    >>= λ v. with_fault (with_result results v.0)
+    >>= λ more. each_behind find c v.1 name body more words
+
+-- `:@`: the results are the items
+abbrev pub each : Finder → Context → Progress → Chain → List ℕ → Tree → Counted Chain
+each find c p chain name body =
+    each_behind find c p name body (no_results chain.state) (words_of chain.state)
+    >>= λ results. Ok (with_state chain results.0, results.1)
+
+abbrev pub word_modified : Finder → Context → Progress → Chain → tree.Mod → Counted Chain
+word_modified find c p chain m =
+    mod_of find c p m
     >>= λ one. applied one.0 chain.state
     >>= λ state. Ok (with_state chain state, one.1)
 
+-- `:?` gives what it chooses
+abbrev pub choose : Finder → Context → Progress → List ℕ → Chain → Tree → Tree → Counted Chain
+choose find c p name chain first second = given chain (chosen find c p name first second)
+
+abbrev pub given_modified : Finder → Context → Progress → List ℕ → Chain → tree.Mod
+    → Counted Chain
+given_modified find c p name chain (tree.if_undefined text) = if_undefined find c p chain text
+given_modified find c p name chain (tree.if_defined text) = if_defined find c p chain text
+given_modified find c p name chain tree.name_of = Ok (given_as chain name, p)
+given_modified find c p name chain m = word_modified find c p chain m
+
 -- One modifier of a reference to a name. Only what is chosen is evaluated.
-abbrev pub modified : Evaluator → Context → ℕ → List ℕ → Chain → tree.Mod → Counted Chain
-modified evaluate c count name chain (tree.if_undefined text) =
-    if_undefined evaluate c count chain text
-modified evaluate c count name chain (tree.if_defined text) =
-    if_defined evaluate c count chain text
-modified evaluate c count name chain tree.name_of = Ok (given_as chain name, count)
-modified evaluate c count name chain m = word_modified evaluate c count chain m
+abbrev pub modified : Finder → Context → Progress → List ℕ → Chain → tree.Mod → Counted Chain
+modified find c p name chain (tree.choose first second) = choose find c p name chain first second
+modified find c p name chain (tree.each variable body) = each find c p chain variable body
+modified find c p name chain m = given_modified find c p name chain m
 
 -- the modifiers from left to right
-unfoldable pub all_modified : Evaluator → Context → ℕ → List ℕ → Chain → Mods → Counted Chain
-all_modified evaluate c count name chain no_mods = Ok (chain, count)
-all_modified evaluate c count name chain (mod_then m mods) =
-    modified evaluate c count name chain m
-    >>= λ more. all_modified evaluate c more.1 name more.0 mods
+unfoldable pub all_modified : Finder → Context → Progress → List ℕ → Chain → Mods → Counted Chain
+all_modified find c p name chain no_mods = Ok (chain, p)
+all_modified find c p name chain (mod_then m mods) =
+    modified find c p name chain m >>= λ more. all_modified find c more.1 name more.0 mods
 
 abbrev pub chain_of : Found → Chain
 chain_of found = record { state = plain found.value; defined = found.defined }
 
 -- the value of a reference to a name, behind its modifiers
-abbrev pub chained : Evaluator → Context → ℕ → List ℕ → Found → Mods → Counted Found
-chained evaluate c count name found mods =
-    all_modified evaluate c count name (chain_of found) mods
+abbrev pub chained : Finder → Context → Progress → List ℕ → Found → Mods → Counted Found
+chained find c p name found mods =
+    all_modified find c p name (chain_of found) mods
     >>= λ s. Ok (record { value = text_of s.0.state; defined = s.0.defined }, s.1)
-
--- What a reference gives. One that is undefined in the end is empty, and with the flag of `:=` it
--- stays as it is written.
-abbrev pub shown : Bool → Part → Found → List ℕ
-shown kept p found = if found.defined then found.value else (if kept then spell_part p else [])

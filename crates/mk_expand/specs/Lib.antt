@@ -1,8 +1,12 @@
+pub mod Calls
 pub mod Chains
+pub mod Conditions
 pub mod Evaluators
+pub mod Facts
 pub mod Limits
 pub mod Locals
 pub mod Names
+pub mod Parts
 pub mod Separators
 pub mod Substitutions
 pub mod Texts

@@ -1,31 +1,38 @@
 -- What a name stands for: a variable of `:@`, a local name, or a variable of a class.
 use Rattle.std.specs.Prelude.{ℕ, Bool, false, List, [], ◌∷◌, ◌++◌, Option, Some, None, Result, Ok}
+use Rattle.std.specs.Prelude.{if◌then◌else◌}
 use Rattle.std.specs.List.{list_any}
 use Rattle.std.specs.Str.{bytes_eq}
 use Rattle.mk_bytes.specs.Agrees.{◌>>=◌}
 use Rattle.mk_bytes.specs.declared.pair.Pair.{Pair}
 use Rattle.mk_scopes.specs.Scopes.{Variables, raw_value}
-use Rattle.mk_scopes.specs.Tables.{value_in, or_else}
+use Rattle.mk_scopes.specs.Tables.{or_else}
+use Rattle.mk_expand.specs.Facts.{Lists, Answers}
 use Rattle.mk_expand.specs.Locals.{local_raw}
 use Rattle.mk_expand.specs.declared.fault.ExpandFault.{ExpandFault}
 use Rattle.mk_expand.specs.declared.local.Locals.{Locals}
 
--- What names mean where a text is evaluated: the variables, the local names, the variables of `:@`
--- with the innermost first, the variables whose values are being expanded, and the flag of `:=`.
+-- What names and facts mean where a text is evaluated: the variables, the local names, the lists of
+-- facts and the answers of `exists`, the variables of `:@` with the innermost last, the variables
+-- whose values are being expanded, and the flag of `:=`.
 pub record Context : Type 0 where
   pub variables : Variables
   pub locals : Locals
+  pub lists : Lists
+  pub answers : Answers
   pub bound : List Pair
   pub open_names : List (List ℕ)
   pub keep : Bool
 
--- what names mean outside of every `:@`
-abbrev pub context : Variables → Locals → List (List ℕ) → Bool → Context
-context variables locals names keep = record {
+-- what they mean outside of every value and every `:@`
+abbrev pub context : Variables → Locals → Lists → Answers → Bool → Context
+context variables locals lists answers keep = record {
   variables = variables;
   locals = locals;
+  lists = lists;
+  answers = answers;
   bound = [];
-  open_names = names;
+  open_names = [];
   keep = keep;
 }
 
@@ -37,6 +44,11 @@ in_name c = record c { keep = false }
 abbrev pub while_open : Context → List ℕ → Context
 while_open c name = record c { open_names = c.open_names ++ name ∷ [] }
 
+-- in the body of a `:@`, whose variable stands for a word
+abbrev pub while_bound : Context → List ℕ → List ℕ → Context
+while_bound c name word =
+    record c { bound = c.bound ++ record { name = name; value = word } ∷ [] }
+
 abbrev pub is_among : List (List ℕ) → List ℕ → Bool
 is_among names name = list_any (λ one. bytes_eq one name) names
 
@@ -45,17 +57,26 @@ abbrev pub known : Variables → List ℕ → Option (List ℕ)
 known variables [] = None
 known variables (byte ∷ name) = raw_value variables (byte ∷ name)
 
--- the local names stand above the variables
-abbrev pub below_bound : Context → List ℕ → Result (Option (List ℕ)) ExpandFault
-below_bound c name =
-    local_raw c.locals name >>= λ raw. Ok (or_else raw (known c.variables name))
+-- the value of a name among those of `:@`, where the last of a name counts
+abbrev pub last_value : List Pair → List ℕ → Option (List ℕ)
+last_value [] name = None
+last_value (pair ∷ pairs) name =
+    or_else (last_value pairs name) (if bytes_eq name pair.name then Some pair.value else None)
 
--- a variable of `:@` stands above all
-abbrev pub bound_or : Option (List ℕ) → Result (Option (List ℕ)) ExpandFault
+abbrev pub or_below : Option (List ℕ) → Result (Option (List ℕ)) ExpandFault
     → Result (Option (List ℕ)) ExpandFault
-bound_or (Some raw) below = Ok (Some raw)
-bound_or None below = below
+or_below (Some raw) below = Ok (Some raw)
+or_below None below = below
 
--- The raw value of a name, where it has one.
+-- the raw value of a variable of `:@`, which stand above all, or else of a local name
+abbrev pub raw_above : Locals → List Pair → List ℕ → Result (Option (List ℕ)) ExpandFault
+raw_above locals bound name = or_below (last_value bound name) (local_raw locals name)
+
+abbrev pub raw_in : Variables → Locals → List Pair → List ℕ
+    → Result (Option (List ℕ)) ExpandFault
+raw_in variables locals bound name =
+    raw_above locals bound name >>= λ raw. Ok (or_else raw (known variables name))
+
+-- The raw value of a name, where it has one: those names stand above the variables of the classes.
 abbrev pub raw_of : Context → List ℕ → Result (Option (List ℕ)) ExpandFault
-raw_of c name = bound_or (value_in c.bound name) (below_bound c name)
+raw_of c name = raw_in c.variables c.locals c.bound name

@@ -4,12 +4,13 @@ ghost use Rattle.mk_ast.specs.View.{mod_view, part_view};
 ghost use Rattle.mk_bytes.specs.Agrees.{Agrees};
 ghost use Rattle.mk_expand.specs.Chains as spec;
 ghost use Rattle.mk_expand.specs.Limits.{appended};
+ghost use Rattle.mk_expand.specs.Parts.{shown};
 ghost use Rattle.mk_expand.specs.View.{chain_view};
 ghost use Rattle.mk_mods.specs.Pieces.{end_of, Begins};
 ghost use Rattle.mk_expand.specs.declared.fault.ExpandFault.TheVariants.{NoMemory as no_memory};
 
 use crate::fault::ExpandFault;
-use crate::limit::append;
+use crate::limit::{MAX_TEXT, append};
 use crate::separator::separator_of;
 use mk_ast::{ModTree, Part, print_part};
 use mk_bytes::{Items, NoMemory, Text};
@@ -53,11 +54,33 @@ pub fn given(
     })
 }
 
-/// A modifier without a text that has to be evaluated. The empty one does nothing, and `:?` and `:@`
-/// are not built yet.
+/// What a raw value without any `$` finds: itself.
+pub fn plain_found(raw: Text) -> Result<Found, ExpandFault>
+    ensures { Agrees no_memory (λ found. found) result (spec.plain_found raw) }
+{
+    if raw.len() > MAX_TEXT {
+        return Err(ExpandFault::TooLong);
+    }
+    Ok(Found {
+        value: raw,
+        defined: true,
+    })
+}
+
+/// What an undefined reference finds.
+pub fn nothing_found(alloc: Global) -> Found
+    ensures { result ≡ spec.undefined }
+{
+    Found {
+        value: Text::new(alloc),
+        defined: false,
+    }
+}
+
+/// A modifier of words without a text that has to be evaluated. The others are none.
 #[tactic(auto, using(mk_ast::proofs::Views::views))]
-pub fn textless(alloc: Global, one: &ModTree) -> Result<Option<Mod>, ExpandFault>
-    ensures { Agrees no_memory (λ found. found) result (spec.textless (mod_view one.now)) }
+pub fn textless(alloc: Global, one: &ModTree) -> Result<Option<Mod>, NoMemory>
+    ensures { IfOk result (λ found. found ≡ spec.textless (mod_view one.now)) }
 {
     match one {
         ModTree::Head => Ok(Some(Mod::Head)),
@@ -71,27 +94,20 @@ pub fn textless(alloc: Global, one: &ModTree) -> Result<Option<Mod>, ExpandFault
         ModTree::Upper => Ok(Some(Mod::Upper)),
         ModTree::Quote => Ok(Some(Mod::Quote)),
         ModTree::QuoteDollar => Ok(Some(Mod::QuoteDollar)),
-        ModTree::Separator(written) => { Ok(Some(Mod::Separator(separator_of(written.bytes())))) }
+        ModTree::Separator(written) => Ok(Some(Mod::Separator(separator_of(written.bytes())))),
         ModTree::OneWord(_) => Ok(Some(Mod::OneWord)),
         ModTree::ManyWords(_) => Ok(Some(Mod::ManyWords)),
         ModTree::Range(None) => Ok(Some(Mod::Range(Text::from_bytes(alloc, b"0")?))),
-        ModTree::Empty => Ok(None),
-        ModTree::Keep(_) => Err(ExpandFault::Unbuilt),
-        ModTree::Without(_) => Err(ExpandFault::Unbuilt),
+        ModTree::Keep(_) | ModTree::Without(_) | ModTree::Select(_) => Ok(None),
         ModTree::Subst {
             delim: _,
             from: _,
             to: _,
             flags: _,
-        } => Err(ExpandFault::Unbuilt),
-        ModTree::Select(_) => Err(ExpandFault::Unbuilt),
-        ModTree::Range(Some(_)) => Err(ExpandFault::Unbuilt),
-        ModTree::Suffix(_, _) => Err(ExpandFault::Unbuilt),
-        ModTree::IfUndefined(_) => Err(ExpandFault::Unbuilt),
-        ModTree::IfDefined(_) => Err(ExpandFault::Unbuilt),
-        ModTree::NameOf => Err(ExpandFault::Unbuilt),
-        ModTree::Choose(_, _) => Err(ExpandFault::Unbuilt),
-        ModTree::Each(_, _) => Err(ExpandFault::Unbuilt),
+        } => Ok(None),
+        ModTree::Range(Some(_)) | ModTree::Suffix(_, _) => Ok(None),
+        ModTree::IfUndefined(_) | ModTree::IfDefined(_) | ModTree::NameOf => Ok(None),
+        ModTree::Choose(_, _) | ModTree::Each(_, _) | ModTree::Empty => Ok(None),
     }
 }
 
@@ -105,7 +121,7 @@ pub fn append_found(
     part: &Part,
 ) -> Result<(), ExpandFault>
     ensures { Agrees no_memory (λ done. text.new) result
-        (appended text.old (spec.shown keep (part_view part.now) found.now)) }
+        (appended text.old (shown keep (part_view part.now) found.now)) }
 {
     if found.defined {
         return append(text, found.value.bytes());

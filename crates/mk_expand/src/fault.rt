@@ -1,9 +1,11 @@
+use crate::facts::FactFault;
 use mk_ast::AstFault;
 use mk_bytes::{NoMemory, Text};
+use mk_cond::{CondFault, NoNumber};
 use mk_mods::ModFault;
 
-/// Why a text has no value: its first fault, where a text is read as a whole before any of it is
-/// evaluated, and is evaluated from left to right.
+/// Why a text has no value, or a condition no truth: the first fault, where a text is read as a whole
+/// before any of it is evaluated, and is evaluated from left to right.
 #[derive(Debug, Drop)]
 pub enum ExpandFault {
     /// A reference names this variable, whose own value is being expanded.
@@ -17,10 +19,21 @@ pub enum ExpandFault {
     /// A text or a value has this fault of the grammar, with its place in that text or value. It is
     /// never the want of memory.
     Tree(AstFault),
+    /// The condition of a `:?` has a fault of its grammar at this place, counted from 0. A fault of
+    /// a reference in it is `Tree`.
+    Cond(usize),
+    /// `<`, `<=`, `>` or `>=` of a condition has a side that is a quoted text or no number. It comes
+    /// after the faults of both sides.
+    NoNumber,
+    /// A side of a condition is an undefined reference, and nothing else.
+    Undefined,
     /// The text of `:[..]` or of `:range=` is no choice of places.
     BadPlace,
-    /// A reference has a modifier or a local name that is not built yet.
+    /// A reference has a local name that is not built yet: one with `D` or `F` at its end. Or a
+    /// condition asks for a fact where none are built.
     Unbuilt,
+    /// The outside failed when a fact was asked for, and was counted.
+    Failed,
     /// Memory ran out.
     NoMemory,
 }
@@ -64,6 +77,48 @@ impl From<ModFault> for ExpandFault {
             ModFault::TooLong => ExpandFault::TooLong,
             ModFault::BadPlace => ExpandFault::BadPlace,
             ModFault::NoMemory => ExpandFault::NoMemory,
+        }
+    }
+}
+
+impl From<CondFault> for ExpandFault {
+    ghost use Rattle.std.specs.Prelude.{◌≡◌};
+    ghost use Rattle.mk_expand.specs.Chains.{of_cond};
+
+    ghost from_gives = { λ given fault. fault ≡ of_cond given };
+
+    fn from(fault: CondFault) -> ExpandFault {
+        match fault {
+            CondFault::Bad(at) => ExpandFault::Cond(at),
+            CondFault::Tree(fault) => ExpandFault::from(fault),
+            CondFault::TooDeep(at) => ExpandFault::Cond(at),
+            CondFault::NoMemory => ExpandFault::NoMemory,
+        }
+    }
+}
+
+impl From<NoNumber> for ExpandFault {
+    ghost use Rattle.std.specs.Prelude.{◌≡◌};
+    ghost use Rattle.mk_expand.specs.declared.fault.ExpandFault.TheVariants.{NoNumber as no_number};
+
+    ghost from_gives = { λ _ fault. fault ≡ no_number };
+
+    fn from(_: NoNumber) -> ExpandFault {
+        ExpandFault::NoNumber
+    }
+}
+
+impl From<FactFault> for ExpandFault {
+    ghost use Rattle.std.specs.Prelude.{◌≡◌};
+    ghost use Rattle.mk_expand.specs.Facts.{of_fact};
+
+    ghost from_gives = { λ given fault. fault ≡ of_fact given };
+
+    fn from(fault: FactFault) -> ExpandFault {
+        match fault {
+            FactFault::Unbuilt => ExpandFault::Unbuilt,
+            FactFault::Failed => ExpandFault::Failed,
+            FactFault::NoMemory => ExpandFault::NoMemory,
         }
     }
 }

@@ -3,7 +3,7 @@ ghost use Rattle.std.specs.Prelude.{◌≡◌, []};
 ghost use Rattle.mk_bytes.specs.Agrees.{Agrees};
 ghost use Rattle.mk_expand.specs.Limits.{appended};
 ghost use Rattle.mk_expand.specs.Texts.{has_dollar};
-ghost use Rattle.mk_expand.specs.Value.{double_value};
+ghost use Rattle.mk_expand.specs.Parts.{double_value};
 ghost use Rattle.mk_expand.specs.declared.fault.ExpandFault.TheVariants.{NoMemory as no_memory};
 
 use crate::fault::ExpandFault;

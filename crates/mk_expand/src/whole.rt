@@ -1,12 +1,17 @@
-//! Values of whole trees and texts.
+//! Values of whole trees and texts, and the truth of whole conditions.
 ghost use Rattle.std.specs.Prelude.{◌≡◌, IfOk};
 ghost use Rattle.mk_ast.specs.View.{tree_view};
-ghost use Rattle.mk_bytes.specs.Agrees.{Agrees};
+ghost use Rattle.mk_cond.specs.View.{cond_view};
+ghost use Rattle.mk_expand.specs.Calls.{IsFirst};
+ghost use Rattle.mk_expand.specs.Facts.{AsksMore, Means};
 ghost use Rattle.mk_expand.specs.Texts.{name_tree};
 ghost use Rattle.mk_expand.specs.Value as spec;
-ghost use Rattle.mk_expand.specs.declared.fault.ExpandFault.TheVariants.{NoMemory as no_memory};
+ghost use Rattle.mk_expand.specs.declared.fault.ExpandFault.TheVariants.{Failed as failed};
+ghost use Rattle.mk_world.specs.Causes.{HasCause};
 
+use crate::conditions::{MAX_DEPTH, truth_of};
 use crate::evaluation::{Run, text_value, tree_value};
+use crate::facts::Facts;
 use crate::fault::ExpandFault;
 use crate::limit::MAX_OPEN;
 use crate::local::Locals;
@@ -14,49 +19,69 @@ use crate::name::Names;
 use crate::plain::{has_dollar, plain_value};
 use mk_ast::{Part, Tree};
 use mk_bytes::{Items, NoMemory, Text};
+use mk_cond::Cond;
 use mk_pool::Region;
 use mk_scopes::Scopes;
 use std::alloc::Global;
 
+fn first_run(alloc: Global) -> Result<Run, NoMemory>
+    ensures { IfOk result (λ run. IsFirst run) }
+{
+    Ok(Run {
+        open_names: Items::new(alloc, 0)?,
+        bound: Items::new(alloc, 0)?,
+        references: 0,
+        region: Region::new(alloc)?,
+    })
+}
+
 /// The value of a tree. With `keep` it is what `:=` sets: `$$` stays `$$`, and a reference that is
 /// undefined in the end stays as it is written, in the text and in values that stand there, but not
 /// in names. Without it such a reference is empty. Each fault comes exactly where the definition
-/// has it first; want of memory may stand in place of any answer.
-pub fn expand(
+/// has it first; want of memory may stand in place of any answer, and `Failed` only where the count
+/// of the facts rose in this call or is at its end.
+pub fn expand<F: Facts>(
     alloc: Global,
     scopes: &Scopes,
     locals: &Locals,
     tree: &Tree,
+    facts: &mut F,
     keep: bool,
 ) -> Result<Text, ExpandFault>
-    ensures { Agrees no_memory (λ value. value) result
-        (spec.value scopes.now locals.now keep (tree_view tree.now)) }
+    ensures value { Means (F.asked facts.new) (λ value. (value, F.asked facts.new)) result
+        (λ answers. spec.value scopes.now locals.now (F.lists facts.old) answers keep
+        (F.asked facts.old) (tree_view tree.now)) }
+    ensures lists { F.lists facts.new ≡ F.lists facts.old }
+    ensures asked { AsksMore (F.asked facts.old) (F.asked facts.new) }
+    ensures cause { HasCause failed (F.faults facts.old) (F.faults facts.new) result }
+    ensures leads { F.leads facts.old facts.new }
 {
     let names = Names {
         alloc,
         scopes,
         locals,
     };
-    let mut run = Run {
-        open_names: Items::new(alloc, 0)?,
-        references: 0,
-        region: Region::new(alloc)?,
-    };
-    tree_value(&names, &mut run, MAX_OPEN, keep, tree)
+    let mut run = first_run(alloc)?;
+    tree_value(&names, &mut run, facts, MAX_OPEN, keep, tree)
 }
 
 /// The value of a text, as [`expand`] gives that of its tree. A text without a tree has the fault
 /// of the grammar.
-#[tactic(auto, using(crate::proofs::PlainLemmas::value_of_text_plain))]
-pub fn value_of_text(
+pub fn value_of_text<F: Facts>(
     alloc: Global,
     scopes: &Scopes,
     locals: &Locals,
     text: &[u8],
+    facts: &mut F,
     keep: bool,
 ) -> Result<Text, ExpandFault>
-    ensures { Agrees no_memory (λ value. value) result
-        (spec.value_of_text scopes.now locals.now keep text.now) }
+    ensures value { Means (F.asked facts.new) (λ value. (value, F.asked facts.new)) result
+        (λ answers. spec.value_of_text scopes.now locals.now (F.lists facts.old) answers keep
+        (F.asked facts.old) text.now) }
+    ensures lists { F.lists facts.new ≡ F.lists facts.old }
+    ensures asked { AsksMore (F.asked facts.old) (F.asked facts.new) }
+    ensures cause { HasCause failed (F.faults facts.old) (F.faults facts.new) result }
+    ensures leads { F.leads facts.old facts.new }
 {
     if !has_dollar(text) {
         return plain_value(alloc, text);
@@ -66,12 +91,35 @@ pub fn value_of_text(
         scopes,
         locals,
     };
-    let mut run = Run {
-        open_names: Items::new(alloc, 0)?,
-        references: 0,
-        region: Region::new(alloc)?,
+    let mut run = first_run(alloc)?;
+    text_value(&names, &mut run, facts, MAX_OPEN, keep, text)
+}
+
+/// The truth of a condition (make(1), the directive `.if`). What does not decide is not evaluated:
+/// neither its faults nor its facts count. `Undefined` stands at its side, and `NoNumber` behind
+/// both; the other faults are those of [`expand`].
+pub fn eval_cond<F: Facts>(
+    alloc: Global,
+    scopes: &Scopes,
+    locals: &Locals,
+    cond: &Cond,
+    facts: &mut F,
+) -> Result<bool, ExpandFault>
+    ensures truth { Means (F.asked facts.new) (λ truth. (truth, F.asked facts.new)) result
+        (λ answers. spec.truth scopes.now locals.now (F.lists facts.old) answers
+        (F.asked facts.old) (cond_view cond.now)) }
+    ensures lists { F.lists facts.new ≡ F.lists facts.old }
+    ensures asked { AsksMore (F.asked facts.old) (F.asked facts.new) }
+    ensures cause { HasCause failed (F.faults facts.old) (F.faults facts.new) result }
+    ensures leads { F.leads facts.old facts.new }
+{
+    let names = Names {
+        alloc,
+        scopes,
+        locals,
     };
-    text_value(&names, &mut run, MAX_OPEN, keep, text)
+    let mut run = first_run(alloc)?;
+    truth_of(&names, &mut run, facts, MAX_OPEN, MAX_DEPTH, cond)
 }
 
 /// One reference to a name without modifiers, whatever bytes the name has.

@@ -1,4 +1,4 @@
-use Rattle.std.proofs.Common.{◌≡◌, ◌+◌, ◌*◌, ◌<◌, drop, get_or, sym, arith}
+use Rattle.std.proofs.Common.{◌+◌, ◌*◌, ◌<◌, drop, get_or, sym, arith}
 use Rattle.std.proofs.lemmas.List.{drop_more}
 use Rattle.mk_expand.specs.Separators.{digit_value}
 use Rattle.mk_expand.proofs.SeparatorLemmas.{no_byte}

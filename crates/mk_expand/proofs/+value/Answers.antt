@@ -1,0 +1,787 @@
+use Rattle.std.proofs.Common.{◌≡◌, false, [], Ok, refl, sym, ◌∙◌, inr, rules}
+use Rattle.std.proofs.lemmas.Result.{err_from_is_err_and}
+use Rattle.mk_ast.proofs.Views as trees
+use Rattle.mk_ast.proofs.Views.{view-Short, view-Keep, view-Without, view-Select, view-Choose}
+use Rattle.mk_ast.specs.Tree.{range_to}
+use Rattle.mk_ast.specs.View.{mod_view, tree_view}
+use Rattle.mk_ast.specs.declared.tree.ModTree.{the_lemmas as mod_lemmas}
+use Rattle.mk_cond.proofs.Views.{views, view-Any, view-All}
+use Rattle.mk_cond.specs.declared.cond.Cond.{the_lemmas}
+use Rattle.mk_mods.proofs.PieceLemmas.{Begins-refl}
+use Rattle.mk_expand.specs.Calls.{at, here}
+use Rattle.mk_expand.specs.Conditions.{truth_of}
+use Rattle.mk_expand.specs.Value.{found_at}
+use Rattle.mk_expand.specs.View.{chain_view}
+use Rattle.mk_expand.specs.declared.fault.ExpandFault.TheVariants.{NoMemory as no_memory}
+use Rattle.mk_expand.proofs.ChainLemmas.{all_modified-mod, all_modified-end, each_behind-word}
+use Rattle.mk_expand.proofs.ChainLemmas.{agrees_unmodified, each_behind-end, modified-words, modified-given}
+use Rattle.mk_expand.proofs.ConditionLemmas.{any_truth-cond, any_truth-end, all_truth-cond}
+use Rattle.mk_expand.proofs.ConditionLemmas.{all_truth-end}
+use Rattle.mk_expand.proofs.FactLemmas.{earlier, never_fails, ok_never, Asks-none, Asks-err, Asks-ok, Asks-then}
+use Rattle.mk_expand.proofs.FactLemmas.{Keeps-then, Extends-then, agrees_but, fault_of_all, outside}
+use Rattle.mk_expand.proofs.FaultLemmas.{never-appended, never-raw_above, err_never, fault_never}
+use Rattle.mk_expand.proofs.PlainLemmas.{Agrees-counted, text_value-plain, variable-plain, raw_of-above}
+use Rattle.mk_expand.proofs.ValueLemmas.{joined-part, joined-end, joined-new, joined-new-end}
+use Rattle.mk_expand.proofs.ValueLemmas.{found-not, found-may, old_text_start}
+use Rattle.mk_expand.proofs.+value.Goals as goal
+
+pub evaluation::joined-loop-part-init : goal.evaluation::joined-loop-part-init
+evaluation::joined-loop-part-init g t c =
+    record {
+      value = λ answers by. refl;
+      run = record { open_names = refl; bound = refl; region = refl };
+      facts = Asks-none (g.met.F.Facts.stays _) _ _ _ (Ok tt) (ok_never tt);
+    }
+
+pub evaluation::joined-returns-in_err-append_part-clause-value : goal.evaluation::joined-returns-in_err-append_part-clause-value
+evaluation::joined-returns-in_err-append_part-clause-value g t c =
+    let p = err_from_is_err_and c.from_residual.result c.from_residual.ensures.1 in
+    let l = c.loop-part in
+    rw (p.1, p.2) (λ answers by.
+    let before = earlier _ _ answers c.in_err-append_part.ensures.facts.asked by in
+    let step = joined-part (found_at c.args.room) (here c.args.names.now.scopes.now c.args.names.now.locals.now
+    (g.F.Facts.lists l.facts) l.run c.args.keep answers)
+    (at l.run (g.F.Facts.asked l.facts)) l.text c.args.parts.now l.part-index c.part-item.result
+    c.loop-part-test.true c.part-item.is in
+    rw (← l.invariant.value answers before, step)
+    (fault_of_all c.in_err-append_part.field-0.0 _ _ (c.in_err-append_part.ensures.value answers by)))
+
+pub evaluation::joined-returns-in_err-append_part-clause-facts : goal.evaluation::joined-returns-in_err-append_part-clause-facts
+evaluation::joined-returns-in_err-append_part-clause-facts g t c =
+    let p = err_from_is_err_and c.from_residual.result c.from_residual.ensures.1 in
+    rw (p.1, p.2)
+    (Asks-then (g.met.F.Facts.goes_on _ _ _) c.loop-part.invariant.facts (Asks-err c.in_err-append_part.ensures.facts))
+
+pub evaluation::joined-loop-part-preserved : goal.evaluation::joined-loop-part-preserved
+evaluation::joined-loop-part-preserved g t c =
+    let l = c.loop-part in
+    record {
+      value = λ answers by.
+          let before = earlier _ _ answers c.in_ok-append_part.ensures.facts.asked by in
+          let step = joined-part (found_at c.args.room) (here c.args.names.now.scopes.now c.args.names.now.locals.now
+          (g.F.Facts.lists l.facts) l.run c.args.keep answers)
+          (at l.run (g.F.Facts.asked l.facts)) l.text c.args.parts.now l.part-index c.part-item.result
+          c.loop-part-test.true c.part-item.is in
+          rw (
+            ← l.invariant.value answers before,
+            step,
+            c.in_ok-append_part.ensures.value answers by,
+            c.in_ok-append_part.ensures.run.open_names,
+            c.in_ok-append_part.ensures.run.bound,
+            c.in_ok-append_part.ensures.facts.lists,
+          ) refl;
+      run = Keeps-then _ _ _ l.invariant.run c.in_ok-append_part.ensures.run;
+      facts = Asks-then (g.met.F.Facts.goes_on _ _ _) l.invariant.facts (Asks-ok tt c.in_ok-append_part.ensures.facts);
+    }
+
+pub evaluation::joined-returns-clause-value : goal.evaluation::joined-returns-clause-value
+evaluation::joined-returns-clause-value g t c =
+    let l = c.loop-part in
+    λ answers by.
+    let done = joined-end (found_at c.args.room) (here c.args.names.now.scopes.now c.args.names.now.locals.now
+    (g.F.Facts.lists l.facts) l.run c.args.keep answers)
+    (at l.run (g.F.Facts.asked l.facts)) l.text c.args.parts.now l.part-index c.loop-part-test.false in
+    (sym (l.invariant.value answers by) ∙ done)
+
+pub evaluation::joined-returns-clause-facts : goal.evaluation::joined-returns-clause-facts
+evaluation::joined-returns-clause-facts g t c =
+    Asks-ok _ c.loop-part.invariant.facts
+
+pub words::new_text-loop-part-init : goal.words::new_text-loop-part-init
+words::new_text-loop-part-init g t c =
+    record {
+      value = λ answers by. rw c.new-text.ensures refl;
+      run = record { open_names = refl; bound = refl; region = refl };
+      facts = Asks-none (g.met.F.Facts.stays _) _ _ _ (Ok tt) (ok_never tt);
+    }
+
+pub words::new_text-returns-in_err-append_new-clause-value : goal.words::new_text-returns-in_err-append_new-clause-value
+words::new_text-returns-in_err-append_new-clause-value g t c =
+    let p = err_from_is_err_and c.from_residual.result c.from_residual.ensures.1 in
+    let l = c.loop-part in
+    rw (p.1, p.2) (λ answers by.
+    let before = earlier _ _ answers c.in_err-append_new.ensures.facts.asked by in
+    let step = joined-new (found_at c.args.room) (here c.args.names.now.scopes.now c.args.names.now.locals.now
+    (g.F.Facts.lists l.facts) l.run false answers)
+    (at l.run (g.F.Facts.asked l.facts)) l.text c.args.old.now c.as_slice-part-items.result.now l.part-index c.part-item.result
+    c.loop-part-test.true c.part-item.is in
+    rw (← c.as_slice-part-items.ensures.value, ← l.invariant.value answers before, step)
+    (fault_of_all c.in_err-append_new.field-0.0 _ _ (c.in_err-append_new.ensures.value answers by)))
+
+pub words::new_text-returns-in_err-append_new-clause-facts : goal.words::new_text-returns-in_err-append_new-clause-facts
+words::new_text-returns-in_err-append_new-clause-facts g t c =
+    let p = err_from_is_err_and c.from_residual.result c.from_residual.ensures.1 in
+    rw (p.1, p.2)
+    (Asks-then (g.met.F.Facts.goes_on _ _ _) c.loop-part.invariant.facts (Asks-err c.in_err-append_new.ensures.facts))
+
+pub words::new_text-loop-part-preserved : goal.words::new_text-loop-part-preserved
+words::new_text-loop-part-preserved g t c =
+    let l = c.loop-part in
+    record {
+      value = λ answers by.
+          let before = earlier _ _ answers c.in_ok-append_new.ensures.facts.asked by in
+          let step = joined-new (found_at c.args.room) (here c.args.names.now.scopes.now c.args.names.now.locals.now
+          (g.F.Facts.lists l.facts) l.run false answers)
+          (at l.run (g.F.Facts.asked l.facts)) l.text c.args.old.now c.as_slice-part-items.result.now l.part-index c.part-item.result
+          c.loop-part-test.true c.part-item.is in
+          rw (
+            ← l.invariant.value answers before,
+            step,
+            c.in_ok-append_new.ensures.value answers by,
+            c.in_ok-append_new.ensures.run.open_names,
+            c.in_ok-append_new.ensures.run.bound,
+            c.in_ok-append_new.ensures.facts.lists,
+          ) refl;
+      run = Keeps-then _ _ _ l.invariant.run c.in_ok-append_new.ensures.run;
+      facts = Asks-then (g.met.F.Facts.goes_on _ _ _) l.invariant.facts (Asks-ok tt c.in_ok-append_new.ensures.facts);
+    }
+
+pub words::new_text-returns-clause-value : goal.words::new_text-returns-clause-value
+words::new_text-returns-clause-value g t c =
+    let l = c.loop-part in
+    λ answers by.
+    let done = joined-new-end (found_at c.args.room) (here c.args.names.now.scopes.now c.args.names.now.locals.now
+    (g.F.Facts.lists l.facts) l.run false answers)
+    (at l.run (g.F.Facts.asked l.facts)) l.text c.args.old.now c.as_slice-part-items.result.now l.part-index c.loop-part-test.false in
+    rw (← c.as_slice-part-items.ensures.value) (sym (l.invariant.value answers by) ∙ done)
+
+pub words::new_text-returns-clause-facts : goal.words::new_text-returns-clause-facts
+words::new_text-returns-clause-facts g t c =
+    Asks-ok _ c.loop-part.invariant.facts
+
+pub modifiers::all_modified-loop-one-init : goal.modifiers::all_modified-loop-one-init
+modifiers::all_modified-loop-one-init g t c =
+    record {
+      value = λ answers by. refl;
+      run = record { open_names = refl; bound = refl; begins = Begins-refl _ };
+      facts = Asks-none (g.met.F.Facts.stays _) _ _ _ (Ok tt) (ok_never tt);
+      within = c.requires;
+    }
+
+pub modifiers::all_modified-returns-in_err-chain-clause-value : goal.modifiers::all_modified-returns-in_err-chain-clause-value
+modifiers::all_modified-returns-in_err-chain-clause-value g t c =
+    let p = err_from_is_err_and c.from_residual.result c.from_residual.ensures.1 in
+    let l = c.loop-one in
+    rw (p.1, p.2) (λ answers by.
+    let before = earlier _ _ answers c.in_err-chain.ensures.facts.asked by in
+    let step = all_modified-mod (found_at c.args.room) (here c.args.names.now.scopes.now c.args.names.now.locals.now
+    (g.F.Facts.lists l.facts) l.run false answers)
+    (at l.run (g.F.Facts.asked l.facts)) c.args.name.now (chain_view l.run.region.bytes l.chain) c.as_slice-one-items.result.now l.one-index c.one-item.result
+    c.loop-one-test.true c.one-item.is in
+    rw (← c.as_slice-one-items.ensures.value, ← l.invariant.value answers before, step)
+    (fault_of_all c.in_err-chain.field-0.0 _ _ (c.in_err-chain.ensures.value answers by)))
+
+pub modifiers::all_modified-returns-in_err-chain-clause-facts : goal.modifiers::all_modified-returns-in_err-chain-clause-facts
+modifiers::all_modified-returns-in_err-chain-clause-facts g t c =
+    let p = err_from_is_err_and c.from_residual.result c.from_residual.ensures.1 in
+    rw (p.1, p.2)
+    (Asks-then (g.met.F.Facts.goes_on _ _ _) c.loop-one.invariant.facts (Asks-err c.in_err-chain.ensures.facts))
+
+pub modifiers::all_modified-loop-one-preserved : goal.modifiers::all_modified-loop-one-preserved
+modifiers::all_modified-loop-one-preserved g t c =
+    let l = c.loop-one in
+    record {
+      value = λ answers by.
+          let before = earlier _ _ answers c.in_ok-chain.ensures.facts.asked by in
+          let step = all_modified-mod (found_at c.args.room) (here c.args.names.now.scopes.now c.args.names.now.locals.now
+          (g.F.Facts.lists l.facts) l.run false answers)
+          (at l.run (g.F.Facts.asked l.facts)) c.args.name.now (chain_view l.run.region.bytes l.chain) c.as_slice-one-items.result.now l.one-index c.one-item.result
+          c.loop-one-test.true c.one-item.is in
+          rw (
+            ← l.invariant.value answers before,
+            step,
+            c.in_ok-chain.ensures.value answers by,
+            c.in_ok-chain.ensures.run.open_names,
+            c.in_ok-chain.ensures.run.bound,
+            c.in_ok-chain.ensures.facts.lists,
+          ) refl;
+      run = Extends-then _ _ _ l.invariant.run c.in_ok-chain.ensures.run;
+      facts = Asks-then (g.met.F.Facts.goes_on _ _ _) l.invariant.facts (Asks-ok tt c.in_ok-chain.ensures.facts);
+      within = c.in_ok-chain.ensures.within;
+    }
+
+pub modifiers::all_modified-returns-clause-value : goal.modifiers::all_modified-returns-clause-value
+modifiers::all_modified-returns-clause-value g t c =
+    let l = c.loop-one in
+    λ answers by.
+    let done = all_modified-end (found_at c.args.room) (here c.args.names.now.scopes.now c.args.names.now.locals.now
+    (g.F.Facts.lists l.facts) l.run false answers)
+    (at l.run (g.F.Facts.asked l.facts)) c.args.name.now (chain_view l.run.region.bytes l.chain) c.as_slice-one-items.result.now l.one-index c.loop-one-test.false in
+    rw (← c.as_slice-one-items.ensures.value) (sym (l.invariant.value answers by) ∙ done)
+
+pub modifiers::all_modified-returns-clause-facts : goal.modifiers::all_modified-returns-clause-facts
+modifiers::all_modified-returns-clause-facts g t c =
+    Asks-ok _ c.loop-one.invariant.facts
+
+pub modifiers::each_behind-loop-word-init : goal.modifiers::each_behind-loop-word-init
+modifiers::each_behind-loop-word-init g t c =
+    record {
+      value = λ answers by. refl;
+      run = record { open_names = refl; bound = refl; region = refl };
+      facts = Asks-none (g.met.F.Facts.stays _) _ _ _ (Ok tt) (ok_never tt);
+    }
+
+pub modifiers::each_behind-returns-in_err-result-clause-value : goal.modifiers::each_behind-returns-in_err-result-clause-value
+modifiers::each_behind-returns-in_err-result-clause-value g t c =
+    let p = err_from_is_err_and c.from_residual.result c.from_residual.ensures.1 in
+    let l = c.loop-word in
+    rw (p.1, p.2) (λ answers by.
+    let before = earlier _ _ answers c.in_err-result.ensures.facts.asked by in
+    let step = each_behind-word (found_at c.args.room) (here c.args.names.now.scopes.now c.args.names.now.locals.now
+    (g.F.Facts.lists l.facts) l.run false answers)
+    (at l.run (g.F.Facts.asked l.facts)) c.args.variable.now
+    (tree_view c.args.body.now) l.results c.args.words.now l.word-index c.word-item.result
+    c.loop-word-test.true c.word-item.is in
+    rw (← l.invariant.value answers before, step)
+    (fault_of_all c.in_err-result.field-0.0 _ _ (c.in_err-result.ensures.value answers by)))
+
+pub modifiers::each_behind-returns-in_err-result-clause-facts : goal.modifiers::each_behind-returns-in_err-result-clause-facts
+modifiers::each_behind-returns-in_err-result-clause-facts g t c =
+    let p = err_from_is_err_and c.from_residual.result c.from_residual.ensures.1 in
+    rw (p.1, p.2)
+    (Asks-then (g.met.F.Facts.goes_on _ _ _) c.loop-word.invariant.facts (Asks-err c.in_err-result.ensures.facts))
+
+pub modifiers::each_behind-returns-in_err-add-clause-value : goal.modifiers::each_behind-returns-in_err-add-clause-value
+modifiers::each_behind-returns-in_err-add-clause-value g t c =
+    let l = c.loop-word in
+    λ answers by.
+    let before = earlier _ _ answers c.in_ok-result.ensures.facts.asked by in
+    let step = each_behind-word (found_at c.args.room) (here c.args.names.now.scopes.now c.args.names.now.locals.now
+    (g.F.Facts.lists l.facts) l.run false answers)
+    (at l.run (g.F.Facts.asked l.facts)) c.args.variable.now
+    (tree_view c.args.body.now) l.results c.args.words.now l.word-index c.word-item.result
+    c.loop-word-test.true c.word-item.is in
+    let inv = l.invariant.value answers before in
+    let word = c.in_ok-result.ensures.value answers by in
+    search rules
+
+pub modifiers::each_behind-loop-word-preserved : goal.modifiers::each_behind-loop-word-preserved
+modifiers::each_behind-loop-word-preserved g t c =
+    let l = c.loop-word in
+    record {
+      value = λ answers by.
+          let before = earlier _ _ answers c.in_ok-result.ensures.facts.asked by in
+          let step = each_behind-word (found_at c.args.room) (here c.args.names.now.scopes.now c.args.names.now.locals.now
+          (g.F.Facts.lists l.facts) l.run false answers)
+          (at l.run (g.F.Facts.asked l.facts)) c.args.variable.now
+          (tree_view c.args.body.now) l.results c.args.words.now l.word-index c.word-item.result
+          c.loop-word-test.true c.word-item.is in
+          rw (
+            ← l.invariant.value answers before,
+            step,
+            c.in_ok-result.ensures.value answers by,
+            c.in_ok-add.ensures,
+            c.in_ok-result.ensures.run.open_names,
+            c.in_ok-result.ensures.run.bound,
+            c.in_ok-result.ensures.facts.lists,
+          ) refl;
+      run = Keeps-then _ _ _ l.invariant.run c.in_ok-result.ensures.run;
+      facts = Asks-then (g.met.F.Facts.goes_on _ _ _) l.invariant.facts (Asks-ok tt c.in_ok-result.ensures.facts);
+    }
+
+pub modifiers::each_behind-returns-clause-value : goal.modifiers::each_behind-returns-clause-value
+modifiers::each_behind-returns-clause-value g t c =
+    let l = c.loop-word in
+    λ answers by.
+    let done = each_behind-end (found_at c.args.room) (here c.args.names.now.scopes.now c.args.names.now.locals.now
+    (g.F.Facts.lists l.facts) l.run false answers)
+    (at l.run (g.F.Facts.asked l.facts)) c.args.variable.now (tree_view c.args.body.now) l.results c.args.words.now l.word-index
+    c.loop-word-test.false in
+    sym (l.invariant.value answers by) ∙ done
+
+pub modifiers::each_behind-returns-clause-facts : goal.modifiers::each_behind-returns-clause-facts
+modifiers::each_behind-returns-clause-facts g t c =
+    Asks-ok _ c.loop-word.invariant.facts
+
+pub conditions::any_truth-loop-cond-init : goal.conditions::any_truth-loop-cond-init
+conditions::any_truth-loop-cond-init g t c =
+    record {
+      value = λ answers by. refl;
+      run = record { open_names = refl; bound = refl; region = refl };
+      facts = Asks-none (g.met.F.Facts.stays _) _ _ _ (Ok tt) (ok_never tt);
+    }
+
+pub conditions::any_truth-returns-in_err-truth_of-clause-value : goal.conditions::any_truth-returns-in_err-truth_of-clause-value
+conditions::any_truth-returns-in_err-truth_of-clause-value g t c =
+    let p = err_from_is_err_and c.from_residual.result c.from_residual.ensures.1 in
+    let l = c.loop-cond in
+    rw (p.1, p.2) (λ answers by.
+    let before = earlier _ _ answers c.in_err-truth_of.ensures.facts.asked by in
+    let step = any_truth-cond (found_at c.args.room) (here c.args.names.now.scopes.now c.args.names.now.locals.now
+    (g.F.Facts.lists l.facts) l.run false answers)
+    (at l.run (g.F.Facts.asked l.facts)) c.as_slice-cond-items.result.now l.cond-index c.cond-item.result
+    c.loop-cond-test.true c.cond-item.is in
+    rw (← c.as_slice-cond-items.ensures.value, ← l.invariant.value answers before, step)
+    (fault_of_all c.in_err-truth_of.field-0.0 _ _ (c.in_err-truth_of.ensures.value answers by)))
+
+pub conditions::any_truth-returns-in_err-truth_of-clause-facts : goal.conditions::any_truth-returns-in_err-truth_of-clause-facts
+conditions::any_truth-returns-in_err-truth_of-clause-facts g t c =
+    let p = err_from_is_err_and c.from_residual.result c.from_residual.ensures.1 in
+    rw (p.1, p.2)
+    (Asks-then (g.met.F.Facts.goes_on _ _ _) c.loop-cond.invariant.facts (Asks-err c.in_err-truth_of.ensures.facts))
+
+pub conditions::any_truth-returns-then-branch-clause-value : goal.conditions::any_truth-returns-then-branch-clause-value
+conditions::any_truth-returns-then-branch-clause-value g t c =
+    let l = c.loop-cond in
+    λ answers by.
+    let before = earlier _ _ answers c.in_ok-truth_of.ensures.facts.asked by in
+    let step = any_truth-cond (found_at c.args.room) (here c.args.names.now.scopes.now c.args.names.now.locals.now
+    (g.F.Facts.lists l.facts) l.run false answers)
+    (at l.run (g.F.Facts.asked l.facts)) c.as_slice-cond-items.result.now l.cond-index c.cond-item.result
+    c.loop-cond-test.true c.cond-item.is in
+    rw (
+      ← c.as_slice-cond-items.ensures.value,
+      ← l.invariant.value answers before,
+      step,
+      c.in_ok-truth_of.ensures.value answers by,
+      c.if-branch.true,
+    ) refl
+
+pub conditions::any_truth-returns-then-branch-clause-facts : goal.conditions::any_truth-returns-then-branch-clause-facts
+conditions::any_truth-returns-then-branch-clause-facts g t c =
+    Asks-then (g.met.F.Facts.goes_on _ _ _) c.loop-cond.invariant.facts (Asks-ok _ c.in_ok-truth_of.ensures.facts)
+
+pub conditions::any_truth-loop-cond-preserved : goal.conditions::any_truth-loop-cond-preserved
+conditions::any_truth-loop-cond-preserved g t c =
+    let l = c.loop-cond in
+    record {
+      value = λ answers by.
+          let before = earlier _ _ answers c.in_ok-truth_of.ensures.facts.asked by in
+          let step = any_truth-cond (found_at c.args.room) (here c.args.names.now.scopes.now c.args.names.now.locals.now
+          (g.F.Facts.lists l.facts) l.run false answers)
+          (at l.run (g.F.Facts.asked l.facts)) c.as_slice-cond-items.result.now l.cond-index c.cond-item.result
+          c.loop-cond-test.true c.cond-item.is in
+          rw (
+            ← l.invariant.value answers before,
+            step,
+            c.in_ok-truth_of.ensures.value answers by,
+            c.if-branch.false,
+            c.in_ok-truth_of.ensures.run.open_names,
+            c.in_ok-truth_of.ensures.run.bound,
+            c.in_ok-truth_of.ensures.facts.lists,
+          ) refl;
+      run = Keeps-then _ _ _ l.invariant.run c.in_ok-truth_of.ensures.run;
+      facts = Asks-then (g.met.F.Facts.goes_on _ _ _) l.invariant.facts (Asks-ok tt c.in_ok-truth_of.ensures.facts);
+    }
+
+pub conditions::any_truth-returns-clause-value : goal.conditions::any_truth-returns-clause-value
+conditions::any_truth-returns-clause-value g t c =
+    let l = c.loop-cond in
+    λ answers by.
+    let done = any_truth-end (found_at c.args.room) (here c.args.names.now.scopes.now c.args.names.now.locals.now
+    (g.F.Facts.lists l.facts) l.run false answers)
+    (at l.run (g.F.Facts.asked l.facts)) c.as_slice-cond-items.result.now l.cond-index c.loop-cond-test.false in
+    rw (← c.as_slice-cond-items.ensures.value) (sym (l.invariant.value answers by) ∙ done)
+
+pub conditions::any_truth-returns-clause-facts : goal.conditions::any_truth-returns-clause-facts
+conditions::any_truth-returns-clause-facts g t c =
+    Asks-ok _ c.loop-cond.invariant.facts
+
+pub conditions::all_truth-loop-cond-init : goal.conditions::all_truth-loop-cond-init
+conditions::all_truth-loop-cond-init g t c =
+    record {
+      value = λ answers by. refl;
+      run = record { open_names = refl; bound = refl; region = refl };
+      facts = Asks-none (g.met.F.Facts.stays _) _ _ _ (Ok tt) (ok_never tt);
+    }
+
+pub conditions::all_truth-returns-in_err-truth_of-clause-value : goal.conditions::all_truth-returns-in_err-truth_of-clause-value
+conditions::all_truth-returns-in_err-truth_of-clause-value g t c =
+    let p = err_from_is_err_and c.from_residual.result c.from_residual.ensures.1 in
+    let l = c.loop-cond in
+    rw (p.1, p.2) (λ answers by.
+    let before = earlier _ _ answers c.in_err-truth_of.ensures.facts.asked by in
+    let step = all_truth-cond (found_at c.args.room) (here c.args.names.now.scopes.now c.args.names.now.locals.now
+    (g.F.Facts.lists l.facts) l.run false answers)
+    (at l.run (g.F.Facts.asked l.facts)) c.as_slice-cond-items.result.now l.cond-index c.cond-item.result
+    c.loop-cond-test.true c.cond-item.is in
+    rw (← c.as_slice-cond-items.ensures.value, ← l.invariant.value answers before, step)
+    (fault_of_all c.in_err-truth_of.field-0.0 _ _ (c.in_err-truth_of.ensures.value answers by)))
+
+pub conditions::all_truth-returns-in_err-truth_of-clause-facts : goal.conditions::all_truth-returns-in_err-truth_of-clause-facts
+conditions::all_truth-returns-in_err-truth_of-clause-facts g t c =
+    let p = err_from_is_err_and c.from_residual.result c.from_residual.ensures.1 in
+    rw (p.1, p.2)
+    (Asks-then (g.met.F.Facts.goes_on _ _ _) c.loop-cond.invariant.facts (Asks-err c.in_err-truth_of.ensures.facts))
+
+pub conditions::all_truth-returns-then-not-branch-clause-value : goal.conditions::all_truth-returns-then-not-branch-clause-value
+conditions::all_truth-returns-then-not-branch-clause-value g t c =
+    let l = c.loop-cond in
+    λ answers by.
+    let before = earlier _ _ answers c.in_ok-truth_of.ensures.facts.asked by in
+    let step = all_truth-cond (found_at c.args.room) (here c.args.names.now.scopes.now c.args.names.now.locals.now
+    (g.F.Facts.lists l.facts) l.run false answers)
+    (at l.run (g.F.Facts.asked l.facts)) c.as_slice-cond-items.result.now l.cond-index c.cond-item.result
+    c.loop-cond-test.true c.cond-item.is in
+    rw (
+      ← c.as_slice-cond-items.ensures.value,
+      ← l.invariant.value answers before,
+      step,
+      c.in_ok-truth_of.ensures.value answers by,
+      c.if-not-branch.true,
+    ) refl
+
+pub conditions::all_truth-returns-then-not-branch-clause-facts : goal.conditions::all_truth-returns-then-not-branch-clause-facts
+conditions::all_truth-returns-then-not-branch-clause-facts g t c =
+    Asks-then (g.met.F.Facts.goes_on _ _ _) c.loop-cond.invariant.facts (Asks-ok _ c.in_ok-truth_of.ensures.facts)
+
+pub conditions::all_truth-loop-cond-preserved : goal.conditions::all_truth-loop-cond-preserved
+conditions::all_truth-loop-cond-preserved g t c =
+    let l = c.loop-cond in
+    record {
+      value = λ answers by.
+          let before = earlier _ _ answers c.in_ok-truth_of.ensures.facts.asked by in
+          let step = all_truth-cond (found_at c.args.room) (here c.args.names.now.scopes.now c.args.names.now.locals.now
+          (g.F.Facts.lists l.facts) l.run false answers)
+          (at l.run (g.F.Facts.asked l.facts)) c.as_slice-cond-items.result.now l.cond-index c.cond-item.result
+          c.loop-cond-test.true c.cond-item.is in
+          rw (
+            ← l.invariant.value answers before,
+            step,
+            c.in_ok-truth_of.ensures.value answers by,
+            c.if-not-branch.false,
+            c.in_ok-truth_of.ensures.run.open_names,
+            c.in_ok-truth_of.ensures.run.bound,
+            c.in_ok-truth_of.ensures.facts.lists,
+          ) refl;
+      run = Keeps-then _ _ _ l.invariant.run c.in_ok-truth_of.ensures.run;
+      facts = Asks-then (g.met.F.Facts.goes_on _ _ _) l.invariant.facts (Asks-ok tt c.in_ok-truth_of.ensures.facts);
+    }
+
+pub conditions::all_truth-returns-clause-value : goal.conditions::all_truth-returns-clause-value
+conditions::all_truth-returns-clause-value g t c =
+    let l = c.loop-cond in
+    λ answers by.
+    let done = all_truth-end (found_at c.args.room) (here c.args.names.now.scopes.now c.args.names.now.locals.now
+    (g.F.Facts.lists l.facts) l.run false answers)
+    (at l.run (g.F.Facts.asked l.facts)) c.as_slice-cond-items.result.now l.cond-index c.loop-cond-test.false in
+    rw (← c.as_slice-cond-items.ensures.value) (sym (l.invariant.value answers by) ∙ done)
+
+pub conditions::all_truth-returns-clause-facts : goal.conditions::all_truth-returns-clause-facts
+conditions::all_truth-returns-clause-facts g t c =
+    Asks-ok _ c.loop-cond.invariant.facts
+
+pub conditions::truth_of-returns-in-Any-clause-value : goal.conditions::truth_of-returns-in-Any-clause-value
+unfolding truth_of
+conditions::truth_of-returns-in-Any-clause-value g t c =
+    rw (c.in-Any.is, view-Any c.in-Any.conds) c.any_truth.ensures.value
+
+pub conditions::truth_of-returns-in-All-clause-value : goal.conditions::truth_of-returns-in-All-clause-value
+unfolding truth_of
+conditions::truth_of-returns-in-All-clause-value g t c =
+    rw (c.in-All.is, view-All c.in-All.conds) c.all_truth.ensures.value
+
+pub conditions::truth_of-returns-in-Test-clause-value : goal.conditions::truth_of-returns-in-Test-clause-value
+unfolding truth_of
+conditions::truth_of-returns-in-Test-clause-value g t c =
+    let value = c.test_truth.ensures.value in search (rules, views)
+
+pub conditions::truth_of-returns-in-Alone-clause-value : goal.conditions::truth_of-returns-in-Alone-clause-value
+unfolding truth_of
+conditions::truth_of-returns-in-Alone-clause-value g t c =
+    let value = c.alone_truth.ensures.value in search (rules, views)
+
+pub conditions::truth_of-returns-in-Both-clause-value : goal.conditions::truth_of-returns-in-Both-clause-value
+unfolding truth_of
+conditions::truth_of-returns-in-Both-clause-value g t c =
+    let value = c.both_truth.ensures.value in search (rules, views)
+
+pub conditions::truth_of-returns-in-Not-clause-value : goal.conditions::truth_of-returns-in-Not-clause-value
+unfolding truth_of
+conditions::truth_of-returns-in-Not-clause-value g t c =
+    let value = c.negated.ensures.value in search (rules, the_lemmas, views)
+
+pub evaluation::text_value-returns-then-not-has_dollar-clause-value : goal.evaluation::text_value-returns-then-not-has_dollar-clause-value
+evaluation::text_value-returns-then-not-has_dollar-clause-value g t c =
+    let none = sym c.has_dollar.ensures ∙ c.if-not-has_dollar.true in
+    λ answers by.
+    let here = here c.args.names.now.scopes.now c.args.names.now.locals.now
+    (g.F.Facts.lists c.args.facts.now) c.args.run.now c.args.keep answers in
+    let p = at c.args.run.now (g.F.Facts.asked c.args.facts.now) in
+    rw (text_value-plain (found_at c.args.room) here p c.args.text.now none)
+    (agrees_but (λ value. (value, p)) _ _
+    (Agrees-counted no_memory p c.plain_value.result _ c.plain_value.ensures))
+
+pub evaluation::text_value-returns-then-not-has_dollar-clause-facts : goal.evaluation::text_value-returns-then-not-has_dollar-clause-facts
+evaluation::text_value-returns-then-not-has_dollar-clause-facts g t c =
+    Asks-none (g.met.F.Facts.stays _) _ _ _ c.plain_value.result
+    (never_fails _ _ _ c.plain_value.ensures (never-appended [] c.args.text.now))
+
+pub evaluation::found-returns-in_err-open_reference-clause-value : goal.evaluation::found-returns-in_err-open_reference-clause-value
+evaluation::found-returns-in_err-open_reference-clause-value g t c =
+    let p = err_from_is_err_and c.from_residual.result c.from_residual.ensures.1 in
+    rw (p.1, p.2) (λ answers by.
+    inr (found-not c.args.room c.args.run.now.references _ _ _ _
+    c.in_err-open_reference.ensures.err))
+
+pub evaluation::found-returns-clause-value : goal.evaluation::found-returns-clause-value
+evaluation::found-returns-clause-value g t c =
+    λ answers by.
+    rw (found-may c.args.room c.args.run.now.references c.open_reference.new.references _ _ _
+    c.in_ok-open_reference.ensures.ok) (c.found_inside.ensures.value answers by)
+
+pub evaluation::reference-returns-in_err-found-clause-value : goal.evaluation::reference-returns-in_err-found-clause-value
+evaluation::reference-returns-in_err-found-clause-value g t c =
+    let p = err_from_is_err_and c.from_residual-in_err-found.result c.from_residual-in_err-found.ensures.1 in
+    let first_run = c.in_ok-name.ensures.run in
+    rw (p.1, p.2) (λ answers by.
+    let before = earlier _ _ answers c.in_err-found.ensures.facts.asked by in
+    let first = c.in_ok-name.ensures.value answers before in
+    let fault = rw (
+      first_run.open_names,
+      first_run.bound,
+      c.in_ok-name.ensures.facts.lists,
+      c.in_ok-own.ensures,
+    ) at (c.in_err-found.ensures.value answers by) in
+    rw first (fault_of_all c.in_err-found.field-0.0 _ _ fault))
+
+pub evaluation::reference-returns-clause-value : goal.evaluation::reference-returns-clause-value
+evaluation::reference-returns-clause-value g t c =
+    λ answers by.
+    let later = earlier _ _ answers c.chained.ensures.facts.asked by in
+    let before = earlier _ _ answers c.in_ok-found.ensures.facts.asked later in
+    let first = c.in_ok-name.ensures.value answers before in
+    let found = rw (
+      c.in_ok-name.ensures.run.open_names,
+      c.in_ok-name.ensures.run.bound,
+      c.in_ok-name.ensures.facts.lists,
+      c.in_ok-own.ensures,
+    ) at (c.in_ok-found.ensures.value answers later) in
+    let behind = rw (
+      c.in_ok-found.ensures.run.open_names,
+      c.in_ok-name.ensures.run.open_names,
+      c.in_ok-found.ensures.run.bound,
+      c.in_ok-name.ensures.run.bound,
+      c.in_ok-found.ensures.facts.lists,
+      c.in_ok-name.ensures.facts.lists,
+      c.bytes.ensures.value,
+    ) at (c.chained.ensures.value answers by) in
+    rw (first, found) behind
+
+pub words::suffix-returns-in_err-new-clause-value : goal.words::suffix-returns-in_err-new-clause-value
+words::suffix-returns-in_err-new-clause-value g t c =
+    λ answers by.
+    let before = earlier _ _ answers c.in_err-new.ensures.facts.asked by in
+    let first = c.in_ok-old.ensures.value answers before in
+    let second = c.in_err-new.ensures.value answers by in
+    search rules
+
+pub words::suffix-returns-clause-value : goal.words::suffix-returns-clause-value
+words::suffix-returns-clause-value g t c =
+    λ answers by.
+    let before = earlier _ _ answers c.in_ok-new.ensures.facts.asked by in
+    let first = c.in_ok-old.ensures.value answers before in
+    let second = c.in_ok-new.ensures.value answers by in
+    search rules
+
+pub words::substitution-returns-in_err-new-clause-value : goal.words::substitution-returns-in_err-new-clause-value
+words::substitution-returns-in_err-new-clause-value g t c =
+    λ answers by.
+    let before = earlier _ _ answers c.in_err-new.ensures.facts.asked by in
+    let first = c.in_ok-old.ensures.value answers before in
+    let second = c.in_err-new.ensures.value answers by in
+    search rules
+
+pub words::substitution-returns-clause-value : goal.words::substitution-returns-clause-value
+words::substitution-returns-clause-value g t c =
+    λ answers by.
+    let before = earlier _ _ answers c.in_ok-new.ensures.facts.asked by in
+    let first = c.in_ok-old.ensures.value answers before in
+    let second = c.in_ok-new.ensures.value answers by in
+    search rules
+
+pub conditions::both_truth-returns-in_err-second-clause-value : goal.conditions::both_truth-returns-in_err-second-clause-value
+conditions::both_truth-returns-in_err-second-clause-value g t c =
+    λ answers by.
+    let before = earlier _ _ answers c.in_err-second.ensures.facts.asked by in
+    let first = c.in_ok-first.ensures.value answers before in
+    let second = c.in_err-second.ensures.value answers by in
+    search rules
+
+pub conditions::both_truth-returns-in_err-compare-clause-value : goal.conditions::both_truth-returns-in_err-compare-clause-value
+conditions::both_truth-returns-in_err-compare-clause-value g t c =
+    λ answers by.
+    let before = earlier _ _ answers c.in_ok-second.ensures.facts.asked by in
+    let first = c.in_ok-first.ensures.value answers before in
+    let second = c.in_ok-second.ensures.value answers by in
+    search rules
+
+pub conditions::both_truth-returns-clause-value : goal.conditions::both_truth-returns-clause-value
+conditions::both_truth-returns-clause-value g t c =
+    λ answers by.
+    let before = earlier _ _ answers c.in_ok-second.ensures.facts.asked by in
+    let first = c.in_ok-first.ensures.value answers before in
+    let second = c.in_ok-second.ensures.value answers by in
+    search rules
+
+pub conditions::test_truth-returns-clause-value : goal.conditions::test_truth-returns-clause-value
+conditions::test_truth-returns-clause-value g t c =
+    λ answers by.
+    let before = earlier _ _ answers c.answer_of.ensures.facts.asked by in
+    let first = c.in_ok-value.ensures.value answers before in
+    let second = c.answer_of.ensures.value answers by in
+    search rules
+
+pub modifiers::chosen-returns-then-branch-clause-value : goal.modifiers::chosen-returns-then-branch-clause-value
+modifiers::chosen-returns-then-branch-clause-value g t c =
+    λ answers by.
+    let before = earlier _ _ answers c.tree_value.ensures.facts.asked by in
+    let first = c.in_ok-truth_of.ensures.value answers before in
+    let second = c.tree_value.ensures.value answers by in
+    search rules
+
+pub modifiers::chosen-returns-clause-value : goal.modifiers::chosen-returns-clause-value
+modifiers::chosen-returns-clause-value g t c =
+    λ answers by.
+    let before = earlier _ _ answers c.tree_value-2.ensures.facts.asked by in
+    let first = c.in_ok-truth_of.ensures.value answers before in
+    let second = c.tree_value-2.ensures.value answers by in
+    search rules
+
+pub conditions::test_truth-returns-clause-facts : goal.conditions::test_truth-returns-clause-facts
+conditions::test_truth-returns-clause-facts g t c =
+    Asks-then (g.met.F.Facts.goes_on _ _ _) c.in_ok-value.ensures.facts c.answer_of.ensures.facts
+
+pub modifiers::chosen-returns-then-branch-clause-facts : goal.modifiers::chosen-returns-then-branch-clause-facts
+modifiers::chosen-returns-then-branch-clause-facts g t c =
+    Asks-then (g.met.F.Facts.goes_on _ _ _) c.in_ok-truth_of.ensures.facts c.tree_value.ensures.facts
+
+pub modifiers::chosen-returns-clause-facts : goal.modifiers::chosen-returns-clause-facts
+modifiers::chosen-returns-clause-facts g t c =
+    Asks-then (g.met.F.Facts.goes_on _ _ _) c.in_ok-truth_of.ensures.facts c.tree_value-2.ensures.facts
+
+pub evaluation::reference-returns-clause-facts : goal.evaluation::reference-returns-clause-facts
+evaluation::reference-returns-clause-facts g t c =
+    Asks-then (g.met.F.Facts.goes_on _ _ _) c.in_ok-name.ensures.facts
+    (Asks-then (g.met.F.Facts.goes_on _ _ _) c.in_ok-found.ensures.facts c.chained.ensures.facts)
+
+pub evaluation::found_inside-returns-in_ok-name-in-Short-clause-value : goal.evaluation::found_inside-returns-in_ok-name-in-Short-clause-value
+evaluation::found_inside-returns-in_ok-name-in-Short-clause-value g t c =
+    rw (c.in-Short.is, view-Short c.in-Short.byte)
+    (rw c.in_ok-name-in-Short.ensures at c.variable.ensures.value)
+
+pub evaluation::reference-returns-then-is_empty-clause-value : goal.evaluation::reference-returns-then-is_empty-clause-value
+evaluation::reference-returns-then-is_empty-clause-value g t c =
+    let none : c.args.mods.now ≡ [] = c.is_empty.ensures.0 c.if-is_empty.true in
+    λ answers by.
+    let before = earlier _ _ answers c.variable.ensures.facts.asked by in
+    let first = c.in_ok-name.ensures.value answers before in
+    let found = rw (
+      c.in_ok-name.ensures.run.open_names,
+      c.in_ok-name.ensures.run.bound,
+      c.in_ok-name.ensures.facts.lists,
+    ) at (c.variable.ensures.value answers by) in
+    rw (none, first) (agrees_unmodified _ _ (found_at c.args.room) _ c.in_ok-name.name _ found)
+
+pub evaluation::reference-returns-then-is_empty-clause-facts : goal.evaluation::reference-returns-then-is_empty-clause-facts
+evaluation::reference-returns-then-is_empty-clause-facts g t c =
+    Asks-then (g.met.F.Facts.goes_on _ _ _) c.in_ok-name.ensures.facts c.variable.ensures.facts
+
+pub evaluation::variable-returns-then-not-has_dollar-clause-value : goal.evaluation::variable-returns-then-not-has_dollar-clause-value
+evaluation::variable-returns-then-not-has_dollar-clause-value g t c =
+    let raw = c.in-Some.raw in
+    let plain = rw c.bytes-in-Some.ensures.value at (sym c.has_dollar.ensures ∙ c.if-not-has_dollar.true) in
+    let among = rw c.bytes.ensures.value at (sym c.is_among.ensures ∙ c.if-is_among.false) in
+    λ answers by.
+    let here = here c.args.names.now.scopes.now c.args.names.now.locals.now
+    (g.F.Facts.lists c.args.facts.now) c.args.run.now c.args.keep answers in
+    let p = at c.args.run.now (g.F.Facts.asked c.args.facts.now) in
+    let name = c.args.name in
+    let above = rw (c.in-Some.is, c.bytes-2.ensures.value) at c.in_ok-raw.ensures in
+    rw (variable-plain (found_at c.args.room) here p name raw among (raw_of-above here name raw above) plain)
+    (agrees_but (λ found. (found, p)) _ _
+    (Agrees-counted no_memory p c.plain_found.result _ c.plain_found.ensures))
+
+pub evaluation::variable-returns-in_err-raw-clause-facts : goal.evaluation::variable-returns-in_err-raw-clause-facts
+evaluation::variable-returns-in_err-raw-clause-facts g t c =
+    let p = err_from_is_err_and c.from_residual.result c.from_residual.ensures.1 in
+    rw (p.1, p.2)
+    (Asks-none (g.met.F.Facts.stays _) _ _ _ _ (err_never _ (fault_never _ _ c.in_err-raw.ensures
+    (never-raw_above c.args.names.now.locals.now c.args.run.now.bound c.bytes-2.result.now))))
+
+pub words::modifier-returns-in_err-tree_value-in-Keep-clause-value : goal.words::modifier-returns-in_err-tree_value-in-Keep-clause-value
+words::modifier-returns-in_err-tree_value-in-Keep-clause-value g t c =
+    let p = err_from_is_err_and c.from_residual.result c.from_residual.ensures.1 in
+    rw (p.1, p.2, c.in-Keep.is, view-Keep c.in-Keep.pattern) (λ answers by.
+    fault_of_all c.in_err-tree_value-in-Keep.field-0.0 _ _ (c.in_err-tree_value-in-Keep.ensures.value answers by))
+
+pub words::modifier-returns-in_err-tree_value-in-Without-clause-value : goal.words::modifier-returns-in_err-tree_value-in-Without-clause-value
+words::modifier-returns-in_err-tree_value-in-Without-clause-value g t c =
+    let p = err_from_is_err_and c.from_residual-in_err-tree_value-in-Without.result c.from_residual-in_err-tree_value-in-Without.ensures.1 in
+    rw (p.1, p.2, c.in-Without.is, view-Without c.in-Without.pattern) (λ answers by.
+    fault_of_all c.in_err-tree_value-in-Without.field-0.0 _ _ (c.in_err-tree_value-in-Without.ensures.value answers by))
+
+pub words::modifier-returns-in_err-tree_value-in-Select-clause-value : goal.words::modifier-returns-in_err-tree_value-in-Select-clause-value
+words::modifier-returns-in_err-tree_value-in-Select-clause-value g t c =
+    let p = err_from_is_err_and c.from_residual-in_err-tree_value-in-Select.result c.from_residual-in_err-tree_value-in-Select.ensures.1 in
+    rw (p.1, p.2, c.in-Select.is, view-Select c.in-Select.places) (λ answers by.
+    fault_of_all c.in_err-tree_value-in-Select.field-0.0 _ _ (c.in_err-tree_value-in-Select.ensures.value answers by))
+
+pub words::modifier-returns-in_ok-range-in-Range-Some-clause-value : goal.words::modifier-returns-in_ok-range-in-Range-Some-clause-value
+words::modifier-returns-in_ok-range-in-Range-Some-clause-value g t c =
+    let is : mod_view c.args.one.now ≡ range_to (tree_view c.in-Range-Some.number) =
+    search (rules, mod_lemmas, trees.views) in
+    rw is c.in_ok-range-in-Range-Some.ensures.value
+
+pub modifiers::modified-returns-in-Choose-clause-value : goal.modifiers::modified-returns-in-Choose-clause-value
+modifiers::modified-returns-in-Choose-clause-value g t c =
+    rw (c.in-Choose.is, view-Choose c.in-Choose.yes c.in-Choose.no) c.choose.ensures.value
+
+pub modifiers::given_modified-returns-in_default : goal.modifiers::given_modified-returns-in_default
+modifiers::given_modified-returns-in_default g t c =
+    record {
+      value = λ answers by.
+          let here = here c.args.names.now.scopes.now c.args.names.now.locals.now
+          (g.F.Facts.lists c.args.facts.now) c.args.run.now false answers in
+          let p = at c.args.run.now (g.F.Facts.asked c.args.facts.now) in
+          rw (modified-words (found_at c.args.room) here p c.args.name.now
+          (chain_view c.args.run.now.region.bytes c.args.chain) c.args.one.now c.in_default.not-IfUndefined
+          c.in_default.not-IfDefined c.in_default.not-NameOf)
+          (c.word_modified.ensures.value answers by);
+      run = c.word_modified.ensures.run;
+      facts = c.word_modified.ensures.facts;
+      within = c.word_modified.ensures.within;
+    }
+
+pub modifiers::modified-returns-in_default : goal.modifiers::modified-returns-in_default
+modifiers::modified-returns-in_default g t c =
+    record {
+      value = λ answers by.
+          let here = here c.args.names.now.scopes.now c.args.names.now.locals.now
+          (g.F.Facts.lists c.args.facts.now) c.args.run.now false answers in
+          let p = at c.args.run.now (g.F.Facts.asked c.args.facts.now) in
+          rw (modified-given (found_at c.args.room) here p c.args.name.now
+          (chain_view c.args.run.now.region.bytes c.args.chain) c.args.one.now c.in_default.not-Choose
+          c.in_default.not-Each)
+          (c.given_modified.ensures.value answers by);
+      run = c.given_modified.ensures.run;
+      facts = c.given_modified.ensures.facts;
+      within = c.given_modified.ensures.within;
+    }
+
+pub words::old_text-returns-in_err-append-in-Some-clause-value : goal.words::old_text-returns-in_err-append-in-Some-clause-value
+words::old_text-returns-in_err-append-in-Some-clause-value g t c =
+    let p = err_from_is_err_and c.from_residual.result c.from_residual.ensures.1 in
+    let ends = rw c.as_slice.ensures.value at c.without_end-parts.ensures in
+    rw (p.1, p.2) (λ answers by.
+    let here = here c.args.names.now.scopes.now c.args.names.now.locals.now
+    (g.F.Facts.lists c.args.facts.now) c.args.run.now false answers in
+    let goes = old_text_start (found_at c.args.room) here
+    (at c.args.run.now (g.F.Facts.asked c.args.facts.now))
+    (tree_view c.args.from.now) (tree_view c.without_end-parts.result.now)
+    (tree_view c.in-Some.rest.now) c.in-Some.bytes.now ends c.in-Some.ensures.1 in
+    let fault = rw c.new-text.ensures at c.in_err-append-in-Some.ensures in
+    rw goes (fault_of_all c.in_err-append-in-Some.field-0.0 _ _ (outside _ _ fault)))
+
+pub words::old_text-returns-in_ok-append-in-Some-clause-value : goal.words::old_text-returns-in_ok-append-in-Some-clause-value
+words::old_text-returns-in_ok-append-in-Some-clause-value g t c =
+    let ends = rw c.as_slice.ensures.value at c.without_end-parts.ensures in
+    λ answers by.
+    let here = here c.args.names.now.scopes.now c.args.names.now.locals.now
+    (g.F.Facts.lists c.args.facts.now) c.args.run.now false answers in
+    let goes = old_text_start (found_at c.args.room) here
+    (at c.args.run.now (g.F.Facts.asked c.args.facts.now))
+    (tree_view c.args.from.now) (tree_view c.without_end-parts.result.now)
+    (tree_view c.in-Some.rest.now) c.in-Some.bytes.now ends c.in-Some.ensures.1 in
+    let start = rw c.new-text.ensures at c.in_ok-append-in-Some.ensures in
+    rw (goes, start) (c.joined.ensures.value answers by)

@@ -1,0 +1,224 @@
+use Rattle.std.proofs.Common.{◌≡◌, ◌+◌, ◌*◌, ◌≤◌, drop, length, false, Ok}
+use Rattle.mk_ast.specs.View.{mods_view, tree_view}
+use Rattle.mk_cond.specs.View.{conds_view}
+use Rattle.mk_mods.specs.Pieces.{end_of}
+use Rattle.mk_expand.specs.Calls.{Asks, Extends, Keeps, at, here}
+use Rattle.mk_expand.specs.Chains.{all_modified, each_behind}
+use Rattle.mk_expand.specs.Conditions.{any_truth, all_truth}
+use Rattle.mk_expand.specs.Facts.{Answers, AnsweredBy}
+use Rattle.mk_expand.specs.Parts.{joined, tree_value}
+use Rattle.mk_expand.specs.Substitutions.{old_in_tree}
+use Rattle.mk_expand.specs.Value.{found_at}
+use Rattle.mk_expand.specs.View.{chain_view}
+use Rattle.mk_expand.proofs.+value.Given as goal
+
+abbrev pub decreases-evaluation::found : goal.decreases-evaluation::found
+decreases-evaluation::found g l = 4096 * l.room
+
+abbrev pub decreases-evaluation::append_reference : goal.decreases-evaluation::append_reference
+decreases-evaluation::append_reference g l = 4096 * l.room + 1
+
+abbrev pub decreases-evaluation::append_part : goal.decreases-evaluation::append_part
+decreases-evaluation::append_part g l = 4096 * l.room + 2
+
+abbrev pub decreases-evaluation::joined : goal.decreases-evaluation::joined
+decreases-evaluation::joined g l = 4096 * l.room + 3
+
+abbrev pub decreases-evaluation::tree_value : goal.decreases-evaluation::tree_value
+decreases-evaluation::tree_value g l = 4096 * l.room + 4
+
+abbrev pub decreases-evaluation::text_value : goal.decreases-evaluation::text_value
+decreases-evaluation::text_value g l = 4096 * l.room + 5
+
+abbrev pub decreases-evaluation::opened_value : goal.decreases-evaluation::opened_value
+decreases-evaluation::opened_value g l = 4096 * l.room + 6
+
+abbrev pub decreases-evaluation::variable : goal.decreases-evaluation::variable
+decreases-evaluation::variable g l = 4096 * l.room + 7
+
+abbrev pub decreases-evaluation::reference : goal.decreases-evaluation::reference
+decreases-evaluation::reference g l = 4096 * l.room + 2070
+
+abbrev pub decreases-evaluation::found_inside : goal.decreases-evaluation::found_inside
+decreases-evaluation::found_inside g l = 4096 * l.room + 2071
+
+abbrev pub decreases-words::append_new : goal.decreases-words::append_new
+decreases-words::append_new g l = 4096 * l.room + 3
+
+abbrev pub decreases-words::old_text : goal.decreases-words::old_text
+decreases-words::old_text g l = 4096 * l.room + 5
+
+abbrev pub decreases-words::new_text : goal.decreases-words::new_text
+decreases-words::new_text g l = 4096 * l.room + 5
+
+abbrev pub decreases-words::substitution : goal.decreases-words::substitution
+decreases-words::substitution g l = 4096 * l.room + 6
+
+abbrev pub decreases-words::suffix : goal.decreases-words::suffix
+decreases-words::suffix g l = 4096 * l.room + 6
+
+abbrev pub decreases-words::range : goal.decreases-words::range
+decreases-words::range g l = 4096 * l.room + 6
+
+abbrev pub decreases-words::modifier : goal.decreases-words::modifier
+decreases-words::modifier g l = 4096 * l.room + 7
+
+abbrev pub decreases-modifiers::word_modified : goal.decreases-modifiers::word_modified
+decreases-modifiers::word_modified g l = 4096 * l.room + 8
+
+abbrev pub decreases-modifiers::word_result : goal.decreases-modifiers::word_result
+decreases-modifiers::word_result g l = 4096 * l.room + 5
+
+abbrev pub decreases-modifiers::each_behind : goal.decreases-modifiers::each_behind
+decreases-modifiers::each_behind g l = 4096 * l.room + 6
+
+abbrev pub decreases-modifiers::each : goal.decreases-modifiers::each
+decreases-modifiers::each g l = 4096 * l.room + 7
+
+abbrev pub decreases-modifiers::chosen : goal.decreases-modifiers::chosen
+decreases-modifiers::chosen g l = 4096 * l.room + 2060
+
+abbrev pub decreases-modifiers::choose : goal.decreases-modifiers::choose
+decreases-modifiers::choose g l = 4096 * l.room + 2061
+
+abbrev pub decreases-modifiers::given_modified : goal.decreases-modifiers::given_modified
+decreases-modifiers::given_modified g l = 4096 * l.room + 2061
+
+abbrev pub decreases-modifiers::if_undefined : goal.decreases-modifiers::if_undefined
+decreases-modifiers::if_undefined g l = 4096 * l.room + 5
+
+abbrev pub decreases-modifiers::if_defined : goal.decreases-modifiers::if_defined
+decreases-modifiers::if_defined g l = 4096 * l.room + 5
+
+abbrev pub decreases-modifiers::modified : goal.decreases-modifiers::modified
+decreases-modifiers::modified g l = 4096 * l.room + 2062
+
+abbrev pub decreases-modifiers::all_modified : goal.decreases-modifiers::all_modified
+decreases-modifiers::all_modified g l = 4096 * l.room + 2063
+
+abbrev pub decreases-modifiers::chained : goal.decreases-modifiers::chained
+decreases-modifiers::chained g l = 4096 * l.room + 2064
+
+abbrev pub decreases-conditions::side_value : goal.decreases-conditions::side_value
+decreases-conditions::side_value g l = 4096 * l.room + 5
+
+abbrev pub decreases-conditions::alone_truth : goal.decreases-conditions::alone_truth
+decreases-conditions::alone_truth g l = 4096 * l.room + 6
+
+abbrev pub decreases-conditions::both_truth : goal.decreases-conditions::both_truth
+decreases-conditions::both_truth g l = 4096 * l.room + 6
+
+abbrev pub decreases-conditions::test_truth : goal.decreases-conditions::test_truth
+decreases-conditions::test_truth g l = 4096 * l.room + 6
+
+abbrev pub decreases-conditions::truth_of : goal.decreases-conditions::truth_of
+decreases-conditions::truth_of g l = 4096 * l.room + 2 * l.depth + 8
+
+abbrev pub decreases-conditions::negated : goal.decreases-conditions::negated
+decreases-conditions::negated g l = 4096 * l.room + 2 * l.depth + 9
+
+abbrev pub decreases-conditions::any_truth : goal.decreases-conditions::any_truth
+decreases-conditions::any_truth g l = 4096 * l.room + 2 * l.depth + 9
+
+abbrev pub decreases-conditions::all_truth : goal.decreases-conditions::all_truth
+decreases-conditions::all_truth g l = 4096 * l.room + 2 * l.depth + 9
+
+-- the text so far, and behind it the values of the parts that are left
+abbrev pub invariant-evaluation::joined-loop-part : goal.invariant-evaluation::joined-loop-part
+invariant-evaluation::joined-loop-part g l = record {
+  value : (answers : Answers) → AnsweredBy answers (g.F.Facts.asked l.facts)
+      → joined (found_at l.room)
+      (here l.names.scopes.now l.names.locals.now (g.F.Facts.lists l.facts) l.run l.keep answers)
+      (at l.run (g.F.Facts.asked l.facts)) l.text (tree_view (drop l.part-index l.parts))
+      ≡ joined (found_at l.room)
+      (here l.names.scopes.now l.names.locals.now (g.F.Facts.lists l.initial.facts) l.initial.run l.keep answers)
+      (at l.initial.run (g.F.Facts.asked l.initial.facts)) l.initial.text (tree_view l.parts);
+  run : Keeps l.initial.run l.run;
+  facts : Asks {A = Unit {0}} (g.F.Facts.leads l.initial.facts l.facts) (g.F.Facts.lists l.initial.facts) (g.F.Facts.lists l.facts)
+      (g.F.Facts.asked l.initial.facts) (g.F.Facts.asked l.facts)
+      (g.F.Facts.faults l.initial.facts) (g.F.Facts.faults l.facts) (Ok tt);
+}
+
+-- the text so far, and behind it the values of the parts that are left, with what is old in them
+abbrev pub invariant-words::new_text-loop-part : goal.invariant-words::new_text-loop-part
+invariant-words::new_text-loop-part g l = record {
+  value : (answers : Answers) → AnsweredBy answers (g.F.Facts.asked l.facts)
+      → joined (found_at l.room)
+      (here l.names.scopes.now l.names.locals.now (g.F.Facts.lists l.facts) l.run false answers)
+      (at l.run (g.F.Facts.asked l.facts)) l.text
+      (old_in_tree l.old (tree_view (drop l.part-index l.part-items)))
+      ≡ tree_value (found_at l.room)
+      (here l.names.scopes.now l.names.locals.now (g.F.Facts.lists l.initial.facts) l.initial.run false answers)
+      (at l.initial.run (g.F.Facts.asked l.initial.facts)) (old_in_tree l.old (tree_view l.part-items));
+  run : Keeps l.initial.run l.run;
+  facts : Asks {A = Unit {0}} (g.F.Facts.leads l.initial.facts l.facts) (g.F.Facts.lists l.initial.facts) (g.F.Facts.lists l.facts)
+      (g.F.Facts.asked l.initial.facts) (g.F.Facts.asked l.facts)
+      (g.F.Facts.faults l.initial.facts) (g.F.Facts.faults l.facts) (Ok tt);
+}
+
+-- the chain so far, and the modifiers that are left
+abbrev pub invariant-modifiers::all_modified-loop-one : goal.invariant-modifiers::all_modified-loop-one
+invariant-modifiers::all_modified-loop-one g l = record {
+  value : (answers : Answers) → AnsweredBy answers (g.F.Facts.asked l.facts)
+      → all_modified (found_at l.room)
+      (here l.names.scopes.now l.names.locals.now (g.F.Facts.lists l.facts) l.run false answers)
+      (at l.run (g.F.Facts.asked l.facts)) l.name (chain_view l.run.region.bytes l.chain)
+      (mods_view (drop l.one-index l.one-items))
+      ≡ all_modified (found_at l.room)
+      (here l.names.scopes.now l.names.locals.now (g.F.Facts.lists l.initial.facts) l.initial.run false answers)
+      (at l.initial.run (g.F.Facts.asked l.initial.facts)) l.name
+      (chain_view l.initial.run.region.bytes l.initial.chain) (mods_view l.one-items);
+  run : Extends l.initial.run l.run;
+  facts : Asks {A = Unit {0}} (g.F.Facts.leads l.initial.facts l.facts) (g.F.Facts.lists l.initial.facts) (g.F.Facts.lists l.facts)
+      (g.F.Facts.asked l.initial.facts) (g.F.Facts.asked l.facts)
+      (g.F.Facts.faults l.initial.facts) (g.F.Facts.faults l.facts) (Ok tt);
+  within : end_of l.chain.val ≤ length l.run.region.bytes;
+}
+
+-- the results so far, and behind them those of the words that are left
+abbrev pub invariant-modifiers::each_behind-loop-word : goal.invariant-modifiers::each_behind-loop-word
+invariant-modifiers::each_behind-loop-word g l = record {
+  value : (answers : Answers) → AnsweredBy answers (g.F.Facts.asked l.facts)
+      → each_behind (found_at l.room)
+      (here l.names.scopes.now l.names.locals.now (g.F.Facts.lists l.facts) l.run false answers)
+      (at l.run (g.F.Facts.asked l.facts)) l.variable (tree_view l.body) l.results (drop l.word-index l.words)
+      ≡ each_behind (found_at l.room)
+      (here l.names.scopes.now l.names.locals.now (g.F.Facts.lists l.initial.facts) l.initial.run false answers)
+      (at l.initial.run (g.F.Facts.asked l.initial.facts)) l.variable (tree_view l.body) l.initial.results l.words;
+  run : Keeps l.initial.run l.run;
+  facts : Asks {A = Unit {0}} (g.F.Facts.leads l.initial.facts l.facts) (g.F.Facts.lists l.initial.facts) (g.F.Facts.lists l.facts)
+      (g.F.Facts.asked l.initial.facts) (g.F.Facts.asked l.facts)
+      (g.F.Facts.faults l.initial.facts) (g.F.Facts.faults l.facts) (Ok tt);
+}
+
+-- none so far was true, and the conditions that are left decide
+abbrev pub invariant-conditions::any_truth-loop-cond : goal.invariant-conditions::any_truth-loop-cond
+invariant-conditions::any_truth-loop-cond g l = record {
+  value : (answers : Answers) → AnsweredBy answers (g.F.Facts.asked l.facts)
+      → any_truth (found_at l.room)
+      (here l.names.scopes.now l.names.locals.now (g.F.Facts.lists l.facts) l.run false answers)
+      (at l.run (g.F.Facts.asked l.facts)) (conds_view (drop l.cond-index l.cond-items))
+      ≡ any_truth (found_at l.room)
+      (here l.names.scopes.now l.names.locals.now (g.F.Facts.lists l.initial.facts) l.initial.run false answers)
+      (at l.initial.run (g.F.Facts.asked l.initial.facts)) (conds_view l.cond-items);
+  run : Keeps l.initial.run l.run;
+  facts : Asks {A = Unit {0}} (g.F.Facts.leads l.initial.facts l.facts) (g.F.Facts.lists l.initial.facts) (g.F.Facts.lists l.facts)
+      (g.F.Facts.asked l.initial.facts) (g.F.Facts.asked l.facts)
+      (g.F.Facts.faults l.initial.facts) (g.F.Facts.faults l.facts) (Ok tt);
+}
+
+-- all so far were true, and the conditions that are left decide
+abbrev pub invariant-conditions::all_truth-loop-cond : goal.invariant-conditions::all_truth-loop-cond
+invariant-conditions::all_truth-loop-cond g l = record {
+  value : (answers : Answers) → AnsweredBy answers (g.F.Facts.asked l.facts)
+      → all_truth (found_at l.room)
+      (here l.names.scopes.now l.names.locals.now (g.F.Facts.lists l.facts) l.run false answers)
+      (at l.run (g.F.Facts.asked l.facts)) (conds_view (drop l.cond-index l.cond-items))
+      ≡ all_truth (found_at l.room)
+      (here l.names.scopes.now l.names.locals.now (g.F.Facts.lists l.initial.facts) l.initial.run false answers)
+      (at l.initial.run (g.F.Facts.asked l.initial.facts)) (conds_view l.cond-items);
+  run : Keeps l.initial.run l.run;
+  facts : Asks {A = Unit {0}} (g.F.Facts.leads l.initial.facts l.facts) (g.F.Facts.lists l.initial.facts) (g.F.Facts.lists l.facts)
+      (g.F.Facts.asked l.initial.facts) (g.F.Facts.asked l.facts)
+      (g.F.Facts.faults l.initial.facts) (g.F.Facts.faults l.facts) (Ok tt);
+}

@@ -1,0 +1,79 @@
+-- Steps that ask no fact never fail because of one.
+use Rattle.std.proofs.Common.{◌≡◌, ℕ, Bool, true, false, nat_lt, inl, inr, List, ◌++◌, length, ◌+◌, Result}
+use Rattle.std.proofs.Common.{Option, Some, None, Ok, Err, if◌then◌else◌, refl}
+use Rattle.std.specs.Option.{option_map}
+use Rattle.mk_bytes.specs.Agrees.{AgreesErr}
+use Rattle.mk_bytes.specs.declared.pair.Pair.{Pair}
+use Rattle.mk_expand.specs.Locals.{is_part_form, local_named, local_value, local_raw}
+use Rattle.mk_expand.specs.Names.{last_value, or_below, raw_above}
+use Rattle.mk_expand.specs.declared.local.Locals.{Locals}
+use Rattle.mk_ast.specs.declared.fault.AstFault.{AstFault}
+use Rattle.mk_ast.specs.declared.fault.AstFault.TheVariants as ast
+use Rattle.mk_cond.specs.declared.fault.CondFault.{CondFault}
+use Rattle.mk_cond.specs.declared.fault.CondFault.TheVariants as of_conds
+use Rattle.mk_mods.specs.declared.fault.ModFault.{ModFault}
+use Rattle.mk_mods.specs.declared.fault.ModFault.TheVariants as of_mods
+use Rattle.mk_expand.specs.Chains.{of_mod, of_cond}
+use Rattle.mk_expand.specs.Limits.{MayNotOpen, appended, max_text}
+use Rattle.mk_expand.specs.Texts.{of_tree}
+use Rattle.mk_expand.specs.declared.fault.ExpandFault.{ExpandFault}
+use Rattle.mk_expand.specs.declared.fault.ExpandFault.TheVariants.{Failed, NoMemory, TooLong, Unbuilt}
+use Rattle.mk_expand.proofs.FactLemmas.{NeverFails}
+
+pub never-of_tree : (fault : AstFault) → of_tree fault ≡ Failed → ⊥
+never-of_tree (ast.Unclosed at) is = cc
+never-of_tree (ast.UnknownModifier at) is = cc
+never-of_tree (ast.BadModifier at) is = cc
+never-of_tree (ast.TooDeep at) is = cc
+never-of_tree ast.NoMemory is = cc
+
+pub never-of_cond : (fault : CondFault) → of_cond fault ≡ Failed → ⊥
+never-of_cond (of_conds.Bad at) is = cc
+never-of_cond (of_conds.Tree fault) is = never-of_tree fault is
+never-of_cond (of_conds.TooDeep at) is = cc
+never-of_cond of_conds.NoMemory is = cc
+
+pub never-of_mod : (fault : ModFault) → of_mod fault ≡ Failed → ⊥
+never-of_mod of_mods.TooLong is = cc
+never-of_mod of_mods.BadPlace is = cc
+never-of_mod of_mods.NoMemory is = cc
+
+pub never-opened : (room count : ℕ) (fault : ExpandFault) → MayNotOpen room count fault
+    → fault ≡ Failed → ⊥
+never-opened room count fault (inl deep) is = let d = deep.1 in cc
+never-opened room count fault (inr many) is = let d = many.2 in cc
+
+too_long : (b : Bool) (text : List ℕ)
+    → NeverFails {A = List ℕ} (if b then Err TooLong else Ok text)
+too_long true text = λ is. cc
+too_long false text = λ is. cc
+
+pub never-appended : (text value : List ℕ) → NeverFails (appended text value)
+never-appended text value = too_long (nat_lt max_text (length text + length value)) (text ++ value)
+
+pub err_never : {A : Type 0} (fault : ExpandFault) → (fault ≡ Failed → ⊥)
+    → NeverFails {A = A} (Err fault)
+err_never fault never = λ is. never cc
+
+-- a fault that agrees with a definition that never fails
+pub fault_never : {A : Type 0} (fault : ExpandFault) (defined : Result A ExpandFault)
+    → AgreesErr NoMemory fault defined → NeverFails defined → fault ≡ Failed → ⊥
+fault_never fault defined (inl want) never is = cc
+fault_never fault defined (inr same) never is = never (rw (same, is) refl)
+
+unbuilt : (some form : Bool) (raw : Option (List ℕ))
+    → NeverFails {A = Option (List ℕ)} (if some then (if form then Err Unbuilt else Ok raw) else Ok None)
+unbuilt true true raw = λ is. cc
+unbuilt true false raw = λ is. cc
+unbuilt false form raw = λ is. cc
+
+never-below : (raw : Option (List ℕ)) (below : Result (Option (List ℕ)) ExpandFault)
+    → NeverFails below → NeverFails (or_below raw below)
+never-below None below never = never
+never-below (Some raw) below never = λ is. cc
+
+pub never-raw_above : (locals : Locals) (bound : List Pair) (name : List ℕ)
+    → NeverFails (raw_above locals bound name)
+never-raw_above locals bound name =
+    never-below (last_value bound name) (local_raw locals name)
+    (unbuilt locals.some (is_part_form name) (option_map (local_value locals) (local_named name)))

@@ -1,0 +1,139 @@
+//! The answers of functions to the values of their arguments, and sides that have to be defined.
+ghost use Rattle.std.specs.Prelude.{◌≡◌, false, IsTrue};
+ghost use Rattle.std.specs.Option.{option_copied, option_map};
+ghost use Rattle.mk_ast.specs.View.{part_view, tree_view};
+ghost use Rattle.mk_bytes.specs.Agrees.{Agrees};
+ghost use Rattle.mk_bytes.specs.Paths.{clean};
+ghost use Rattle.mk_expand.specs.Calls.{Asks, at, behind, here};
+ghost use Rattle.mk_expand.specs.Conditions as spec;
+ghost use Rattle.mk_expand.specs.Facts.{Means, is_fact};
+ghost use Rattle.mk_expand.specs.declared.fault.ExpandFault.TheVariants.{NoMemory as no_memory};
+
+use crate::chain::Found;
+use crate::evaluation::Run;
+use crate::facts::Facts;
+use crate::fault::ExpandFault;
+use crate::name::{Names, known, raw_above};
+use crate::trim::{is_white_alone, trimmed};
+use mk_ast::Part;
+use mk_bytes::{Pairs, Text, clean_path};
+use mk_cond::Fun;
+use std::alloc::Global;
+
+// Whether a name has a raw value.
+fn is_defined(names: &Names<'_>, bound: &Pairs, name: &[u8]) -> Result<bool, ExpandFault>
+    ensures { Agrees no_memory (λ answer. answer) result (spec.is_defined names.now.scopes.now
+        names.now.locals.now bound.now name.now) }
+{
+    if raw_above(names, bound, name)?.is_some() {
+        return Ok(true);
+    }
+    Ok(known(names.scopes, name).is_some())
+}
+
+// Asks for a fact.
+fn ask<F: Facts>(
+    alloc: Global,
+    facts: &mut F,
+    fun: Fun,
+    argument: &[u8],
+) -> Result<bool, ExpandFault>
+    requires { IsTrue (is_fact fun) }
+    ensures value { Means (F.asked facts.new) (λ answer. (answer, F.asked facts.new)) result
+        (λ answers. spec.fact (F.lists facts.old) answers (F.asked facts.old) fun argument.now) }
+    ensures facts { Asks (F.leads facts.old facts.new) (F.lists facts.old) (F.lists facts.new) (F.asked facts.old)
+        (F.asked facts.new) (F.faults facts.old) (F.faults facts.new) result }
+{
+    Ok(facts.fact(alloc, fun, argument)?)
+}
+
+// Asks for a fact of a path, which is cleaned.
+fn ask_path<F: Facts>(
+    names: &Names<'_>,
+    facts: &mut F,
+    fun: Fun,
+    name: &[u8],
+) -> Result<bool, ExpandFault>
+    requires { IsTrue (is_fact fun) }
+    ensures value { Means (F.asked facts.new) (λ answer. (answer, F.asked facts.new)) result
+        (λ answers. spec.fact (F.lists facts.old) answers (F.asked facts.old) fun
+        (clean names.now.scopes.now.cwd name.now)) }
+    ensures facts { Asks (F.leads facts.old facts.new) (F.lists facts.old) (F.lists facts.new) (F.asked facts.old)
+        (F.asked facts.new) (F.faults facts.old) (F.faults facts.new) result }
+{
+    let path = clean_path(names.alloc, names.scopes.cwd(), name)?;
+    ask(names.alloc, facts, fun, path.bytes())
+}
+
+/// The answer of a function to the value of its argument.
+pub fn answer_of<F: Facts>(
+    names: &Names<'_>,
+    run: &Run,
+    facts: &mut F,
+    fun: Fun,
+    value: &[u8],
+) -> Result<bool, ExpandFault>
+    ensures value { Means (F.asked facts.new) (behind run.now (F.asked facts.new)) result
+        (λ answers. spec.answer_of
+        (here names.now.scopes.now names.now.locals.now (F.lists facts.old) run.now false answers)
+        (at run.now (F.asked facts.old)) fun value.now) }
+    ensures facts { Asks (F.leads facts.old facts.new) (F.lists facts.old) (F.lists facts.new) (F.asked facts.old)
+        (F.asked facts.new) (F.faults facts.old) (F.faults facts.new) result }
+{
+    match fun {
+        Fun::Defined => is_defined(names, &run.bound, trimmed(value)),
+        Fun::Empty => Ok(is_white_alone(value)),
+        Fun::Make => ask(names.alloc, facts, fun, trimmed(value)),
+        Fun::Exists => ask_path(names, facts, fun, trimmed(value)),
+        Fun::Target => ask_path(names, facts, fun, trimmed(value)),
+        Fun::Commands => ask_path(names, facts, fun, trimmed(value)),
+    }
+}
+
+fn is_reference(part: &Part) -> bool
+    ensures { result ≡ spec.is_reference (part_view part.now) }
+{
+    match part {
+        Part::Short(_) => true,
+        Part::Ref {
+            round: _,
+            name: _,
+            mods: _,
+        } => true,
+        _ => false,
+    }
+}
+
+// A part, where it is a reference.
+fn reference_part<'t>(part: &'t Part) -> Option<&'t Part>
+    ensures { option_map part_view (option_copied result)
+        ≡ spec.reference_part (part_view part.now) }
+{
+    if !is_reference(part) {
+        return None;
+    }
+    Some(part)
+}
+
+/// The one reference that a text is.
+#[tactic(auto, using(crate::proofs::ConditionLemmas::lone_reference_many))]
+pub fn lone_reference<'t>(parts: &'t [Part]) -> Option<&'t Part>
+    ensures { option_map part_view (option_copied result)
+        ≡ spec.lone_reference (tree_view parts.now) }
+{
+    match parts {
+        [] => None,
+        [part] => reference_part(part),
+        [_, _, ..] => None,
+    }
+}
+
+/// The value of what was found, which has to be defined.
+pub fn if_defined(found: Found) -> Result<Text, ExpandFault>
+    ensures { result ≡ spec.if_defined found }
+{
+    if !found.defined {
+        return Err(ExpandFault::Undefined);
+    }
+    Ok(found.value)
+}

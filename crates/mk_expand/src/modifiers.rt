@@ -1,0 +1,379 @@
+//! The modifiers of a reference, of which only what is chosen is evaluated.
+ghost use Rattle.std.specs.Prelude.{◌≡◌, ◌≤◌, length, false, IfOk, OnOk};
+ghost use Rattle.mk_ast.specs.View.{mod_view, mods_view, tree_view};
+ghost use Rattle.mk_expand.specs.Calls.{Asks, Extends, Keeps, at, behind, here};
+ghost use Rattle.mk_expand.specs.Chains as spec;
+ghost use Rattle.mk_expand.specs.Facts.{Means};
+ghost use Rattle.mk_expand.specs.Names.{while_bound};
+ghost use Rattle.mk_expand.specs.Parts.{tree_value};
+ghost use Rattle.mk_expand.specs.Value.{found_at};
+ghost use Rattle.mk_expand.specs.View.{chain_view};
+ghost use Rattle.mk_mods.specs.Pieces.{end_of};
+
+use crate::chain::{Chain, Found, given};
+use crate::conditions::{MAX_DEPTH, truth_of};
+use crate::evaluation::{Run, tree_value};
+use crate::facts::Facts;
+use crate::fault::ExpandFault;
+use crate::name::Names;
+use crate::words::modifier;
+use mk_ast::{ModTree, ModTrees, Tree};
+use mk_bytes::{Pair, Text};
+use mk_cond::{Form, parse_cond};
+use mk_mods::{Results, Val, apply, text, with_results, words_of};
+
+/// A value behind its modifiers. What they place in the region is taken away again.
+#[cycle(value)]
+#[tactic(auto, using(crate::proofs::ChainLemmas::chained_none))]
+pub fn chained<F: Facts>(
+    names: &Names<'_>,
+    run: &mut Run,
+    facts: &mut F,
+    room: usize,
+    name: &[u8],
+    found: Found,
+    mods: &ModTrees,
+) -> Result<Found, ExpandFault>
+    ensures value { Means (F.asked facts.new) (behind run.new (F.asked facts.new)) result
+        (λ answers. spec.chained (found_at room)
+        (here names.now.scopes.now names.now.locals.now (F.lists facts.old) run.old false answers)
+        (at run.old (F.asked facts.old)) name.now found (mods_view mods.now)) }
+    ensures run { OnOk result (Keeps run.old run.new) }
+    ensures facts { Asks (F.leads facts.old facts.new) (F.lists facts.old) (F.lists facts.new) (F.asked facts.old)
+        (F.asked facts.new) (F.faults facts.old) (F.faults facts.new) result }
+{
+    if mods.is_empty() {
+        return Ok(found);
+    }
+    let len = run.region.len();
+    let chain = Chain {
+        val: Val::new(names.alloc, &mut run.region, found.value.bytes())?,
+        defined: found.defined,
+    };
+    let chain = all_modified(names, run, facts, room, name, chain, mods)?;
+    let value = text(names.alloc, &run.region, &chain.val)?;
+    run.region.back(len);
+    Ok(Found {
+        value,
+        defined: chain.defined,
+    })
+}
+
+// A chain behind all modifiers.
+#[cycle(value)]
+fn all_modified<F: Facts>(
+    names: &Names<'_>,
+    run: &mut Run,
+    facts: &mut F,
+    room: usize,
+    name: &[u8],
+    chain: Chain,
+    mods: &ModTrees,
+) -> Result<Chain, ExpandFault>
+    requires { end_of chain.val ≤ length run.old.region.bytes }
+    ensures value { Means (F.asked facts.new) (λ chain. behind run.new (F.asked facts.new) (chain_view run.new.region.bytes chain)) result
+        (λ answers. spec.all_modified (found_at room)
+        (here names.now.scopes.now names.now.locals.now (F.lists facts.old) run.old false answers)
+        (at run.old (F.asked facts.old)) name.now (chain_view run.old.region.bytes chain) (mods_view mods.now)) }
+    ensures run { OnOk result (Extends run.old run.new) }
+    ensures facts { Asks (F.leads facts.old facts.new) (F.lists facts.old) (F.lists facts.new) (F.asked facts.old)
+        (F.asked facts.new) (F.faults facts.old) (F.faults facts.new) result }
+{
+    let mut chain = chain;
+    for one in mods.as_slice() {
+        chain = modified(names, run, facts, room, name, chain, one)?;
+    }
+    Ok(chain)
+}
+
+// A chain behind a modifier.
+#[cycle(value)]
+fn modified<F: Facts>(
+    names: &Names<'_>,
+    run: &mut Run,
+    facts: &mut F,
+    room: usize,
+    name: &[u8],
+    chain: Chain,
+    one: &ModTree,
+) -> Result<Chain, ExpandFault>
+    requires { end_of chain.val ≤ length run.old.region.bytes }
+    ensures value { Means (F.asked facts.new) (λ chain. behind run.new (F.asked facts.new) (chain_view run.new.region.bytes chain)) result
+        (λ answers. spec.modified (found_at room)
+        (here names.now.scopes.now names.now.locals.now (F.lists facts.old) run.old false answers)
+        (at run.old (F.asked facts.old)) name.now (chain_view run.old.region.bytes chain) (mod_view one.now)) }
+    ensures run { OnOk result (Extends run.old run.new) }
+    ensures facts { Asks (F.leads facts.old facts.new) (F.lists facts.old) (F.lists facts.new) (F.asked facts.old)
+        (F.asked facts.new) (F.faults facts.old) (F.faults facts.new) result }
+    ensures within { IfOk result (λ chain. end_of chain.val ≤ length run.new.region.bytes) }
+{
+    match one {
+        ModTree::Choose(yes, no) => choose(names, run, facts, room, name, chain, yes, no),
+        ModTree::Each(variable, body) => {
+            each(names, run, facts, room, chain, variable.bytes(), body)
+        }
+        _ => given_modified(names, run, facts, room, name, chain, one),
+    }
+}
+
+// A chain behind a modifier that gives a text, or of words.
+#[cycle(value)]
+fn given_modified<F: Facts>(
+    names: &Names<'_>,
+    run: &mut Run,
+    facts: &mut F,
+    room: usize,
+    name: &[u8],
+    chain: Chain,
+    one: &ModTree,
+) -> Result<Chain, ExpandFault>
+    requires { end_of chain.val ≤ length run.old.region.bytes }
+    ensures value { Means (F.asked facts.new) (λ chain. behind run.new (F.asked facts.new) (chain_view run.new.region.bytes chain)) result
+        (λ answers. spec.given_modified (found_at room)
+        (here names.now.scopes.now names.now.locals.now (F.lists facts.old) run.old false answers)
+        (at run.old (F.asked facts.old)) name.now (chain_view run.old.region.bytes chain) (mod_view one.now)) }
+    ensures run { OnOk result (Extends run.old run.new) }
+    ensures facts { Asks (F.leads facts.old facts.new) (F.lists facts.old) (F.lists facts.new) (F.asked facts.old)
+        (F.asked facts.new) (F.faults facts.old) (F.faults facts.new) result }
+    ensures within { IfOk result (λ chain. end_of chain.val ≤ length run.new.region.bytes) }
+{
+    match one {
+        ModTree::IfUndefined(text) => if_undefined(names, run, facts, room, chain, text),
+        ModTree::IfDefined(text) => if_defined(names, run, facts, room, chain, text),
+        ModTree::NameOf => {
+            let text = Text::from_bytes(names.alloc, name)?;
+            Ok(given(names.alloc, &mut run.region, chain, text)?)
+        }
+        _ => word_modified(names, run, facts, room, chain, one),
+    }
+}
+
+// A chain behind `:?`.
+#[cycle(value)]
+fn choose<F: Facts>(
+    names: &Names<'_>,
+    run: &mut Run,
+    facts: &mut F,
+    room: usize,
+    name: &[u8],
+    chain: Chain,
+    yes: &Tree,
+    no: &Tree,
+) -> Result<Chain, ExpandFault>
+    requires { end_of chain.val ≤ length run.old.region.bytes }
+    ensures value { Means (F.asked facts.new) (λ chain. behind run.new (F.asked facts.new) (chain_view run.new.region.bytes chain)) result
+        (λ answers. spec.choose (found_at room)
+        (here names.now.scopes.now names.now.locals.now (F.lists facts.old) run.old false answers)
+        (at run.old (F.asked facts.old)) name.now (chain_view run.old.region.bytes chain) (tree_view yes.now) (tree_view no.now)) }
+    ensures run { OnOk result (Extends run.old run.new) }
+    ensures facts { Asks (F.leads facts.old facts.new) (F.lists facts.old) (F.lists facts.new) (F.asked facts.old)
+        (F.asked facts.new) (F.faults facts.old) (F.faults facts.new) result }
+    ensures within { IfOk result (λ chain. end_of chain.val ≤ length run.new.region.bytes) }
+{
+    let text = chosen(names, run, facts, room, name, yes, no)?;
+    Ok(given(names.alloc, &mut run.region, chain, text)?)
+}
+
+// A chain behind `:U`.
+#[cycle(value)]
+fn if_undefined<F: Facts>(
+    names: &Names<'_>,
+    run: &mut Run,
+    facts: &mut F,
+    room: usize,
+    chain: Chain,
+    text: &Tree,
+) -> Result<Chain, ExpandFault>
+    requires { end_of chain.val ≤ length run.old.region.bytes }
+    ensures value { Means (F.asked facts.new) (λ chain. behind run.new (F.asked facts.new) (chain_view run.new.region.bytes chain)) result
+        (λ answers. spec.if_undefined (found_at room)
+        (here names.now.scopes.now names.now.locals.now (F.lists facts.old) run.old false answers)
+        (at run.old (F.asked facts.old)) (chain_view run.old.region.bytes chain) (tree_view text.now)) }
+    ensures run { OnOk result (Extends run.old run.new) }
+    ensures facts { Asks (F.leads facts.old facts.new) (F.lists facts.old) (F.lists facts.new) (F.asked facts.old)
+        (F.asked facts.new) (F.faults facts.old) (F.faults facts.new) result }
+    ensures within { IfOk result (λ chain. end_of chain.val ≤ length run.new.region.bytes) }
+{
+    if chain.defined {
+        return Ok(chain);
+    }
+    let text = tree_value(names, run, facts, room, false, text)?;
+    Ok(given(names.alloc, &mut run.region, chain, text)?)
+}
+
+// A chain behind `:D`.
+#[cycle(value)]
+fn if_defined<F: Facts>(
+    names: &Names<'_>,
+    run: &mut Run,
+    facts: &mut F,
+    room: usize,
+    chain: Chain,
+    text: &Tree,
+) -> Result<Chain, ExpandFault>
+    ensures value { Means (F.asked facts.new) (λ chain. behind run.new (F.asked facts.new) (chain_view run.new.region.bytes chain)) result
+        (λ answers. spec.if_defined (found_at room)
+        (here names.now.scopes.now names.now.locals.now (F.lists facts.old) run.old false answers)
+        (at run.old (F.asked facts.old)) (chain_view run.old.region.bytes chain) (tree_view text.now)) }
+    ensures run { OnOk result (Extends run.old run.new) }
+    ensures facts { Asks (F.leads facts.old facts.new) (F.lists facts.old) (F.lists facts.new) (F.asked facts.old)
+        (F.asked facts.new) (F.faults facts.old) (F.faults facts.new) result }
+    ensures within { IfOk result (λ chain. end_of chain.val ≤ length run.new.region.bytes) }
+{
+    if !chain.defined {
+        let none = Text::new(names.alloc);
+        return Ok(given(names.alloc, &mut run.region, chain, none)?);
+    }
+    let text = tree_value(names, run, facts, room, false, text)?;
+    Ok(given(names.alloc, &mut run.region, chain, text)?)
+}
+
+// What `:?` chooses by the condition that the name is.
+#[cycle(value)]
+fn chosen<F: Facts>(
+    names: &Names<'_>,
+    run: &mut Run,
+    facts: &mut F,
+    room: usize,
+    name: &[u8],
+    yes: &Tree,
+    no: &Tree,
+) -> Result<Text, ExpandFault>
+    ensures value { Means (F.asked facts.new) (behind run.new (F.asked facts.new)) result
+        (λ answers. spec.chosen (found_at room)
+        (here names.now.scopes.now names.now.locals.now (F.lists facts.old) run.old false answers)
+        (at run.old (F.asked facts.old)) name.now (tree_view yes.now) (tree_view no.now)) }
+    ensures run { OnOk result (Keeps run.old run.new) }
+    ensures facts { Asks (F.leads facts.old facts.new) (F.lists facts.old) (F.lists facts.new) (F.asked facts.old)
+        (F.asked facts.new) (F.faults facts.old) (F.faults facts.new) result }
+{
+    let cond = parse_cond(names.alloc, name, Form::Inner)?;
+    if truth_of(names, run, facts, room, MAX_DEPTH, &cond)? {
+        return tree_value(names, run, facts, room, false, yes);
+    }
+    tree_value(names, run, facts, room, false, no)
+}
+
+// A chain behind `:@`.
+#[cycle(value)]
+fn each<F: Facts>(
+    names: &Names<'_>,
+    run: &mut Run,
+    facts: &mut F,
+    room: usize,
+    chain: Chain,
+    variable: &[u8],
+    body: &Tree,
+) -> Result<Chain, ExpandFault>
+    requires { end_of chain.val ≤ length run.old.region.bytes }
+    ensures value { Means (F.asked facts.new) (λ chain. behind run.new (F.asked facts.new) (chain_view run.new.region.bytes chain)) result
+        (λ answers. spec.each (found_at room)
+        (here names.now.scopes.now names.now.locals.now (F.lists facts.old) run.old false answers)
+        (at run.old (F.asked facts.old)) (chain_view run.old.region.bytes chain) variable.now (tree_view body.now)) }
+    ensures run { OnOk result (Extends run.old run.new) }
+    ensures facts { Asks (F.leads facts.old facts.new) (F.lists facts.old) (F.lists facts.new) (F.asked facts.old)
+        (F.asked facts.new) (F.faults facts.old) (F.faults facts.new) result }
+    ensures within { IfOk result (λ chain. end_of chain.val ≤ length run.new.region.bytes) }
+{
+    let words = words_of(names.alloc, &run.region, &chain.val)?;
+    let none = Results::new(names.alloc, &chain.val)?;
+    let results = each_behind(
+        names,
+        run,
+        facts,
+        room,
+        variable,
+        body,
+        none,
+        words.as_slice(),
+    )?;
+    Ok(Chain {
+        val: with_results(names.alloc, &mut run.region, &results)?,
+        defined: chain.defined,
+    })
+}
+
+// The body of `:@` for each word, behind the results so far.
+#[cycle(value)]
+fn each_behind<F: Facts>(
+    names: &Names<'_>,
+    run: &mut Run,
+    facts: &mut F,
+    room: usize,
+    variable: &[u8],
+    body: &Tree,
+    results: Results,
+    words: &[Text],
+) -> Result<Results, ExpandFault>
+    ensures value { Means (F.asked facts.new) (behind run.new (F.asked facts.new)) result
+        (λ answers. spec.each_behind (found_at room)
+        (here names.now.scopes.now names.now.locals.now (F.lists facts.old) run.old false answers)
+        (at run.old (F.asked facts.old)) variable.now (tree_view body.now) results words.now) }
+    ensures run { OnOk result (Keeps run.old run.new) }
+    ensures facts { Asks (F.leads facts.old facts.new) (F.lists facts.old) (F.lists facts.new) (F.asked facts.old)
+        (F.asked facts.new) (F.faults facts.old) (F.faults facts.new) result }
+{
+    let mut results = results;
+    for word in words {
+        let result = word_result(names, run, facts, room, variable, body, word)?;
+        results.add(result)?;
+    }
+    Ok(results)
+}
+
+// The body of `:@` for a word, for which its variable stands.
+#[cycle(value)]
+fn word_result<F: Facts>(
+    names: &Names<'_>,
+    run: &mut Run,
+    facts: &mut F,
+    room: usize,
+    variable: &[u8],
+    body: &Tree,
+    word: &Text,
+) -> Result<Text, ExpandFault>
+    ensures value { Means (F.asked facts.new) (behind run.new (F.asked facts.new)) result
+        (λ answers. tree_value (found_at room) (while_bound
+        (here names.now.scopes.now names.now.locals.now (F.lists facts.old) run.old false answers)
+        variable.now word.now) (at run.old (F.asked facts.old)) (tree_view body.now)) }
+    ensures run { OnOk result (Keeps run.old run.new) }
+    ensures facts { Asks (F.leads facts.old facts.new) (F.lists facts.old) (F.lists facts.new) (F.asked facts.old)
+        (F.asked facts.new) (F.faults facts.old) (F.faults facts.new) result }
+{
+    run.bound.push(Pair {
+        name: Text::from_bytes(names.alloc, variable)?,
+        value: word.copy(names.alloc)?,
+    })?;
+    let result = tree_value(names, run, facts, room, false, body)?;
+    run.bound.drop_last();
+    Ok(result)
+}
+
+// A chain behind a modifier of words.
+#[cycle(value)]
+fn word_modified<F: Facts>(
+    names: &Names<'_>,
+    run: &mut Run,
+    facts: &mut F,
+    room: usize,
+    chain: Chain,
+    one: &ModTree,
+) -> Result<Chain, ExpandFault>
+    requires { end_of chain.val ≤ length run.old.region.bytes }
+    ensures value { Means (F.asked facts.new) (λ chain. behind run.new (F.asked facts.new) (chain_view run.new.region.bytes chain)) result
+        (λ answers. spec.word_modified (found_at room)
+        (here names.now.scopes.now names.now.locals.now (F.lists facts.old) run.old false answers)
+        (at run.old (F.asked facts.old)) (chain_view run.old.region.bytes chain) (mod_view one.now)) }
+    ensures run { OnOk result (Extends run.old run.new) }
+    ensures facts { Asks (F.leads facts.old facts.new) (F.lists facts.old) (F.lists facts.new) (F.asked facts.old)
+        (F.asked facts.new) (F.faults facts.old) (F.faults facts.new) result }
+    ensures within { IfOk result (λ chain. end_of chain.val ≤ length run.new.region.bytes) }
+{
+    match modifier(names, run, facts, room, one)? {
+        Some(modifier) => Ok(Chain {
+            val: apply(names.alloc, &mut run.region, chain.val, &modifier)?,
+            defined: chain.defined,
+        }),
+        None => Ok(chain),
+    }
+}
