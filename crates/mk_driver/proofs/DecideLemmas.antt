@@ -1,16 +1,18 @@
 -- A build so far, and the decision of a node.
-use Rattle.std.proofs.Common.{◌≡◌, ◌≢◌, ◌∙◌, ◌⊎◌, ℕ, ◌+◌, ◌<◌, ◌≤◌, List, [], ◌∷◌, ◌++◌, length, Option, Err, false}
+use Rattle.std.proofs.Common.{◌≡◌, ◌≢◌, ◌∙◌, ◌⊎◌, ℕ, ◌+◌, ◌<◌, ◌≤◌, List, [], ◌∷◌, ◌++◌, length, Option, false}
 use Rattle.std.proofs.Common.{inl, inr, refl, sym, ap, subst, length-append, arith}
 use Rattle.std.proofs.Math.Seq.{get_or-append_seam}
 use Rattle.std.proofs.lemmas.List.{append-nil, get_or_append_left}
 use Rattle.mk_expand.specs.declared.fault.ExpandFault.{ExpandFault}
 use Rattle.mk_expand.specs.declared.fault.ExpandFault.TheVariants as expand
-use Rattle.mk_plan.specs.Refusals.{IsTaskFault}
+use Rattle.mk_plan.specs.Refusals.{IsOwn, IsTaskFault}
+use Rattle.mk_plan.specs.declared.fault.TaskFault.{TaskFault}
 use Rattle.mk_plan.specs.declared.plan.NodeState.TheVariants.{Undecided}
 use Rattle.mk_world.specs.Talks.{Meaning}
 use Rattle.mk_world.specs.Told.{Told}
 use Rattle.mk_world.specs.declared.command.TaskLine.{TaskLine}
-use Rattle.mk_driver.specs.Builds.{Work, Build, Seen, Sight, Moment, rules_of, source_names, task_by, IsKept, IsBegun}
+use Rattle.mk_plan.specs.Asking.{Seen}
+use Rattle.mk_driver.specs.Builds.{Work, Build, Sight, Moment, HasFault, rules_of, source_names, task_by, IsKept, IsBegun}
 use Rattle.mk_driver.specs.Calls.{Called, NoItem, look_items}
 use Rattle.mk_driver.specs.Sights.{seen_of}
 use Rattle.mk_driver.specs.declared.result.BuildResult.{BuildResult}
@@ -51,33 +53,32 @@ looks-output : (n : ℕ) (seen : List Seen) → outputs_of (look_items n seen) �
 looks-output n [] = refl
 looks-output n (one ∷ seen) = looks-output n seen
 
--- a node was looked at
-pub so_far-looks : (meaning : Meaning) (work : Work) (n : ℕ) (seen : List Seen)
+-- a node was looked at, behind earlier looks
+pub so_far-looks_more : (meaning : Meaning) (work : Work) (n : ℕ) (seen more : List Seen)
     (known : List (List TaskLine)) (first now next : Moment) → AtNode work n
-    → SoFar meaning work false first now known (IsReady work n)
-    → Told now.history next.history (Happened meaning (look_items n seen))
+    → SoFar meaning work false first now known (IsSeen work n seen)
+    → Told now.history next.history (Happened meaning (look_items n more))
     → next.events ≡ now.events → next.out ≡ now.out
-    → SoFar meaning work false first next known (IsSeen work n seen)
-so_far-looks meaning work n seen known first now next at so told events out =
-    let call : Called meaning now.history next.history (λ own. own ≡ look_items n seen) = record {
+    → SoFar meaning work false first next known (IsSeen work n (seen ++ more))
+so_far-looks_more meaning work n seen more known first now next at so told events out =
+    let call : Called meaning now.history next.history (λ own. own ≡ look_items n more) = record {
       early = [];
-      own = look_items n seen;
+      own = look_items n more;
       late = [];
       early_steps = tt;
       late_steps = tt;
       is_own = refl;
       told = subst (λ l. Told now.history next.history (Happened meaning l))
-          (sym (append-nil (look_items n seen))) told;
+          (sym (append-nil (look_items n more))) told;
     } in
-    so_far-called meaning work false first now next known known (IsReady work n)
-    (IsSeen work n seen) (λ own. own ≡ look_items n seen) so call
+    so_far-called meaning work false first now next known known (IsSeen work n seen)
+    (IsSeen work n (seen ++ more)) (λ own. own ≡ look_items n more) so call
     (events ∙ (sym (append-nil now.events)
-    ∙ ap (λ l. now.events ++ l) (sym (looks-report n seen))))
+    ∙ ap (λ l. now.events ++ l) (sym (looks-report n more))))
     (λ tasks has. has)
-    (λ tasks build failure has is. go_on-looks work n tasks seen at build failure []
-    (seen-nothing work n tasks build failure at.within is))
-    (λ tasks has. silent work tasks now next (look_items n seen) out (looks-output n seen)
-    (λ outputs p. rw (looks-report n seen) refl))
+    (λ tasks build failure has is. go_on-looks work n tasks more at build failure seen is)
+    (λ tasks has. silent work tasks now next (look_items n more) out (looks-output n more)
+    (λ outputs p. rw (looks-report n more) refl))
 
 -- a kept node
 pub ready-kept : (meaning : Meaning) (work : Work) (n : ℕ) (seen : List Seen)
@@ -104,6 +105,17 @@ seen-at_once meaning work n known first now at so =
     so_far-weaken meaning work first now known known (IsReady work n) (IsSeen work n []) so
     (λ tasks has. has)
     (λ tasks build failure has is. seen-nothing work n tasks build failure at.within is)
+
+-- a node was looked at
+pub so_far-looks : (meaning : Meaning) (work : Work) (n : ℕ) (seen : List Seen)
+    (known : List (List TaskLine)) (first now next : Moment) → AtNode work n
+    → SoFar meaning work false first now known (IsReady work n)
+    → Told now.history next.history (Happened meaning (look_items n seen))
+    → next.events ≡ now.events → next.out ≡ now.out
+    → SoFar meaning work false first next known (IsSeen work n seen)
+so_far-looks meaning work n seen known first now next at so told events out =
+    so_far-looks_more meaning work n [] seen known first now next at
+    (seen-at_once meaning work n known first now at so) told events out
 
 poised-first : (work : Work) (n : ℕ) (seen : List Seen) (lines : List TaskLine)
     (tasks : run.Tasks) (build : Build) (failure : Option Event) → AtNode work n
@@ -153,7 +165,7 @@ ready-made meaning work n lines known first next long so =
 pub ended-refused : (meaning : Meaning) (work : Work) (n number : ℕ) (what : ExpandFault)
     (seen : List Seen) (known : List (List TaskLine)) (first now next : Moment) → AtNode work n
     → SoFar meaning work false first now known (IsSeen work n seen) → (sight : Sight work n seen)
-    → task_by work n sight.target sight.sources ≡ Err (record { line = number; what = what })
+    → HasFault work n sight.target sight.sources sight.asked number what
     → next.history ≡ now.history → next.events ≡ now.events ++ event.Refused n number ∷ []
     → next.out ≡ now.out → EndedBy meaning work (ended.Expand n number what) first next
 ended-refused meaning work n number what seen known first now next at so sight fault history events out = (
@@ -166,35 +178,52 @@ ended-refused meaning work n number what seen known first now next at so sight f
       (λ tasks has outputs p. refl),
 )
 
--- the looks at a node's target and sources, by their times
+-- the looks at a node's target and sources, by their times, and those for `exists`
 abbrev pub sight-of : (work : Work) (n : ℕ) (target : When) (sources : List When)
-    → length sources ≡ length (source_names work n)
-    → Sight work n (seen_of work.plan n target sources)
-sight-of work n target sources each =
-    record { target = target; sources = sources; are = refl; each = each }
+    (asked : List Seen) → length sources ≡ length (source_names work n)
+    → Sight work n (seen_of work.plan n target sources ++ asked)
+sight-of work n target sources asked each =
+    record { target = target; sources = sources; asked = asked; are = refl; each = each }
 
--- how a build ends with a node whose task has a fault
-pub ended-fault : (meaning : Meaning) (work : Work) (n line : ℕ) (what : ExpandFault)
-    (result : BuildResult) (target : When) (sources : List When)
-    (known : List (List TaskLine)) (first now next : Moment) → AtNode work n
-    → SoFar meaning work false first now known (IsSeen work n (seen_of work.plan n target sources))
-    → length sources ≡ length (source_names work n)
-    → IsTaskFault (record { line = line; what = what }) (task_by work n target sources)
-    → next.history ≡ now.history → next.out ≡ now.out
-    → ((result ≡ ended.NoMemory) × (next.events ≡ now.events))
-    ⊎ ((result ≡ ended.Expand n line what) × (what ≢ expand.NoMemory)
-    × (next.events ≡ now.events ++ event.Refused n line ∷ []))
+-- a build that the outside ended while a node was seen
+ended-seen : (meaning : Meaning) (work : Work) (n : ℕ) (result : BuildResult) (seen : List Seen)
+    (known : List (List TaskLine)) (first now next : Moment)
+    → SoFar meaning work false first now known (IsSeen work n seen)
+    → (result ≡ ended.World) ⊎ (result ≡ ended.NoMemory)
+    → next.history ≡ now.history → next.events ≡ now.events → next.out ≡ now.out
     → EndedBy meaning work result first next
-ended-fault meaning work n line what result target sources known first now next at so each fault
-    history out (inl none) =
+ended-seen meaning work n result seen known first now next so outside history events out =
     let call : Called meaning now.history next.history NoItem =
     subst (λ h. Called meaning now.history h NoItem) (sym history) (called-none meaning now.history) in
-    ended-outside meaning work result first next known
-    (IsSeen work n (seen_of work.plan n target sources)) (inr none.0)
-    (so_far-nothing meaning work first now next known _ so call none.1 out)
-ended-fault meaning work n line what result target sources known first now next at so each (inl want)
-    history out (inr told) = absurd (told.1 want)
-ended-fault meaning work n line what result target sources known first now next at so each (inr is)
-    history out (inr told) =
-    rw told.0 (ended-refused meaning work n line what (seen_of work.plan n target sources) known first
-    now next at so (sight-of work n target sources each) is history told.2 out)
+    ended-outside meaning work result first next known (IsSeen work n seen) outside
+    (so_far-nothing meaning work first now next known _ so call events out)
+
+-- how a build ends with a node whose task has a fault
+pub ended-fault : (meaning : Meaning) (work : Work) (n : ℕ) (fault : TaskFault)
+    (result : BuildResult) (target : When) (sources : List When) (asked : List Seen)
+    (known : List (List TaskLine)) (first now next : Moment) → AtNode work n
+    → SoFar meaning work false first now known
+    (IsSeen work n (seen_of work.plan n target sources ++ asked))
+    → length sources ≡ length (source_names work n)
+    → IsTaskFault fault (task_by work n target sources asked)
+    → next.history ≡ now.history → next.out ≡ now.out
+    → ((result ≡ ended.NoMemory) × (fault.what ≢ expand.Failed) × (next.events ≡ now.events))
+    ⊎ (((result ≡ ended.World) × (fault.what ≡ expand.Failed) × (next.events ≡ now.events))
+    ⊎ ((result ≡ ended.Expand n fault.line fault.what) × IsOwn fault
+    × (next.events ≡ now.events ++ event.Refused n fault.line ∷ [])))
+    → EndedBy meaning work result first next
+ended-fault meaning work n fault result target sources asked known first now next at so each is
+    history out (inl none) =
+    ended-seen meaning work n result (seen_of work.plan n target sources ++ asked) known first now next
+    so (inr none.0) history none.2 out
+ended-fault meaning work n fault result target sources asked known first now next at so each is
+    history out (inr (inl failed)) =
+    ended-seen meaning work n result (seen_of work.plan n target sources ++ asked) known first now next
+    so (inl failed.0) history failed.2 out
+ended-fault meaning work n fault result target sources asked known first now next at so each (inl free)
+    history out (inr (inr told)) = absurd (told.1 free)
+ended-fault meaning work n fault result target sources asked known first now next at so each (inr is)
+    history out (inr (inr told)) =
+    rw told.0 (ended-refused meaning work n fault.line fault.what
+    (seen_of work.plan n target sources ++ asked) known first now next at so
+    (sight-of work n target sources asked each) is history told.2 out)

@@ -1,3 +1,4 @@
+pub mod AskLemmas
 pub mod BuildLemmas
 pub mod ChildLemmas
 pub mod DecideLemmas

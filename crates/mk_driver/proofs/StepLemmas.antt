@@ -1,5 +1,5 @@
 -- How each kind of item leaves a build with one job.
-use Rattle.std.proofs.Common.{◌≡◌, ◌∙◌, ℕ, ◌+◌, ◌<◌, ◌≤◌, ◌==◌, List, [], ◌∷◌, ◌++◌, length, map, take, drop, set, slice_get, Option, Some, None, Err, true, false}
+use Rattle.std.proofs.Common.{◌≡◌, ◌∙◌, ℕ, ◌+◌, ◌<◌, ◌≤◌, ◌==◌, List, [], ◌∷◌, ◌++◌, length, map, take, drop, set, slice_get, Option, Some, None, true, false}
 use Rattle.std.proofs.Common.{refl, sym, ap, subst, append_assoc, arith}
 use Rattle.std.proofs.lemmas.Grind.{common_steps}
 use Rattle.std.proofs.lemmas.Bool.Decides.{nat_tests}
@@ -12,7 +12,8 @@ use Rattle.mk_plan.specs.declared.plan.PlanNode.{PlanNode}
 use Rattle.mk_world.specs.declared.command.Cmd.{Cmd}
 use Rattle.mk_world.specs.declared.command.TaskLine.{TaskLine}
 use Rattle.mk_expand.specs.declared.fault.ExpandFault.{ExpandFault}
-use Rattle.mk_driver.specs.Builds.{Work, Build, Seen, Sight, task_by, rules_of, build_after, build_after_all, IsWaiting, IsKept, IsBegun, IsRefused, IsCommandOf, command_of}
+use Rattle.mk_plan.specs.Asking.{Seen}
+use Rattle.mk_driver.specs.Builds.{Work, Build, Sight, HasFault, rules_of, build_after, build_after_all, IsWaiting, IsKept, IsBegun, IsRefused, IsCommandOf, command_of}
 use Rattle.mk_driver.specs.Calls.{look_items}
 use Rattle.mk_driver.specs.Items.{looks, keeps, refuses, starts, waits, reported_all}
 use Rattle.mk_driver.specs.Progress.{AtNode, IsReady, IsSeen, IsPoised, IsRunning, IsUnexpanded, nodes_at}
@@ -183,7 +184,7 @@ go_on-keeps work n tasks at build failure seen is kept = record {
 pub go_on-refuses : (work : Work) (n number : ℕ) (tasks : run.Tasks) (what : ExpandFault)
     → AtNode work n → (build : Build) (failure : Option Event) (seen : List Seen)
     → IsSeen work n seen tasks build failure → (sight : Sight work n seen)
-    → task_by work n sight.target sight.sources ≡ Err (record { line = number; what = what })
+    → HasFault work n sight.target sight.sources sight.asked number what
     → GoesOn work tasks build failure (refuses n number ∷ []) (IsUnexpanded work n number what)
 go_on-refuses work n number tasks what at build failure seen is sight fault =
     let all = set-nodes work n Undecided Failed at.within in
@@ -205,6 +206,7 @@ go_on-refuses work n number tasks what at build failure seen is sight fault =
         sight = record {
           target = sight.target;
           sources = sight.sources;
+          asked = sight.asked;
           are = is.now ∙ sight.are;
           each = sight.each;
         };

@@ -4,7 +4,10 @@ use Rattle.mk_flags.specs.declared.Flags.{Flags}
 use Rattle.mk_expand.specs.declared.fault.ExpandFault.{ExpandFault}
 use Rattle.mk_plan.specs.Deciding.{Rules, all_settled}
 use Rattle.mk_plan.specs.Plans.{node_at}
-use Rattle.mk_plan.specs.Tasks.{names_at, task_of}
+use Rattle.mk_expand.specs.Facts.{Lists}
+use Rattle.mk_expand.specs.declared.facts.Asked.{Asked}
+use Rattle.mk_plan.specs.Asking.{Seen, answers_by, as_asked}
+use Rattle.mk_plan.specs.Tasks.{names_at, setting_of, task_of}
 use Rattle.mk_plan.specs.declared.fault.TaskFault.{TaskFault}
 use Rattle.mk_plan.specs.declared.plan.NodeState.TheVariants.{Undecided}
 use Rattle.mk_plan.specs.declared.plan.PlanNode.{PlanNode}
@@ -24,10 +27,11 @@ use Rattle.mk_driver.specs.Settled.{EachSettled}
 use Rattle.mk_driver.specs.Tests.{is_stale, newer_names}
 use Rattle.mk_driver.specs.declared.event.Event.{Event}
 
--- what is built: the plan, with the variables and the options
+-- what is built: the plan, with the variables, what answers conditions, and the options
 pub record Work : Type 0 where
   pub plan : List PlanNode
   pub variables : Variables
+  pub lists : Lists
   pub flags : Flags
 
 -- the rules of its runs
@@ -37,11 +41,6 @@ rules_of work = record {
   jobs = work.flags.jobs;
   keep_going = work.flags.keep_going;
 }
-
--- one look: a path, and its time
-pub record Seen : Type 0 where
-  pub path : List ℕ
-  pub when : When
 
 -- how a build stands: its run, what was seen to decide each node, and the ticket of each node's child
 pub record Build : Type 0 where
@@ -100,41 +99,57 @@ seen_at [] times = []
 seen_at (name ∷ names) [] = []
 seen_at (name ∷ names) (time ∷ times) = record { path = name; when = time } ∷ seen_at names times
 
--- the looks by which a node is decided: one at its target, and then one at each source
+-- the looks by which a node is decided: one at its target, then one at each source, and then one
+-- at each path that `exists` is asked of in its commands
 pub record Sight (work : Work) (node : ℕ) (seen : List Seen) : Type 0 where
   pub target : When
   pub sources : List When
-  pub are : seen ≡ record { path = (node_at work.plan node).name; when = target }
-      ∷ seen_at (source_names work node) sources
+  pub asked : List Seen
+  pub are : seen ≡ (record { path = (node_at work.plan node).name; when = target }
+      ∷ seen_at (source_names work node) sources) ++ asked
   pub each : length sources ≡ length (source_names work node)
 
--- the task of a node, by the times of these looks
-abbrev pub task_by : Work → ℕ → When → List When → Result Task TaskFault
-task_by work node target sources =
-    task_of work.variables work.plan node
-    (newer_names target (source_names work node) sources) work.flags
+-- the task of a node with these newer sources, by looks for `exists`
+abbrev pub asked_task : Work → ℕ → List (List ℕ) → List Seen → Result (Task × List Asked) TaskFault
+asked_task work node newer asked =
+    task_of (setting_of work.variables work.lists (answers_by asked)) work.plan node newer work.flags []
+
+-- the task of a node, by all these looks
+abbrev pub task_by : Work → ℕ → When → List When → List Seen
+    → Result (Task × List Asked) TaskFault
+task_by work node target sources asked =
+    asked_task work node (newer_names target (source_names work node) sources) asked
+
+-- A node has this task by its looks, and `exists` was asked of no other path.
+abbrev pub HasTask : Work → ℕ → When → List When → List Seen → Task → Type 0
+HasTask work node target sources asked task =
+    task_by work node target sources asked ≡ Ok (task, map as_asked asked)
 
 -- A node is kept where it has no commands, or where it has a task and is not out of date.
 abbrev pub IsKept : Work → ℕ → List Seen → Type 0
 IsKept work node seen =
     ((node_at work.plan node).commands ≡ [])
     ⊎ ((sight : Sight work node seen) × (task : Task)
-    × (task_by work node sight.target sight.sources ≡ Ok task)
+    × HasTask work node sight.target sight.sources sight.asked task
     × (is_stale sight.target sight.sources ≡ false))
 
 -- Its lines are started where it has a task, which they are, and is out of date.
 abbrev pub IsBegun : Work → ℕ → List Seen → List TaskLine → Type 0
 IsBegun work node seen lines =
     (sight : Sight work node seen) × (task : Task)
-    × (task_by work node sight.target sight.sources ≡ Ok task)
+    × HasTask work node sight.target sight.sources sight.asked task
     × (is_stale sight.target sight.sources ≡ true) × (lines ≡ task.lines)
+
+-- A node has no task by its looks: this line is the first that is at fault.
+abbrev pub HasFault : Work → ℕ → When → List When → List Seen → ℕ → ExpandFault → Type 0
+HasFault work node target sources asked number what =
+    task_by work node target sources asked ≡ Err (record { line = number; what = what })
 
 -- It is refused where it has no task, by the first line that is at fault.
 abbrev pub IsRefused : Work → ℕ → List Seen → ℕ → Type 0
 IsRefused work node seen number =
     (sight : Sight work node seen) × (what : ExpandFault)
-    × (task_by work node sight.target sight.sources
-    ≡ Err (record { line = number; what = what }))
+    × HasFault work node sight.target sight.sources sight.asked number what
 
 -- the command of a line
 abbrev pub command_of : Work → TaskLine → Cmd

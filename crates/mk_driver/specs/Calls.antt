@@ -5,7 +5,7 @@ use Rattle.mk_world.specs.Told.{Told}
 use Rattle.mk_world.specs.declared.command.Cmd.{Cmd}
 use Rattle.mk_world.specs.declared.history.History.{History}
 use Rattle.mk_world.specs.declared.step.Ended.{Ended}
-use Rattle.mk_driver.specs.Builds.{Seen}
+use Rattle.mk_plan.specs.Asking.{Seen}
 use Rattle.mk_driver.specs.Items.{Item, looks, starts, steps, ends, leaves, Happened}
 
 -- items that are all steps of children

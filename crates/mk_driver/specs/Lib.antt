@@ -1,3 +1,4 @@
+pub mod Asks
 pub mod Builds
 pub mod Calls
 pub mod Ends

@@ -4,17 +4,24 @@ use Rattle.mk_world.specs.declared.history.History.{History}
 use Rattle.mk_flags.specs.declared.Flags.{Flags}
 use Rattle.mk_graph.specs.declared.Made.{Made}
 use Rattle.mk_plan.specs.declared.plan.PlanNode.{PlanNode}
+use Rattle.mk_plan.specs.Facts.{lists_of}
 use Rattle.mk_driver.specs.Builds.{Work, Moment}
 use Rattle.mk_driver.specs.declared.event.Event.{Event}
 use Rattle.mk_driver.specs.declared.maker.Maker.{Maker}
 
 abbrev pub work_on : List PlanNode → Made → Flags → Work
-work_on plan made flags = record { plan = plan; variables = made.scopes; flags = flags }
+work_on plan made flags = record {
+  plan = plan;
+  variables = made.scopes;
+  lists = lists_of made.rule flags.requested;
+  flags = flags;
+}
 
 abbrev pub work_of : Maker → Work
 work_of maker = record {
   plan = maker.plan.now;
   variables = maker.made.now.scopes;
+  lists = lists_of maker.made.now.rule maker.flags.now.requested;
   flags = maker.flags.now;
 }
 

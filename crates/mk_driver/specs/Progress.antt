@@ -1,5 +1,5 @@
 -- How far a build has come.
-use Rattle.std.specs.Prelude.{◌≡◌, ℕ, ◌+◌, ◌<◌, ◌≤◌, List, [], ◌∷◌, ◌++◌, length, map, take, drop, get_or, Option, Some, None, Bool, true, false, Err}
+use Rattle.std.specs.Prelude.{◌≡◌, ℕ, ◌+◌, ◌<◌, ◌≤◌, List, [], ◌∷◌, ◌++◌, length, map, take, drop, get_or, Option, Some, None, Bool, true, false}
 use Rattle.mk_expand.specs.declared.fault.ExpandFault.{ExpandFault}
 use Rattle.mk_plan.specs.Plans.{are_ordered}
 use Rattle.mk_plan.specs.declared.plan.NodeState.{NodeState}
@@ -8,7 +8,8 @@ use Rattle.mk_plan.specs.declared.plan.PlanNode.{PlanNode}
 use Rattle.mk_world.specs.Talks.{Meaning}
 use Rattle.mk_world.specs.Told.{Told}
 use Rattle.mk_world.specs.declared.command.TaskLine.{TaskLine}
-use Rattle.mk_driver.specs.Builds.{Work, Build, Seen, Sight, Moment, Makes, Prints, first_build, build_after_all, job_of, rules_of, task_by, IsBegun}
+use Rattle.mk_plan.specs.Asking.{Seen}
+use Rattle.mk_driver.specs.Builds.{Work, Build, Sight, Moment, Makes, Prints, first_build, build_after_all, job_of, rules_of, HasFault, IsBegun}
 use Rattle.mk_driver.specs.Items.{Item, reported_all, outputs_of, Happened}
 use Rattle.mk_driver.specs.Output.{Printed, printed_all, nothing_printed}
 use Rattle.mk_driver.specs.Runs as run
@@ -127,8 +128,7 @@ pub record IsUnexpanded (work : Work) (n number : ℕ) (what : ExpandFault) (tas
   pub over : run.IsOver (rules_of work) build.run
   pub failed : failure ≡ Some (Refused n number)
   pub sight : Sight work n (build.seen n)
-  pub fault : task_by work n sight.target sight.sources
-      ≡ Err (record { line = number; what = what })
+  pub fault : HasFault work n sight.target sight.sources sight.asked number what
 
 -- a build that has made all nodes
 pub record IsAllMade (work : Work) (tasks : run.Tasks) (build : Build) (failure : Option Event) : Type 0

@@ -7,7 +7,8 @@ use Rattle.mk_world.specs.Talks.{Meaning}
 use Rattle.mk_world.specs.Told.{Told}
 use Rattle.mk_world.specs.declared.history.History.{History}
 use Rattle.mk_world.specs.declared.time.When.{When}
-use Rattle.mk_driver.specs.Builds.{Seen, seen_at}
+use Rattle.mk_plan.specs.Asking.{Seen}
+use Rattle.mk_driver.specs.Builds.{seen_at}
 use Rattle.mk_driver.specs.Calls.{look_items}
 use Rattle.mk_driver.specs.Items.{Happened}
 use Rattle.mk_driver.specs.declared.sight.Times.{Times}

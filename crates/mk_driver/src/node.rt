@@ -1,11 +1,14 @@
 //! The decision of a node, and its job.
 ghost use Rattle.std.specs.Prelude.{◌≡◌, ◌≢◌, ◌⊎◌, ◌<◌, ◌+◌, ◌∷◌, ◌++◌, [], length, IfErr, OnOk};
+ghost use Rattle.mk_driver.specs.Asks.{TaskAsked};
+ghost use Rattle.mk_driver.specs.Builds.{asked_task};
 ghost use Rattle.mk_driver.specs.Makers.{work_of, moment};
 ghost use Rattle.mk_driver.specs.Progress.{AtNode, FromReady, FromSeen, ReadyAt, EndedBy};
 ghost use Rattle.mk_driver.specs.Sights.{seen_of};
 ghost use Rattle.mk_driver.specs.declared.event.Event.TheVariants as event;
 ghost use Rattle.mk_driver.specs.declared.result.BuildResult.TheVariants as ended;
-ghost use Rattle.mk_expand.specs.declared.fault.ExpandFault.TheVariants.{NoMemory as no_memory};
+ghost use Rattle.mk_expand.specs.declared.fault.ExpandFault.TheVariants.{Failed as failed};
+ghost use Rattle.mk_plan.specs.Refusals.{IsOwn, without_line};
 ghost use Rattle.mk_plan.specs.Plans.{node_at};
 ghost use Rattle.mk_plan.specs.Tasks.{names_at};
 ghost use Rattle.mk_world.specs.Causes.{HasCause};
@@ -16,23 +19,56 @@ use crate::maker::Maker;
 use crate::result::BuildResult;
 use crate::sight::{Times, look};
 use crate::test::{is_stale, newer_names};
+use mk_bytes::Texts;
 use mk_expand::ExpandFault;
-use mk_plan::{TaskFault, names_at, task};
-use mk_world::{Kids, Sink, World};
+use mk_plan::{MadeFacts, TaskFault, names_at, task};
+use mk_world::{Kids, Sink, Task, World};
 
 // Tells of a node whose task has a fault, and gives the end of the build.
 fn refuse(events: &mut Events, node: u32, fault: TaskFault) -> BuildResult
-    ensures { ((result ≡ ended.NoMemory) × (events.new ≡ events.old))
-        ⊎ ((result ≡ ended.Expand node fault.line fault.what) × (fault.what ≢ no_memory)
-        × (events.new ≡ events.old ++ event.Refused node fault.line ∷ [])) }
+    ensures { ((result ≡ ended.NoMemory) × (fault.what ≢ failed) × (events.new ≡ events.old))
+        ⊎ (((result ≡ ended.World) × (fault.what ≡ failed) × (events.new ≡ events.old))
+        ⊎ ((result ≡ ended.Expand node fault.line fault.what) × IsOwn fault
+        × (events.new ≡ events.old ++ event.Refused node fault.line ∷ []))) }
 {
     match fault.what {
         ExpandFault::NoMemory => BuildResult::NoMemory,
+        ExpandFault::Failed => BuildResult::World,
         what => match events.push(Event::Refused(node, fault.line)) {
             Ok(()) => BuildResult::Expand(node, fault.line, what),
             Err(_) => BuildResult::NoMemory,
         },
     }
+}
+
+// The task of a node, where these of its sources are newer than it. What its conditions ask is asked
+// of the makefiles and of the world.
+fn task_in<W: World>(
+    maker: &Maker,
+    world: &mut W,
+    node: u32,
+    newer: &Texts,
+) -> Result<Task, TaskFault>
+    requires within { node < length maker.now.plan.now }
+    requires idle { W.runs world.old [] }
+    ensures task { TaskAsked (W.history world.old) (W.history world.new) result
+        (λ looked. asked_task (work_of maker.now) node newer.now looked) }
+    ensures cause { HasCause failed (W.faults world.old) (W.faults world.new)
+        (without_line result) }
+    ensures idle { W.runs world.new [] }
+{
+    let mut asked = Vec::new(maker.alloc);
+    let requested = &maker.flags.requested;
+    let mut facts = MadeFacts::new(maker.made, requested, world, &mut asked);
+    task(
+        maker.alloc,
+        maker.plan,
+        maker.made,
+        node,
+        newer,
+        maker.flags,
+        &mut facts,
+    )
 }
 
 // Decides a node that was looked at: it is refused, kept, or made by its lines.
@@ -71,14 +107,7 @@ fn decide<W: World, S: Sink>(
     let names = names_at(maker.alloc, maker.plan, maker.plan.sources(node))?;
     let sources = times.sources.as_slice();
     let newer = newer_names(maker.alloc, &times.target, names.as_slice(), sources)?;
-    match task(
-        maker.alloc,
-        maker.plan,
-        maker.made,
-        node,
-        &newer,
-        maker.flags,
-    ) {
+    match task_in(maker, world, node, &newer) {
         Err(fault) => Err(refuse(events, node, fault)),
         Ok(task) => {
             if is_stale(&times.target, sources) {

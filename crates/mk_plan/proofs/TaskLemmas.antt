@@ -1,11 +1,12 @@
 -- Command lines that are expanded one after the other.
-use Rattle.std.proofs.Common.{◌≡◌, ◌∙◌, ℕ, ◌+◌, ◌<◌, length, drop, get_or, List, [], ◌∷◌, ◌++◌, Ok, Err, Result, inl, inr, refl, length-append, arith, Bool, true, false, if◌then◌else◌}
+use Rattle.std.proofs.Common.{◌≡◌, ◌∙◌, ◌⊎◌, ℕ, ◌+◌, ◌<◌, length, drop, get_or, List, [], ◌∷◌, ◌++◌, Ok, Err, Result, inl, inr, refl, length-append, arith, Bool, true, false, if◌then◌else◌}
 use Rattle.std.specs.List.{list_any}
 use Rattle.std.proofs.lemmas.Grind.{common_steps}
 use Rattle.std.proofs.lemmas.Option.{slice_get-get_or}
-use Rattle.mk_bytes.specs.Agrees.{AgreesErr, ◌>>=◌}
+use Rattle.mk_bytes.specs.Agrees.{◌>>=◌}
+use Rattle.mk_expand.specs.Facts.{IsOutside}
+use Rattle.mk_expand.specs.declared.facts.Asked.{Asked}
 use Rattle.mk_expand.specs.declared.fault.ExpandFault.{ExpandFault}
-use Rattle.mk_expand.specs.declared.fault.ExpandFault.TheVariants.{NoMemory}
 use Rattle.mk_expand.specs.declared.local.Locals.{Locals}
 use Rattle.mk_flags.specs.declared.Flags.{Flags}
 use Rattle.mk_scopes.specs.Scopes.{Variables}
@@ -14,31 +15,34 @@ use Rattle.mk_world.specs.declared.command.TaskLine.{TaskLine}
 use Rattle.mk_plan.proofs.PlanLemmas.{drop-at}
 use Rattle.mk_plan.specs.Refusals.{IsTaskFault}
 use Rattle.mk_plan.specs.Plans.{node_at}
-use Rattle.mk_plan.specs.Tasks.{at_line, line_of, lines_from, locals_of, task_of, task_with, is_slash, last_component}
+use Rattle.mk_plan.specs.Tasks.{Setting, at_line, line_of, lines_from, locals_of, task_of, task_with, is_slash, last_component}
 use Rattle.mk_plan.specs.declared.plan.PlanNode.{PlanNode}
 use Rattle.mk_plan.specs.declared.fault.TaskFault.{TaskFault}
 
-pub lines_from-end : (v : Variables) (l : Locals) (f : Flags) (lines : List TaskLine) (number : ℕ)
-    → lines_from v l f lines number [] ≡ Ok lines
+pub lines_from-end : (s : Setting) (l : Locals) (f : Flags) (lines : List TaskLine) (number : ℕ)
+    (asked : List Asked) → lines_from s l f lines number asked [] ≡ Ok (lines, asked)
 unfolding lines_from
-lines_from-end v l f lines number = refl
+lines_from-end s l f lines number asked = refl
 
 -- one line more
-pub lines_from-line : (v : Variables) (l : Locals) (f : Flags) (lines : List TaskLine) (number : ℕ)
-    (rest : List (List ℕ)) (raw : List ℕ) (more : List (List ℕ)) (line : TaskLine)
-    → rest ≡ raw ∷ more → line_of v l f raw ≡ Ok line
-    → lines_from v l f lines number rest ≡ lines_from v l f (lines ++ line ∷ []) (number + 1) more
+pub lines_from-line : (s : Setting) (l : Locals) (f : Flags) (lines : List TaskLine) (number : ℕ)
+    (asked now : List Asked) (rest : List (List ℕ)) (raw : List ℕ) (more : List (List ℕ))
+    (line : TaskLine)
+    → rest ≡ raw ∷ more → line_of s l f asked raw ≡ Ok (line, now)
+    → lines_from s l f lines number asked rest
+    ≡ lines_from s l f (lines ++ line ∷ []) (number + 1) now more
 unfolding lines_from
-lines_from-line v l f lines number rest raw more line are is = rw (are, is) refl
+lines_from-line s l f lines number asked now rest raw more line are is = rw (are, is) refl
 
 -- a line's fault is that of all
-pub lines_from-fault : (v : Variables) (l : Locals) (f : Flags) (lines : List TaskLine) (number : ℕ)
-    (rest : List (List ℕ)) (raw : List ℕ) (more : List (List ℕ)) (what : ExpandFault)
-    → rest ≡ raw ∷ more → AgreesErr NoMemory what (line_of v l f raw)
-    → IsTaskFault (record { line = number; what = what }) (lines_from v l f lines number rest)
+pub lines_from-fault : (s : Setting) (l : Locals) (f : Flags) (lines : List TaskLine) (number : ℕ)
+    (asked : List Asked) (rest : List (List ℕ)) (raw : List ℕ) (more : List (List ℕ))
+    (what : ExpandFault)
+    → rest ≡ raw ∷ more → IsOutside what ⊎ (line_of s l f asked raw ≡ Err what)
+    → IsTaskFault (record { line = number; what = what }) (lines_from s l f lines number asked rest)
 unfolding lines_from
-lines_from-fault v l f lines number rest raw more what are (inl want) = inl want
-lines_from-fault v l f lines number rest raw more what are (inr is) = rw (are, is) (inr refl)
+lines_from-fault s l f lines number asked rest raw more what are (inl free) = inl free
+lines_from-fault s l f lines number asked rest raw more what are (inr is) = rw (are, is) (inr refl)
 
 -- the last component, by where it begins in the bytes so far and by the bytes that follow
 abbrev pub component_by : List ℕ → List ℕ → List ℕ
@@ -97,36 +101,39 @@ bind-ok (Ok given) next value is = (given, refl, is)
 bind-ok (Err fault) next value is = cc
 
 -- a task of these lines has them
-task-lines : (v : Variables) (name : List ℕ) (lines : List TaskLine) (task : Task)
-    (result : Result Task TaskFault) → result ≡ Ok (task_with v name lines) → result ≡ Ok task
-    → task.lines ≡ lines
-task-lines v name lines task result first second =
+task-lines : (v : Variables) (name : List ℕ) (lines : List TaskLine) (asked now : List Asked)
+    (task : Task) (result : Result (Task × List Asked) TaskFault)
+    → result ≡ Ok (task_with v name lines, asked) → result ≡ Ok (task, now) → task.lines ≡ lines
+task-lines v name lines asked now task result first second =
     let same : task ≡ task_with v name lines = grind (arith, common_steps) in rw same refl
 
 -- as many lines as commands
-lines_from-length : (v : Variables) (l : Locals) (f : Flags) (lines : List TaskLine) (number : ℕ)
-    (raws : List (List ℕ)) (all : List TaskLine) → lines_from v l f lines number raws ≡ Ok all
+lines_from-length : (s : Setting) (l : Locals) (f : Flags) (lines : List TaskLine) (number : ℕ)
+    (asked now : List Asked) (raws : List (List ℕ)) (all : List TaskLine)
+    → lines_from s l f lines number asked raws ≡ Ok (all, now)
     → length all ≡ length lines + length raws
 unfolding lines_from
-lines_from-length v l f lines number [] all is =
+lines_from-length s l f lines number asked now [] all is =
     let same : lines ≡ all = grind (arith, common_steps) in rw (← same) (omega arith)
-lines_from-length v l f lines number (raw ∷ raws) all is =
-    let parts = bind-ok (at_line number (line_of v l f raw))
-    (λ line. lines_from v l f (lines ++ line ∷ []) (number + 1) raws) all is in
-    let more = lines_from-length v l f (lines ++ parts.0 ∷ []) (number + 1) raws all parts.2 in
-    more ∙ rw (length-append lines (parts.0 ∷ [])) (omega arith)
+lines_from-length s l f lines number asked now (raw ∷ raws) all is =
+    let parts = bind-ok (at_line number (line_of s l f asked raw))
+    (λ line. lines_from s l f (lines ++ line.0 ∷ []) (number + 1) line.1 raws) (all, now) is in
+    let more = lines_from-length s l f (lines ++ parts.0.0 ∷ []) (number + 1) parts.0.1 now raws all
+    parts.2 in
+    more ∙ rw (length-append lines (parts.0.0 ∷ [])) (omega arith)
 
 -- the task of a node has a line for each of its commands
-pub task_of-length : (v : Variables) (nodes : List PlanNode) (n : ℕ) (oodate : List (List ℕ))
-    (f : Flags) (task : Task) → task_of v nodes n oodate f ≡ Ok task
+pub task_of-length : (s : Setting) (nodes : List PlanNode) (n : ℕ) (oodate : List (List ℕ))
+    (f : Flags) (asked now : List Asked) (task : Task)
+    → task_of s nodes n oodate f asked ≡ Ok (task, now)
     → length task.lines ≡ length (node_at nodes n).commands
-task_of-length v nodes n oodate f task is =
+task_of-length s nodes n oodate f asked now task is =
     let parts = bind-ok
-    (lines_from v (locals_of nodes n oodate) f [] 1 (node_at nodes n).commands)
-    (λ lines. Ok (task_with v (node_at nodes n).name lines)) task is in
-    let lines_are : task.lines ≡ parts.0 =
-    task-lines v (node_at nodes n).name parts.0 task
-    (Ok (task_with v (node_at nodes n).name parts.0)) refl parts.2 in
+    (lines_from s (locals_of nodes n oodate) f [] 1 asked (node_at nodes n).commands)
+    (λ lines. Ok (task_with s.variables (node_at nodes n).name lines.0, lines.1)) (task, now) is in
+    let lines_are : task.lines ≡ parts.0.0 =
+    task-lines s.variables (node_at nodes n).name parts.0.0 parts.0.1 now task
+    (Ok (task_with s.variables (node_at nodes n).name parts.0.0, parts.0.1)) refl parts.2 in
     rw lines_are
-    (lines_from-length v (locals_of nodes n oodate) f [] 1 (node_at nodes n).commands parts.0
-    parts.1 ∙ omega arith)
+    (lines_from-length s (locals_of nodes n oodate) f [] 1 asked parts.0.1
+    (node_at nodes n).commands parts.0.0 parts.1 ∙ omega arith)

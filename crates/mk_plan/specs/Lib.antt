@@ -1,4 +1,6 @@
+pub mod Asking
 pub mod Deciding
+pub mod Facts
 pub mod Looks
 pub mod Oodate
 pub mod Plans

@@ -1,7 +1,11 @@
 -- Refusals of a plan.
-use Rattle.std.specs.Prelude.{◌≡◌, ◌⊎◌, Result, Err}
+use Rattle.std.specs.Prelude.{◌≡◌, ◌⊎◌, List, Result, Ok, Err}
 use Rattle.mk_world.specs.declared.fault.WorldFault.{WorldFault}
 use Rattle.mk_world.specs.declared.fault.WorldFault.TheVariants as world
+use Rattle.mk_bytes.specs.Agrees.{AgreesBut}
+use Rattle.mk_expand.specs.Facts.{Answers, AnsweredBy, IsOutside as IsOutsideText}
+use Rattle.mk_expand.specs.declared.facts.Asked.{Asked}
+use Rattle.mk_expand.specs.declared.fault.ExpandFault.{ExpandFault}
 use Rattle.mk_expand.specs.declared.fault.ExpandFault.TheVariants as expand
 use Rattle.mk_plan.specs.declared.fault.PlanFault.{PlanFault}
 use Rattle.mk_plan.specs.declared.fault.PlanFault.TheVariants.{Failed, NoMemory}
@@ -24,9 +28,26 @@ IsRefusedBy fault defined = IsOutside fault ⊎ (defined ≡ Err fault)
 abbrev pub no_memory_fault : TaskFault
 no_memory_fault = record { line = 0; what = expand.NoMemory }
 
-abbrev pub IsWant : TaskFault → Type 0
-IsWant fault = fault.what ≡ expand.NoMemory
+-- want of memory, or a fault of the outside
+abbrev pub IsFree : TaskFault → Type 0
+IsFree fault = IsOutsideText fault.what
 
--- a fault is the defined one, or want of memory in its place
+-- a fault of the makefiles
+abbrev pub IsOwn : TaskFault → Type 0
+IsOwn fault = IsFree fault → ⊥
+
+-- a fault is the defined one, or a free one in its place
 abbrev pub IsTaskFault : {A : Type 0} → TaskFault → Result A TaskFault → Type 0
-IsTaskFault fault defined = IsWant fault ⊎ (defined ≡ Err fault)
+IsTaskFault fault defined = IsFree fault ⊎ (defined ≡ Err fault)
+
+-- An answer of a call on lines is what is defined by the answers to all that was asked up to its end.
+abbrev pub MeansLines : {X Y : Type 0} → List Asked → (X → Y) → Result X TaskFault
+    → (Answers → Result Y TaskFault) → Type 0
+MeansLines asked view answer defined =
+    (answers : Answers) → AnsweredBy answers asked
+    → AgreesBut IsFree view answer (defined answers)
+
+-- what is wrong with a line, without its number
+abbrev pub without_line : {A : Type 0} → Result A TaskFault → Result A ExpandFault
+without_line (Ok given) = Ok given
+without_line (Err fault) = Err fault.what

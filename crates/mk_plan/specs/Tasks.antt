@@ -4,7 +4,9 @@ use Rattle.std.specs.List.{list_any}
 use Rattle.mk_bytes.specs.Agrees.{◌>>=◌}
 use Rattle.mk_bytes.specs.Bytes.{at_sign, minus, plus, slash, is_blank}
 use Rattle.mk_expand.specs.Texts.{parsed}
+use Rattle.mk_expand.specs.Facts.{Answers, Lists}
 use Rattle.mk_expand.specs.Value.{value}
+use Rattle.mk_expand.specs.declared.facts.Asked.{Asked}
 use Rattle.mk_expand.specs.declared.fault.ExpandFault.{ExpandFault}
 use Rattle.mk_expand.specs.declared.local.Locals.{Locals}
 use Rattle.mk_flags.specs.declared.Flags.{Flags}
@@ -39,26 +41,36 @@ line_as flags compared value = record {
   compared = compared;
 }
 
+-- what texts are expanded by: the variables, the lists of facts, and the answers of `exists`
+pub record Setting : Type 0 where
+  pub variables : Variables
+  pub lists : Lists
+  pub answers : Answers
+
+abbrev pub setting_of : Variables → Lists → Answers → Setting
+setting_of variables lists answers = record { variables = variables; lists = lists; answers = answers }
+
 -- A line whose raw text refers to the newer sources by that name is not compared: it has another
--- text in each build. All others are.
-abbrev pub line_of : Variables → Locals → Flags → List ℕ → Result TaskLine ExpandFault
-line_of variables locals flags raw =
+-- text in each build. All others are. Behind it stand the questions of `exists` so far.
+abbrev pub line_of : Setting → Locals → Flags → List Asked → List ℕ
+    → Result (TaskLine × List Asked) ExpandFault
+line_of k locals flags asked raw =
     parsed raw
-    >>= λ tree. value variables locals false tree
-    >>= λ value. Ok (line_as flags (not (refers tree)) value)
+    >>= λ tree. value k.variables locals k.lists k.answers false asked tree
+    >>= λ v. Ok (line_as flags (not (refers tree)) v.0, v.1)
 
 -- the fault of a line has its number
-abbrev pub at_line : ℕ → Result TaskLine ExpandFault → Result TaskLine TaskFault
+abbrev pub at_line : {A : Type 0} → ℕ → Result A ExpandFault → Result A TaskFault
 at_line number (Ok line) = Ok line
 at_line number (Err what) = Err (record { line = number; what = what })
 
 -- the lines so far, and the others from this number on, up to the first fault
-unfoldable pub lines_from : Variables → Locals → Flags → List TaskLine → ℕ → List (List ℕ)
-    → Result (List TaskLine) TaskFault
-lines_from variables locals flags lines number [] = Ok lines
-lines_from variables locals flags lines number (raw ∷ more) =
-    at_line number (line_of variables locals flags raw)
-    >>= λ line. lines_from variables locals flags (lines ++ line ∷ []) (number + 1) more
+unfoldable pub lines_from : Setting → Locals → Flags → List TaskLine → ℕ → List Asked
+    → List (List ℕ) → Result (List TaskLine × List Asked) TaskFault
+lines_from k locals flags lines number asked [] = Ok (lines, asked)
+lines_from k locals flags lines number asked (raw ∷ more) =
+    at_line number (line_of k locals flags asked raw)
+    >>= λ line. lines_from k locals flags (lines ++ line.0 ∷ []) (number + 1) line.1 more
 
 abbrev pub is_slash : ℕ → Bool
 is_slash byte = byte == slash
@@ -89,8 +101,10 @@ abbrev pub task_with : Variables → List ℕ → List TaskLine → Task
 task_with variables target lines =
     record { lines = lines; cwd = variables.cwd; target = target; exports = [] }
 
--- The task of a node, where these of its sources are newer than it.
-abbrev pub task_of : Variables → List PlanNode → ℕ → List (List ℕ) → Flags → Result Task TaskFault
-task_of variables nodes n oodate flags =
-    lines_from variables (locals_of nodes n oodate) flags [] 1 (node_at nodes n).commands
-    >>= λ lines. Ok (task_with variables (node_at nodes n).name lines)
+-- The task of a node, where these of its sources are newer than it, and the questions of `exists`
+-- behind it.
+abbrev pub task_of : Setting → List PlanNode → ℕ → List (List ℕ) → Flags → List Asked
+    → Result (Task × List Asked) TaskFault
+task_of k nodes n oodate flags asked =
+    lines_from k (locals_of nodes n oodate) flags [] 1 asked (node_at nodes n).commands
+    >>= λ lines. Ok (task_with k.variables (node_at nodes n).name lines.0, lines.1)

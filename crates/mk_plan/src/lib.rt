@@ -5,12 +5,14 @@
 //! is one rule today; every other name is a file that has to be there.
 #![tactic(auto)]
 
+mod facts;
 mod fault;
 mod making;
 mod oodate;
 mod plan;
 mod tasks;
 
+pub use facts::MadeFacts;
 pub use fault::{PlanFault, TaskFault};
 pub use making::make_plan;
 pub use plan::{NodeState, Nodes, Plan, PlanNode};

@@ -29,7 +29,8 @@ fn is_target(rule: &Option<Rule>, name: &[u8]) -> bool
     }
 }
 
-fn is_missing_time(when: &When) -> bool
+/// Whether there is no file, by its time.
+pub fn is_missing_time(when: &When) -> bool
     ensures { result ≡ looks.is_missing_time when.now }
 {
     match when {

@@ -1,9 +1,12 @@
 //! The task of a node: its command lines, expanded.
 ghost use Rattle.std.specs.Prelude.{◌≡◌, ◌<◌, ◌+◌, ◌^◌, [], length, position, Ok, IfSome, IfOk, IfErr, if◌then◌else◌};
 ghost use Rattle.mk_bytes.specs.Agrees.{Agrees};
+ghost use Rattle.mk_expand.specs.Calls.{Asks};
+ghost use Rattle.mk_expand.specs.Facts.{Means};
 ghost use Rattle.mk_expand.specs.declared.fault.ExpandFault.TheVariants.{NoMemory as no_memory};
-ghost use Rattle.mk_plan.specs.Refusals.{IsTaskFault};
+ghost use Rattle.mk_plan.specs.Refusals.{MeansLines, without_line};
 ghost use Rattle.mk_plan.specs.Tasks as spec;
+ghost use Rattle.mk_plan.specs.Tasks.{setting_of};
 
 use crate::fault::TaskFault;
 use crate::making::copied;
@@ -11,7 +14,7 @@ use crate::oodate::refers;
 use crate::plan::{Nodes, Plan};
 use mk_ast::parse;
 use mk_bytes::{Items, NoMemory, Text, Texts};
-use mk_expand::{ExpandFault, Locals, expand};
+use mk_expand::{ExpandFault, Facts, Locals, expand};
 use mk_flags::Flags;
 use mk_graph::Made;
 use mk_scopes::Scopes;
@@ -50,36 +53,43 @@ fn line_as(alloc: Global, flags: &Flags, compared: bool, value: &[u8]) -> Result
     })
 }
 
-fn line_of(
+fn line_of<F: Facts>(
     alloc: Global,
     scopes: &Scopes,
     locals: &Locals,
     flags: &Flags,
     raw: &[u8],
+    facts: &mut F,
 ) -> Result<TaskLine, ExpandFault>
-    ensures { Agrees no_memory (λ line. line) result
-        (spec.line_of scopes.now locals.now flags.now raw.now) }
+    ensures line { Means (F.asked facts.new) (λ line. (line, F.asked facts.new)) result
+        (λ answers. spec.line_of (setting_of scopes.now (F.lists facts.old) answers) locals.now flags.now
+        (F.asked facts.old) raw.now) }
+    ensures facts { Asks (F.leads facts.old facts.new) (F.lists facts.old) (F.lists facts.new)
+        (F.asked facts.old) (F.asked facts.new) (F.faults facts.old) (F.faults facts.new) result }
 {
     let tree = parse(alloc, raw)?;
-    let value = expand(alloc, scopes, locals, &tree, false)?;
+    let value = expand(alloc, scopes, locals, &tree, facts, false)?;
     Ok(line_as(alloc, flags, !refers(&tree), value.bytes())?)
 }
 
-fn lines_of(
+fn lines_of<F: Facts>(
     alloc: Global,
     scopes: &Scopes,
     locals: &Locals,
     flags: &Flags,
     commands: &Texts,
+    facts: &mut F,
 ) -> Result<Lines, TaskFault>
-    ensures lines { IfOk result (λ lines.
-        spec.lines_from scopes.now locals.now flags.now [] 1 commands.now ≡ Ok lines) }
-    ensures fault { IfErr result (λ fault.
-        IsTaskFault fault (spec.lines_from scopes.now locals.now flags.now [] 1 commands.now)) }
+    ensures lines { MeansLines (F.asked facts.new) (λ lines. (lines, F.asked facts.new)) result
+        (λ answers. spec.lines_from (setting_of scopes.now (F.lists facts.old) answers) locals.now
+        flags.now [] 1 (F.asked facts.old) commands.now) }
+    ensures facts { Asks (F.leads facts.old facts.new) (F.lists facts.old) (F.lists facts.new)
+        (F.asked facts.old) (F.asked facts.new) (F.faults facts.old) (F.faults facts.new)
+        (without_line result) }
 {
     let mut lines = Items::new(alloc, commands.len())?;
     for (place, raw) in commands.as_slice().iter().enumerate() {
-        match line_of(alloc, scopes, locals, flags, raw.bytes()) {
+        match line_of(alloc, scopes, locals, flags, raw.bytes(), facts) {
             Ok(line) => lines.push(line)?,
             Err(what) => {
                 let line = place as u32 + 1;
@@ -143,23 +153,27 @@ fn locals_of(alloc: Global, plan: &Plan, n: u32, oodate: &Texts) -> Result<Local
 /// its sources are newer than it. `@` before a line's text makes it silent, `-` ignored and `+`
 /// always run. A line whose raw text has a reference with the plain name `.OODATE` or `?` anywhere
 /// in it is not compared with that of another build. A fault has the number of its line, the first
-/// such, counted from 1.
-pub fn task(
+/// such, counted from 1; it is `Failed` only where the count of the facts rose in this call or is
+/// at its end.
+pub fn task<F: Facts>(
     alloc: Global,
     plan: &Plan,
     made: &Made,
     n: u32,
     oodate: &Texts,
     flags: &Flags,
+    facts: &mut F,
 ) -> Result<Task, TaskFault>
     requires { n < length plan.now }
-    ensures task { IfOk result (λ task.
-        spec.task_of made.now.scopes plan.now n oodate.now flags.now ≡ Ok task) }
-    ensures fault { IfErr result (λ fault. IsTaskFault fault
-        (spec.task_of made.now.scopes plan.now n oodate.now flags.now)) }
+    ensures task { MeansLines (F.asked facts.new) (λ task. (task, F.asked facts.new)) result
+        (λ answers. spec.task_of (setting_of made.now.scopes (F.lists facts.old) answers) plan.now n
+        oodate.now flags.now (F.asked facts.old)) }
+    ensures facts { Asks (F.leads facts.old facts.new) (F.lists facts.old) (F.lists facts.new)
+        (F.asked facts.old) (F.asked facts.new) (F.faults facts.old) (F.faults facts.new)
+        (without_line result) }
 {
     let locals = locals_of(alloc, plan, n, oodate)?;
-    let lines = lines_of(alloc, &made.scopes, &locals, flags, plan.commands(n))?;
+    let lines = lines_of(alloc, &made.scopes, &locals, flags, plan.commands(n), facts)?;
     Ok(Task {
         lines,
         cwd: Text::from_bytes(alloc, made.scopes.cwd())?,

@@ -5,7 +5,7 @@ use Rattle.mk_bytes.specs.Agrees.{◌>>=◌}
 use Rattle.mk_cli.specs.declared.order.AssignOp.{AssignOp}
 use Rattle.mk_cli.specs.declared.order.AssignOp.TheVariants.{Plain, Append, Default, Now, Shell}
 use Rattle.mk_expand.specs.Locals.{no_locals}
-use Rattle.mk_expand.specs.Value.{value_of_text}
+use Rattle.mk_expand.specs.Value.{unasked_value_of_text}
 use Rattle.mk_expand.specs.declared.fault.ExpandFault.{ExpandFault}
 use Rattle.mk_expand.specs.declared.fault.ExpandFault.TheVariants as expand
 use Rattle.mk_scopes.specs.Scopes.{Variables, raw_value, assigned_in, appended_in}
@@ -29,7 +29,7 @@ refusing (Err fault) = Err (of_expand fault)
 
 -- the value of a text where there are no local names
 abbrev pub value : Variables → Bool → List ℕ → Step (List ℕ)
-value variables keep text = refusing (value_of_text variables no_locals keep text)
+value variables keep text = refusing (unasked_value_of_text variables no_locals keep text)
 
 abbrev pub not_empty : List ℕ → Step (List ℕ)
 not_empty [] = Err (Wrong EmptyName)

@@ -6,7 +6,7 @@ ghost use Rattle.mk_reader.specs.declared.fault.Refusal.TheVariants.{NoMemory as
 use crate::fault::{Refusal, What};
 use mk_bytes::Text;
 use mk_cli::AssignOp;
-use mk_expand::{Locals, value_of_text};
+use mk_expand::{Locals, value_of_text_unasked};
 use mk_scopes::{Class, Scopes};
 use std::alloc::Global;
 
@@ -15,7 +15,7 @@ fn value(alloc: Global, scopes: &Scopes, keep: bool, text: &[u8]) -> Result<Text
     ensures { Agrees no_memory (λ value. value) result (spec.value scopes.now keep text.now) }
 {
     let locals = Locals::none(alloc)?;
-    Ok(value_of_text(alloc, scopes, &locals, text, keep)?)
+    Ok(value_of_text_unasked(alloc, scopes, &locals, text, keep)?)
 }
 
 // The name of a variable, expanded.

@@ -1,12 +1,14 @@
 -- The meaning of a run, by its first steps.
-use Rattle.std.proofs.Common.{◌≡◌, ◌⊎◌, ℕ, List, [], Option, Some, None, Result, Ok, Err}
+use Rattle.std.proofs.Common.{◌≡◌, ◌⊎◌, ℕ, List, [], Option, Some, None, Ok, Err}
 use Rattle.std.proofs.Common.{inl, inr, refl, sym, ap, subst, arith}
 use Rattle.std.proofs.Math.Nat.{lt_irrefl}
 use Rattle.std.proofs.lemmas.List.{append-nil}
 use Rattle.mk_bytes.specs.Agrees.{AgreesErr, AgreesBut}
 use Rattle.mk_cli.specs.declared.order.Order.{Order}
 use Rattle.mk_graph.specs.declared.Made.{Made}
+use Rattle.mk_plan.specs.Asking.{LooksAll, answers_by}
 use Rattle.mk_plan.specs.Plans.{planned}
+use Rattle.mk_plan.specs.Tasks.{setting_of}
 use Rattle.mk_plan.specs.Refusals.{IsRefusedBy}
 use Rattle.mk_plan.specs.declared.fault.PlanFault.{PlanFault}
 use Rattle.mk_plan.specs.declared.fault.PlanFault.TheVariants as plan
@@ -26,10 +28,10 @@ use Rattle.mk_world.proofs.SinkLemmas.{Gains-nothing}
 use Rattle.mk_top.specs.Building.{point, unbuilt}
 use Rattle.mk_top.specs.Causes.{EndCause}
 use Rattle.mk_top.specs.Ends.{IsOutside, of_plan, of_read}
-use Rattle.mk_top.specs.Meaning.{Outcome, Meant, only, builds, ended, asked, meant, by_reading}
-use Rattle.mk_top.specs.Runs.{Printed, Goes, end_of}
+use Rattle.mk_top.specs.Meaning.{Outcome, Meant, only, prints, builds, printed, ended, asked, meant, by_reading}
+use Rattle.mk_top.specs.Runs.{Printed, Goes}
 use Rattle.mk_top.specs.declared.report.End.{End}
-use Rattle.mk_top.specs.declared.report.End.TheVariants.{NoMemory, WorldFault}
+use Rattle.mk_top.specs.declared.report.End.TheVariants.{NoMemory}
 use Rattle.mk_top.proofs.PrintLemmas.{held, Printed-ended, Printed-stopped}
 
 -- nothing was looked at
@@ -67,12 +69,23 @@ outside_fault : (end : End) → IsOutside end
 outside_fault end (inl failed) = (plan.Failed, failed, inl refl)
 outside_fault end (inr want) = (plan.NoMemory, want, inr refl)
 
+looked-none : (h : Option History) → Told h h (LooksAll [])
+looked-none None = tt
+looked-none (Some h) = refl
+
 -- the outside or want of memory may end a run before it does what is meant
 pub Goes-stopped : (meaning : Meaning) (meant : Meant) (end : End) (h : Option History)
     (a : Option (List ℕ)) → IsOutside end
     → Goes meaning meant (point h a) (point h a) (unbuilt end)
 Goes-stopped meaning (only outcome) end h a outside =
     Goes-only meaning outcome h a a end (Printed-stopped outcome end a outside)
+Goes-stopped meaning (prints variables lists all) end h a outside = record {
+  looked = [];
+  told = looked-none h;
+  printed = Printed-stopped (printed (setting_of variables lists (answers_by [])) [] 0 all) end a
+      outside;
+  unbuilt = refl;
+}
 Goes-stopped meaning (builds made flags) end h a outside =
     let refused = outside_fault end outside in
     inl (record {
@@ -116,12 +129,6 @@ EndCause-never failed end n never = record {
   answered = λ rose. absurd (lt_irrefl n rose);
   rose = λ is. absurd (never is);
 }
-
--- prints do not end with a failure of the world
-pub end_of-never : (r : Result (Unit {0}) End) → (r ≡ Err WorldFault → ⊥) → end_of r ≡ WorldFault
-    → ⊥
-end_of-never (Ok done) never is = cc
-end_of-never (Err end) never is = never (ap Err is)
 
 -- what ends a run behind a call that went well
 pub EndCause-behind : {A E : Type 0} (other : E) (failed end : End) (before mid after : ℕ)

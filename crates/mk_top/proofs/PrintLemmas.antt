@@ -1,24 +1,27 @@
 -- What standard output has after some prints.
-use Rattle.std.proofs.Common.{◌≡◌, ◌∷◌, ◌++◌, ℕ, ◌+◌, List, [], Option, inl, inr, refl, ap, subst}
-use Rattle.std.proofs.Common.{Result, Ok, ◌<◌, ◌≤◌, length, drop, get_or, arith}
+use Rattle.std.proofs.Common.{◌≡◌, ◌∷◌, ◌++◌, ℕ, ◌+◌, List, [], Option, inl, inr, refl, ap, subst, ◌∙◌}
+use Rattle.std.proofs.Common.{Result, Ok, Err, ◌⊎◌, ◌<◌, ◌≤◌, length, drop, get_or, arith}
 use Rattle.std.proofs.lemmas.Grind.{common_steps}
 use Rattle.std.proofs.Common.{append_assoc}
-use Rattle.mk_bytes.specs.Agrees.{AgreesErr}
 use Rattle.mk_bytes.specs.Bytes.{newline}
 use Rattle.mk_cli.specs.declared.order.Print.{Print}
 use Rattle.mk_expand.specs.declared.fault.ExpandFault.{ExpandFault}
-use Rattle.mk_expand.specs.declared.fault.ExpandFault.TheVariants.{NoMemory}
-use Rattle.mk_scopes.specs.Scopes.{Variables}
+use Rattle.mk_expand.specs.Facts.{IsOutside as IsOutsideText}
+use Rattle.mk_expand.specs.declared.facts.Asked.{Asked}
+use Rattle.mk_expand.specs.Facts.{Lists}
+use Rattle.mk_expand.proofs.FactLemmas.{asks_nothing}
+use Rattle.mk_expand.specs.Facts.{AsksMore}
+use Rattle.mk_plan.specs.Tasks.{Setting}
 use Rattle.mk_world.specs.Sinks.{Gains, GainsPart}
 use Rattle.mk_world.proofs.SinkLemmas.{Gains-nothing, Gains-then, GainsPart-more, GainsPart-then}
 use Rattle.mk_top.specs.Ends.{IsOutside}
 use Rattle.mk_top.specs.Meaning.{Outcome, ended, line_first, print_end}
 use Rattle.mk_top.specs.Meaning.{before_others, shown, printed}
 use Rattle.mk_top.specs.Runs.{bytes_of, Held, Stands, Printed}
-use Rattle.mk_top.specs.Runs.{PrintedLine}
+use Rattle.mk_top.specs.Runs.{PrintedLine, Questions}
 use Rattle.mk_top.specs.declared.report.End.{End}
 use Rattle.mk_top.specs.declared.report.End.TheVariants.{Done, SinkFault}
-use Rattle.mk_top.specs.declared.report.End.TheVariants.{NoMemory as no_memory}
+use Rattle.mk_top.specs.declared.report.End.TheVariants.{NoMemory as no_memory, WorldFault as world_failed}
 
 abbrev pub held : Option (List ℕ) → Option (List ℕ) → Held
 held before after = record { before = before; after = after }
@@ -78,62 +81,68 @@ Printed-next line others a b c end gains (inr cut) = inr (record {
 })
 
 -- prints from a place on: the first of them, and those behind it
-pub printed-print : (variables : Variables) (i : ℕ) (print : Print) (prints : List Print)
-    → printed variables i (print ∷ prints)
-    ≡ before_others i (shown variables print) (printed variables (i + 1) prints)
+pub printed-print : (s : Setting) (asked : List Asked) (i : ℕ) (print : Print) (prints : List Print)
+    → printed s asked i (print ∷ prints)
+    ≡ before_others i (shown s asked print) (λ now. printed s now (i + 1) prints)
 unfolding printed
-printed-print variables i print prints = refl
+printed-print s asked i print prints = refl
 
-pub printed-none : (variables : Variables) (i : ℕ) → printed variables i [] ≡ ended Done
+pub printed-none : (s : Setting) (asked : List Asked) (i : ℕ) → printed s asked i [] ≡ ended Done
 unfolding printed
-printed-none variables i = refl
+printed-none s asked i = refl
 
 -- what comes of the prints behind one that went well comes of all of them
-pub Printed-behind : (variables : Variables) (i : ℕ) (print : Print) (left prints : List Print)
-    (a b c : Option (List ℕ)) (end : End) → left ≡ print ∷ prints
-    → PrintedLine (shown variables print) (held a b)
-    → Printed (printed variables (i + 1) prints) (held b c) end
-    → Printed (printed variables i left) (held a c) end
-Printed-behind variables i print left prints a b c end is line behind =
-    let here : printed variables i left ≡ line_first line.line (printed variables (i + 1) prints) =
-    rw (is, printed-print variables i print prints, line.is) refl
+pub Printed-behind : (s : Setting) (asked now : List Asked) (i : ℕ) (print : Print)
+    (left prints : List Print) (a b c : Option (List ℕ)) (end : End) → left ≡ print ∷ prints
+    → PrintedLine (shown s asked print) now (held a b)
+    → Printed (printed s now (i + 1) prints) (held b c) end
+    → Printed (printed s asked i left) (held a c) end
+Printed-behind s asked now i print left prints a b c end is line behind =
+    let here : printed s asked i left ≡ line_first line.line (printed s now (i + 1) prints) =
+    rw (is, printed-print s asked i print prints, line.is) refl
     in
-    rw here (Printed-next line.line (printed variables (i + 1) prints) a b c end line.gains behind)
+    rw here (Printed-next line.line (printed s now (i + 1) prints) a b c end line.gains behind)
 
 -- the end at a print's fault is the end of all prints
-pub Printed-at : (variables : Variables) (i : ℕ) (print : Print) (left prints : List Print)
-    (a b : Option (List ℕ)) (end : End) → left ≡ print ∷ prints
-    → ((others : Outcome)
-    → Printed (before_others i (shown variables print) others) (held a b) end)
-    → Printed (printed variables i left) (held a b) end
-Printed-at variables i print left prints a b end is ends =
-    let here : printed variables i left
-    ≡ before_others i (shown variables print) (printed variables (i + 1) prints) =
-    rw is (printed-print variables i print prints)
+pub Printed-at : (s : Setting) (asked : List Asked) (i : ℕ) (print : Print)
+    (left prints : List Print) (a b : Option (List ℕ)) (end : End) → left ≡ print ∷ prints
+    → ((others : List Asked → Outcome)
+    → Printed (before_others i (shown s asked print) others) (held a b) end)
+    → Printed (printed s asked i left) (held a b) end
+Printed-at s asked i print left prints a b end is ends =
+    let here : printed s asked i left
+    ≡ before_others i (shown s asked print) (λ now. printed s now (i + 1) prints) =
+    rw is (printed-print s asked i print prints)
     in
-    rw here (ends (printed variables (i + 1) prints))
+    rw here (ends (λ now. printed s now (i + 1) prints))
 
 -- no print is left
-pub Printed-over : (variables : Variables) (i : ℕ) (left : List Print) (a : Option (List ℕ))
-    → left ≡ [] → Printed (printed variables i left) (held a a) Done
-Printed-over variables i left a is =
-    let here : printed variables i left ≡ ended Done = rw is (printed-none variables i) in
+pub Printed-over : (s : Setting) (asked : List Asked) (i : ℕ) (left : List Print)
+    (a : Option (List ℕ)) → left ≡ [] → Printed (printed s asked i left) (held a a) Done
+Printed-over s asked i left a is =
+    let here : printed s asked i left ≡ ended Done = rw is (printed-none s asked i) in
     rw here (Printed-ended Done a)
 
--- the end of one print: a fault of its own, want of memory, or a write that failed
-pub Printed-fault : (i : ℕ) (fault : ExpandFault) (value : Result (List ℕ) ExpandFault)
-    (others : Outcome) (a : Option (List ℕ)) → AgreesErr NoMemory fault value
+-- the end of one print: a fault of its own, want of memory or of the outside, or a write that failed
+pub Printed-fault : (i : ℕ) (fault : ExpandFault) (value : Result (List ℕ × List Asked) ExpandFault)
+    (others : List Asked → Outcome) (a : Option (List ℕ))
+    → IsOutsideText fault ⊎ (value ≡ Err fault)
     → Printed (before_others i value others) (held a a) (print_end i fault)
-Printed-fault i fault value others a (inl want) =
+Printed-fault i fault value others a (inl (inl want)) =
     let is : print_end i fault ≡ no_memory = rw want refl in
     rw is (Printed-stopped (before_others i value others) no_memory a (inr refl))
+Printed-fault i fault value others a (inl (inr failed)) =
+    let is : print_end i fault ≡ world_failed = rw failed refl in
+    rw is (Printed-stopped (before_others i value others) world_failed a (inl refl))
 Printed-fault i fault value others a (inr is) = rw is (Printed-ended (print_end i fault) a)
 
-pub Printed-cut_line : (i : ℕ) (line : List ℕ) (value : Result (List ℕ) ExpandFault)
-    (others : Outcome) (a b : Option (List ℕ)) → value ≡ Ok line
+pub Printed-cut_line : (i : ℕ) (line : List ℕ) (now : List Asked)
+    (value : Result (List ℕ × List Asked) ExpandFault)
+    (others : List Asked → Outcome) (a b : Option (List ℕ)) → value ≡ Ok (line, now)
     → GainsPart a b (line ++ newline ∷ [])
     → Printed (before_others i value others) (held a b) SinkFault
-Printed-cut_line i line value others a b is part = rw is (Printed-cut line others a b part)
+Printed-cut_line i line now value others a b is part =
+    rw is (Printed-cut line (others now) a b part)
 
 -- the items from a place on, where its item is known, and behind the last one
 pub drop-item : {X : Type 0} (items : List X) (i : ℕ) (item : X) → i < length items
@@ -142,3 +151,26 @@ drop-item items i item within is = grind (arith, common_steps)
 
 pub drop-all : {X : Type 0} (items : List X) (i : ℕ) → length items ≤ i → drop i items ≡ []
 drop-all items i behind = grind (arith, common_steps)
+
+-- no question
+pub questions-none : {leads : Type 0} (stays : leads) (lists : Lists) (asked : List Asked)
+    → Questions leads lists lists asked asked
+questions-none stays lists asked = record { led = stays; lists = refl; asked = asks_nothing asked }
+
+-- questions that are added, one after the other
+asks_both : (a b c : List Asked) → AsksMore a b → AsksMore b c → AsksMore a c
+asks_both a b c first second = record {
+  more = first.more ++ second.more;
+  added = second.added
+      ∙ (ap (λ asked. asked ++ second.more) first.added ∙ append_assoc a first.more second.more);
+}
+
+-- questions, one after the other
+pub questions-then : {one two both : Type 0} {l0 l1 l2 : Lists} {a0 a1 a2 : List Asked}
+    → (one → two → both) → Questions one l0 l1 a0 a1 → Questions two l1 l2 a1 a2
+    → Questions both l0 l2 a0 a2
+questions-then {one} {two} {both} {l0} {l1} {l2} {a0} {a1} {a2} goes_on first second = record {
+  led = goes_on first.led second.led;
+  lists = second.lists ∙ first.lists;
+  asked = asks_both a0 a1 a2 first.asked second.asked;
+}

@@ -10,11 +10,15 @@ use Rattle.mk_cli.specs.declared.order.Usage.TheVariants as usage
 use Rattle.mk_expand.specs.Locals.{no_locals}
 use Rattle.mk_expand.specs.Names.{known}
 use Rattle.mk_expand.specs.Texts.{has_dollar, name_tree}
+use Rattle.mk_expand.specs.Facts.{Lists}
 use Rattle.mk_expand.specs.Value.{value, value_of_text}
+use Rattle.mk_expand.specs.declared.facts.Asked.{Asked}
 use Rattle.mk_expand.specs.declared.fault.ExpandFault.{ExpandFault}
 use Rattle.mk_expand.specs.declared.fault.ExpandFault.TheVariants as expand
 use Rattle.mk_flags.specs.declared.Flags.{Flags}
 use Rattle.mk_graph.specs.declared.Made.{Made}
+use Rattle.mk_plan.specs.Facts.{lists_of}
+use Rattle.mk_plan.specs.Tasks.{Setting}
 use Rattle.mk_reader.specs.Files.{Read}
 use Rattle.mk_reader.specs.Reading.{reading, sought}
 use Rattle.mk_scopes.specs.Scopes.{Variables}
@@ -39,39 +43,46 @@ abbrev pub line_first : List ℕ → Outcome → Outcome
 line_first line others = record { lines = line ∷ others.lines; end = others.end }
 
 -- What a print shows: a text with a `$` expanded, and else the value of the name, which is the raw
--- one for `-V`, or nothing, and for `-v` that of one reference to it.
-abbrev pub shown : Variables → Print → Result (List ℕ) ExpandFault
-shown variables print =
-    if has_dollar print.text then value_of_text variables no_locals false print.text
-    else (if print.full then value variables no_locals false (name_tree print.text)
-    else Ok (unwrap_or (known variables print.text) []))
+-- one for `-V`, or nothing, and for `-v` that of one reference to it. Behind it stand the questions
+-- of `exists` so far.
+abbrev pub shown : Setting → List Asked → Print → Result (List ℕ × List Asked) ExpandFault
+shown s asked print =
+    if has_dollar print.text
+    then value_of_text s.variables no_locals s.lists s.answers false asked print.text
+    else (if print.full
+    then value s.variables no_locals s.lists s.answers false asked (name_tree print.text)
+    else Ok (unwrap_or (known s.variables print.text) [], asked))
 
--- the end at a print's fault; want of memory is what it is everywhere
+-- the end at a print's fault; want of memory and a fault of the outside are what they are everywhere
 abbrev pub print_end : ℕ → ExpandFault → End
 print_end i expand.NoMemory = end.NoMemory
+print_end i expand.Failed = end.WorldFault
 print_end i fault = end.Print i fault
 
 -- the print at place `i`, and those behind it
-abbrev pub before_others : ℕ → Result (List ℕ) ExpandFault → Outcome → Outcome
-before_others i (Ok line) others = line_first line others
+abbrev pub before_others : ℕ → Result (List ℕ × List Asked) ExpandFault → (List Asked → Outcome)
+    → Outcome
+before_others i (Ok shown) others = line_first shown.0 (others shown.1)
 before_others i (Err fault) others = ended (print_end i fault)
 
 -- Prints from place `i` on, each on its line, up to the first that has a fault.
-unfoldable pub printed : Variables → ℕ → List Print → Outcome
-printed variables i [] = ended end.Done
-printed variables i (print ∷ prints) =
-    before_others i (shown variables print) (printed variables (i + 1) prints)
+unfoldable pub printed : Setting → List Asked → ℕ → List Print → Outcome
+printed s asked i [] = ended end.Done
+printed s asked i (print ∷ prints) =
+    before_others i (shown s asked print) (λ now. printed s now (i + 1) prints)
 
--- What is meant: an outcome, or a build of what makefiles say.
+-- What is meant: an outcome, prints of what makefiles say, or a build of it.
 pub data Meant : Type 0 where
   only : (outcome : Outcome) → Meant
+  prints : (variables : Variables) → (lists : Lists) → (all : List Print) → Meant
   builds : (made : Made) → (flags : Flags) → Meant
 
 -- what is done with the makefiles: prints, where there are some, and else a build
 abbrev pub by_mode : Made → Order → List Print → Meant
 by_mode made order [] =
     if is_plain order.flags then builds made order.flags else only (ended (end.Usage 0))
-by_mode made order (print ∷ prints) = only (printed made.scopes 0 (print ∷ prints))
+by_mode made order (print ∷ more) =
+    prints made.scopes (lists_of made.rule order.flags.requested) (print ∷ more)
 
 abbrev pub by_reading : Order → Read Made → Meant
 by_reading order (Ok made) = by_mode made order order.prints

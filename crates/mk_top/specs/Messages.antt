@@ -27,8 +27,12 @@ fault_text expand.TooDeep = codes "nested too deeply"
 fault_text expand.TooManyReferences = codes "too many references"
 fault_text expand.TooLong = codes "value too long"
 fault_text (expand.Tree fault) = tree_text fault
+fault_text (expand.Cond at) = codes "bad condition at " ++ decimal at
+fault_text expand.NoNumber = codes "not a number"
+fault_text expand.Undefined = codes "undefined variable in condition"
 fault_text expand.BadPlace = codes "bad word selection"
 fault_text expand.Unbuilt = codes "form is not built yet"
+fault_text expand.Failed = codes "an outside call failed"
 fault_text expand.NoMemory = codes "out of memory"
 
 abbrev pub what_text : What → List ℕ
@@ -98,6 +102,7 @@ tree_place tree.NoMemory = 0
 
 abbrev pub fault_place : ExpandFault → ℕ
 fault_place (expand.Tree fault) = tree_place fault
+fault_place (expand.Cond at) = at
 fault_place fault = 0
 
 abbrev pub what_place : What → ℕ

@@ -2,8 +2,14 @@
 use Rattle.std.specs.Prelude.{◌≡◌, ◌⊎◌, ℕ, List, [], ◌∷◌, ◌++◌, Option}
 use Rattle.std.specs.Prelude.{Result, Ok, Err}
 use Rattle.mk_bytes.specs.Bytes.{newline}
-use Rattle.mk_expand.specs.declared.fault.ExpandFault.{ExpandFault}
 use Rattle.mk_cli.specs.declared.order.Order.{Order}
+use Rattle.mk_cli.specs.declared.order.Print.{Print}
+use Rattle.mk_expand.specs.Facts.{AsksMore, Lists}
+use Rattle.mk_expand.specs.declared.facts.Asked.{Asked}
+use Rattle.mk_expand.specs.declared.fault.ExpandFault.{ExpandFault}
+use Rattle.mk_plan.specs.Asking.{LooksAll, Seen, answers_by}
+use Rattle.mk_plan.specs.Tasks.{setting_of}
+use Rattle.mk_scopes.specs.Scopes.{Variables}
 use Rattle.mk_reader.specs.Looks.{LooksAlong}
 use Rattle.mk_reader.specs.Reading.{reading, sought}
 use Rattle.mk_scopes.specs.declared.scopes.Env.{Env}
@@ -14,7 +20,7 @@ use Rattle.mk_world.specs.Told.{Told}
 use Rattle.mk_world.specs.declared.history.History.{History}
 use Rattle.mk_top.specs.Building.{Point, point, Builds, unbuilt}
 use Rattle.mk_top.specs.Ends.{IsOutside}
-use Rattle.mk_top.specs.Meaning.{Outcome, Meant, only, builds, meant, by_reading, asked, sought_by}
+use Rattle.mk_top.specs.Meaning.{Outcome, Meant, only, prints, builds, printed as all_printed, meant, by_reading, asked, sought_by}
 use Rattle.mk_top.specs.Messages.{line_of}
 use Rattle.mk_top.specs.declared.building.Went.{Went}
 use Rattle.mk_top.specs.declared.report.End.{End}
@@ -58,11 +64,14 @@ pub record CutShort (meant : Outcome) (out : Held) (end : End) : Type 0 where
 abbrev pub Printed : Outcome → Held → End → Type 0
 Printed meant out end = Whole meant out end ⊎ CutShort meant out end
 
--- a print went well: its line and a newline are on standard output
-pub record PrintedLine (shown : Result (List ℕ) ExpandFault) (out : Held) : Type 0 where
-  pub line : List ℕ
-  pub is : shown ≡ Ok line
-  pub gains : Gains out.before out.after (line ++ newline ∷ [])
+-- a print went well, behind which these questions stand: its line and a newline are on standard
+-- output
+pub record PrintedLine (shown : Result (List ℕ × List Asked) ExpandFault) (asked : List Asked)
+    (out : Held) : Type 0
+  where
+    pub line : List ℕ
+    pub is : shown ≡ Ok (line, asked)
+    pub gains : Gains out.before out.after (line ++ newline ∷ [])
 
 -- The line of an end is written last: standard error has it, or a part of it from its beginning.
 abbrev pub Closed : List (List ℕ) → End → Held → End → Type 0
@@ -75,15 +84,27 @@ abbrev pub end_of : Result (Unit {0}) End → End
 end_of (Ok done) = Done
 end_of (Err end) = end
 
--- a run that prints, or ends before it builds: it builds nothing, and nothing in the world changes
+-- a run that ends before it prints or builds: nothing in the world changes
 pub record Only (outcome : Outcome) (first last : Point) (went : Went) : Type 0 where
   pub printed : Printed outcome (record { before = first.out; after = last.out }) went.end
   pub unbuilt : went ≡ unbuilt went.end
   pub same : Told first.history last.history Same
 
+-- A run that prints: what it prints is meant by the answers to its questions of `exists`, each of
+-- which was a look at the path's time. It builds nothing, and nothing else in the world changes.
+pub record PrintsAll (variables : Variables) (lists : Lists) (all : List Print) (first last : Point)
+    (went : Went) : Type 0
+  where
+    pub looked : List Seen
+    pub told : Told first.history last.history (LooksAll looked)
+    pub printed : Printed (all_printed (setting_of variables lists (answers_by looked)) [] 0 all)
+        (record { before = first.out; after = last.out }) went.end
+    pub unbuilt : went ≡ unbuilt went.end
+
 -- what a run of this meaning does behind the reading
 abbrev pub Goes : Meaning → Meant → Point → Point → Went → Type 0
 Goes meaning (only outcome) first last went = Only outcome first last went
+Goes meaning (prints variables lists all) first last went = PrintsAll variables lists all first last went
 Goes meaning (builds made flags) first last went = Builds meaning made flags first last went
 
 -- Reading looks at the makefiles alone, in order; what follows depends on the files that it finds.
@@ -114,3 +135,11 @@ pub record IsRun (meaning : Meaning) (words : List (List ℕ)) (env : Env) (firs
     pub closed : Closed words went.end err report.end
     pub plan : report.plan ≡ went.plan
     pub events : report.events ≡ went.events
+
+-- What a call asks of the facts: they lead from one to the other, the lists stay, and questions are
+-- only added.
+pub record Questions (leads : Type 0) (old_lists new_lists : Lists) (old new : List Asked) : Type 0
+  where
+    pub led : leads
+    pub lists : new_lists ≡ old_lists
+    pub asked : AsksMore old new

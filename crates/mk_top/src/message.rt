@@ -32,6 +32,7 @@ fn fault_place(fault: &ExpandFault) -> usize
 {
     match fault {
         ExpandFault::Tree(tree) => tree_place(tree),
+        ExpandFault::Cond(at) => *at,
         _ => 0,
     }
 }
@@ -69,8 +70,12 @@ fn fault_text<'t>(fault: &'t ExpandFault, at: &'t [u8]) -> [&'t [u8]; 3]
         ExpandFault::TooManyReferences => [b"too many references", b"", b""],
         ExpandFault::TooLong => [b"value too long", b"", b""],
         ExpandFault::Tree(tree) => tree_text(tree, at),
+        ExpandFault::Cond(_) => [b"bad condition at ", at, b""],
+        ExpandFault::NoNumber => [b"not a number", b"", b""],
+        ExpandFault::Undefined => [b"undefined variable in condition", b"", b""],
         ExpandFault::BadPlace => [b"bad word selection", b"", b""],
         ExpandFault::Unbuilt => [b"form is not built yet", b"", b""],
+        ExpandFault::Failed => [b"an outside call failed", b"", b""],
         ExpandFault::NoMemory => [b"out of memory", b"", b""],
     }
 }

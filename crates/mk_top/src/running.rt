@@ -1,6 +1,7 @@
 //! A run: the words of the command line, a world and two sinks in; a report out.
 ghost use Rattle.std.specs.Prelude.{◌≡◌, [], IsTrue};
 ghost use Rattle.mk_bytes.specs.Paths.{is_clean_directory};
+ghost use Rattle.mk_plan.specs.Facts.{lists_of};
 ghost use Rattle.mk_top.specs.Building.{point};
 ghost use Rattle.mk_top.specs.Causes.{EndCause, LineCause, WorldCause, SinkCause};
 ghost use Rattle.mk_top.specs.Ends as ends;
@@ -19,6 +20,7 @@ use crate::words::asked;
 use mk_bytes::Texts;
 use mk_cli::Order;
 use mk_graph::Made;
+use mk_plan::MadeFacts;
 use mk_reader::read;
 use mk_scopes::Env;
 use mk_world::{Sink, World};
@@ -32,6 +34,31 @@ fn end_of(went: Result<(), End>) -> End
         Ok(()) => End::Done,
         Err(end) => end,
     }
+}
+
+// Prints what the words ask for. What conditions ask is asked of the makefiles and of the world.
+fn print_made<W: World, S: Sink>(
+    alloc: Global,
+    made: &Made,
+    order: &Order,
+    world: &mut W,
+    out: &mut S,
+) -> Went
+    requires idle { W.runs world.old [] }
+    ensures prints { runs.PrintsAll made.now.scopes
+        (lists_of made.now.rule order.now.flags.requested) order.now.prints
+        (point (W.history world.old) (S.held out.old))
+        (point (W.history world.new) (S.held out.new)) result }
+    ensures world_cause { EndCause world_failed (W.faults world.old) (W.faults world.new)
+        result.end }
+    ensures sink_cause { EndCause sink_failed (S.faults out.old) (S.faults out.new) result.end }
+    ensures idle { W.runs world.new [] }
+{
+    let mut questions = Vec::new(alloc);
+    let requested = &order.flags.requested;
+    let mut facts = MadeFacts::new(made, requested, world, &mut questions);
+    let went = print_all(alloc, &made.scopes, &order.prints, &mut facts, out);
+    unbuilt(alloc, end_of(went))
 }
 
 // Does with the makefiles what the words ask for: prints, where there are some, and else a build.
@@ -52,10 +79,7 @@ fn by_mode<W: World, S: Sink>(
     ensures idle { W.runs world.new [] }
 {
     if !order.prints.is_empty() {
-        return unbuilt(
-            alloc,
-            end_of(print_all(alloc, &made.scopes, &order.prints, out)),
-        );
+        return print_made(alloc, made, order, world, out);
     }
     if !is_plain(&order.flags) {
         return unbuilt(alloc, End::Usage(0));

@@ -1,40 +1,55 @@
 use Rattle.std.proofs.Common.{◌≡◌, ◌∙◌, ◌+◌, [], ◌∷◌, drop, arith, rules, subst, sym}
 use Rattle.std.proofs.lemmas.Grind.{common_steps}
+use Rattle.mk_expand.proofs.FactLemmas.{earlier, Asks-ok, Asks-then}
 use Rattle.mk_plan.proofs.TaskLemmas.{lines_from-end, lines_from-line, lines_from-fault}
 use Rattle.mk_plan.specs.Refusals.{IsTaskFault}
+use Rattle.mk_plan.specs.Tasks.{setting_of}
 use Rattle.mk_plan.proofs.tasks.lines_of.Goals as goal
 
-pub returns-in-Err-clause-fault : goal.returns-in-Err-clause-fault
-returns-in-Err-clause-fault c =
-    let place = c.loop-place.place in
+pub returns-in-Err-clause-lines : goal.returns-in-Err-clause-lines
+returns-in-Err-clause-lines g c =
+    let l = c.loop-place in
+    let place = l.place in
     let commands = c.args.commands.now in
     let raw = c.bytes.result.now in
     let are : drop place commands ≡ raw ∷ drop (place + 1) commands = grind (arith, common_steps) in
+    λ answers by.
+    let before = earlier _ _ answers c.in-Err.ensures.facts.asked by in
+    let setting = setting_of c.args.scopes.now (g.F.Facts.lists c.args.facts.now) answers in
+    let line = rw l.invariant.facts.lists at (c.in-Err.ensures.line answers by) in
     subst (IsTaskFault (record { line = place + 1; what = c.in-Err.what }))
-    (sym c.loop-place.invariant.same)
-    (lines_from-fault c.args.scopes.now c.args.locals.now c.args.flags.now c.loop-place.lines
-    (place + 1) (drop place commands) raw (drop (place + 1) commands) c.in-Err.what are
-    c.in-Err.ensures)
+    (sym (l.invariant.same answers before))
+    (lines_from-fault setting c.args.locals.now c.args.flags.now l.lines (place + 1)
+    (g.F.Facts.asked l.facts) (drop place commands) raw (drop (place + 1) commands) c.in-Err.what are
+    line)
 
 pub loop-place-preserved : goal.loop-place-preserved
-loop-place-preserved c =
-    let place = c.loop-place.place in
+loop-place-preserved g c =
+    let l = c.loop-place in
+    let place = l.place in
     let commands = c.args.commands.now in
     let raw = c.bytes.result.now in
     let are : drop place commands ≡ raw ∷ drop (place + 1) commands = grind (arith, common_steps) in
     record {
-      same = rw c.in_ok-push-in-Ok.ensures.ok (c.loop-place.invariant.same
-          ∙ lines_from-line c.args.scopes.now c.args.locals.now c.args.flags.now c.loop-place.lines
-          (place + 1) (drop place commands) raw (drop (place + 1) commands) c.in-Ok.line are
-          c.in-Ok.ensures);
+      same = λ answers by.
+          let before = earlier _ _ answers c.in-Ok.ensures.facts.asked by in
+          let setting = setting_of c.args.scopes.now (g.F.Facts.lists c.args.facts.now) answers in
+          let line = rw l.invariant.facts.lists at (c.in-Ok.ensures.line answers by) in
+          rw c.in_ok-push-in-Ok.ensures.ok (l.invariant.same answers before
+          ∙ lines_from-line setting c.args.locals.now c.args.flags.now l.lines (place + 1)
+          (g.F.Facts.asked l.facts) (g.F.Facts.asked c.line_of.new.facts) (drop place commands) raw
+          (drop (place + 1) commands) c.in-Ok.line are line);
+      facts = Asks-then (g.met.F.Facts.goes_on _ _ _) l.invariant.facts
+          (Asks-ok tt c.in-Ok.ensures.facts);
       items = search rules;
     }
 
 pub returns-clause-lines : goal.returns-clause-lines
-returns-clause-lines c =
-    let place = c.loop-place.place in
+returns-clause-lines g c =
+    let l = c.loop-place in
     let commands = c.args.commands.now in
-    let none : drop place commands ≡ [] = grind (arith, common_steps) in
-    c.loop-place.invariant.same ∙ rw none
-    (lines_from-end c.args.scopes.now c.args.locals.now c.args.flags.now c.loop-place.lines
-    (place + 1))
+    let none : drop l.place commands ≡ [] = grind (arith, common_steps) in
+    λ answers by.
+    l.invariant.same answers by ∙ rw none
+    (lines_from-end (setting_of c.args.scopes.now (g.F.Facts.lists c.args.facts.now) answers)
+    c.args.locals.now c.args.flags.now l.lines (l.place + 1) (g.F.Facts.asked l.facts))

@@ -6,11 +6,12 @@ pub returns-in_err-write_value-in-Ok-clause-end : goal.returns-in_err-write_valu
 returns-in_err-write_value-in-Ok-clause-end g c =
     let p = err_from_is_err_and c.from_residual.result c.from_residual.ensures.1 in
     rw (p.1, p.2)
-    (λ others.
-    Printed-cut_line c.args.i c.bytes.result.now _ others _ _
-    (rw c.bytes.ensures.value c.in-Ok.ensures) c.in_err-write_value-in-Ok.ensures.cut)
+    (λ answers by others.
+    Printed-cut_line c.args.i c.bytes.result.now (g.F.Facts.asked c.shown.new.facts) _ others _ _
+    (rw (← c.bytes.ensures.value) at (c.in-Ok.ensures.value answers by))
+    c.in_err-write_value-in-Ok.ensures.cut)
 
 pub returns-in-Err-clause-end : goal.returns-in-Err-clause-end
 returns-in-Err-clause-end g c =
-    λ others. rw c.print_fault.ensures
-    (Printed-fault c.args.i c.in-Err.fault _ others _ c.in-Err.ensures)
+    λ answers by others. rw c.print_fault.ensures
+    (Printed-fault c.args.i c.in-Err.fault _ others _ (c.in-Err.ensures.value answers by))

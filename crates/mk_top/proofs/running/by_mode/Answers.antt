@@ -9,6 +9,6 @@ returns-then-not-is_plain-clause-goes g c =
     let none : c.args.order.now.prints ≡ [] = c.is_empty.ensures.0 c.if-not-is_empty.false in
     let plain : is_plain c.args.order.now.flags ≡ false =
     sym c.is_plain.ensures ∙ c.if-not-is_plain.true in
-    rw (none, plain, c.unbuilt-then-not-is_plain.ensures)
+    rw (none, plain, c.unbuilt.ensures)
     (Goes-ended g.W.World.meaning (Usage 0) (g.W.World.history c.args.world.now)
     (g.S.Sink.held c.args.out.now))

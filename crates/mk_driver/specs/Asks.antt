@@ -1,0 +1,18 @@
+-- The task of a node, with what its conditions asked of the world.
+use Rattle.std.specs.Prelude.{List, map, Option, Result}
+use Rattle.mk_bytes.specs.Agrees.{AgreesBut}
+use Rattle.mk_expand.specs.declared.facts.Asked.{Asked}
+use Rattle.mk_plan.specs.Asking.{LooksAll, Seen, as_asked}
+use Rattle.mk_plan.specs.Refusals.{IsFree}
+use Rattle.mk_plan.specs.declared.fault.TaskFault.{TaskFault}
+use Rattle.mk_world.specs.Told.{Told}
+use Rattle.mk_world.specs.declared.command.Task.{Task}
+use Rattle.mk_world.specs.declared.history.History.{History}
+
+-- Make looked at these paths alone, for `exists`; the task is the one that they define.
+pub record TaskAsked (before after : Option History) (result : Result Task TaskFault)
+    (defined : List Seen → Result (Task × List Asked) TaskFault) : Type 0
+  where
+    pub looked : List Seen
+    pub told : Told before after (LooksAll looked)
+    pub task : AgreesBut IsFree (λ task. (task, map as_asked looked)) result (defined looked)

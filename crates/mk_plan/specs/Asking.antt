@@ -1,0 +1,83 @@
+-- What questions of `exists` leave in a world that runs no child: looks at times.
+use Rattle.std.specs.Prelude.{◌≡◌, ℕ, Bool, not, List, [], ◌∷◌, ◌++◌, map, Option, Some, None, false, slice_get}
+use Rattle.std.proofs.Common.{refl, sym, ap, subst, ◌∙◌, append_assoc}
+use Rattle.std.proofs.lemmas.List.{append-nil, map-append}
+use Rattle.mk_expand.specs.Facts.{Answers}
+use Rattle.mk_expand.specs.declared.facts.Asked.{Asked}
+use Rattle.mk_world.specs.Calls.{when_of}
+use Rattle.mk_world.specs.History.{state_of}
+use Rattle.mk_world.specs.Told.{Told}
+use Rattle.mk_world.specs.declared.history.Happening.TheVariants.{Look}
+use Rattle.mk_world.specs.declared.history.History.{History}
+use Rattle.mk_world.specs.declared.time.When.{When}
+use Rattle.mk_plan.specs.Looks.{is_missing_time}
+
+-- one look: a path, and its time
+pub record Seen : Type 0 where
+  pub path : List ℕ
+  pub when : When
+
+-- what a look answers to `exists`
+abbrev pub as_asked : Seen → Asked
+as_asked one = record { path = one.path; answer = not (is_missing_time one.when) }
+
+abbrev pub told_at : Option Seen → Bool
+told_at None = false
+told_at (Some one) = not (is_missing_time one.when)
+
+-- these looks answer, in order
+abbrev pub answers_by : List Seen → Answers
+answers_by looked place path = told_at (slice_get looked place)
+
+-- make looked at one path, was told what stands there, and nothing else happened
+pub record LooksOnce (one : Seen) (old new : History) : Type 0 where
+  pub base : new.base ≡ old.base
+  pub event : new.events ≡ old.events ++ Look one.path ∷ []
+  pub told : one.when ≡ when_of ((state_of old).files one.path)
+
+-- make looked so, at one path after the other
+abbrev pub LooksAll : List Seen → History → History → Type 0
+LooksAll [] old new = new ≡ old
+LooksAll (one ∷ more) old new = (mid : History) × LooksOnce one old mid × LooksAll more mid new
+
+-- Each question was a look at the path's time, and nothing else happened.
+pub record Asking (before after : Option History) (old new : List Asked) : Type 0 where
+  pub looked : List Seen
+  pub added : new ≡ old ++ map as_asked looked
+  pub told : Told before after (LooksAll looked)
+
+-- no question
+
+told-none : (told : Option History) → Told told told (LooksAll [])
+told-none None = tt
+told-none (Some history) = refl
+
+pub asking_none : (told : Option History) (asked : List Asked) → Asking told told asked asked
+asking_none told asked =
+    record { looked = []; added = sym (append-nil asked); told = told-none told }
+
+-- one question after the other
+
+looks-then : (a b c : History) (first second : List Seen)
+    → LooksAll first a b → LooksAll second b c → LooksAll (first ++ second) a c
+looks-then a b c [] second same more = subst (λ h. LooksAll second h c) same more
+looks-then a b c (one ∷ first) second looks more =
+    (looks.0, looks.1, looks-then looks.0 b c first second looks.2 more)
+
+told-then : (a b c : Option History) (first second : List Seen)
+    → Told a b (LooksAll first) → Told b c (LooksAll second) → Told a c (LooksAll (first ++ second))
+told-then a b None first second looks more = tt
+told-then a None (Some z) first second looks more = absurd more
+told-then None (Some y) (Some z) first second looks more = absurd looks
+told-then (Some x) (Some y) (Some z) first second looks more =
+    looks-then x y z first second looks more
+
+pub asking_then : (a b c : Option History) (old mid new : List Asked)
+    → Asking a b old mid → Asking b c mid new → Asking a c old new
+asking_then a b c old mid new first second = record {
+  looked = first.looked ++ second.looked;
+  added = second.added ∙ (ap (λ l. l ++ map as_asked second.looked) first.added
+      ∙ (append_assoc old (map as_asked first.looked) (map as_asked second.looked)
+      ∙ ap (λ l. old ++ l) (sym (map-append as_asked first.looked second.looked))));
+  told = told-then a b c first.looked second.looked first.told second.told;
+}

@@ -1,0 +1,186 @@
+//! What conditions ask of the makefiles that were read and of the world.
+ghost use Rattle.std.specs.Prelude.{◌≡◌, [], true, false, IsTrue, IfOk, IfErr, OnErr};
+ghost use Rattle.std.specs.List.{list_any};
+ghost use Rattle.mk_expand.specs.Facts.{IsTold, asked_with, is_fact, is_listed};
+ghost use Rattle.mk_expand.specs.declared.facts.FactFault.TheVariants.{Failed, Unbuilt};
+ghost use Rattle.mk_glob.specs.Patterns as patterns;
+ghost use Rattle.mk_cond.specs.declared.cond.Fun.TheVariants.{Exists as exists};
+ghost use Rattle.mk_plan.specs.Asking.{Asking};
+ghost use Rattle.mk_plan.specs.Facts as spec;
+ghost use Rattle.mk_world.specs.Causes.{HasCause};
+
+use crate::making::is_missing_time;
+use mk_bytes::{Text, Texts};
+use mk_cond::Fun;
+use mk_expand::{Asked, FactFault, Facts};
+use mk_glob::matches;
+use mk_graph::{Made, Rule};
+use mk_world::{World, WorldFault};
+use std::alloc::Global;
+
+/// What conditions ask: `make` of the requested names, or of the main target where there is none,
+/// `target` and `commands` of the rules that were read, and `exists` of the world, where it is asked
+/// for the time of a path. Its questions are kept with their answers.
+#[derive(Drop)]
+pub struct MadeFacts<'a, W: World> {
+    made: &'a Made,
+    requested: &'a Texts,
+    world: &'a mut W,
+    asked: &'a mut Vec<Asked>,
+}
+
+fn of_world(fault: WorldFault) -> FactFault
+    ensures { result ≡ spec.of_world fault }
+{
+    match fault {
+        WorldFault::Failed => FactFault::Failed,
+        WorldFault::NoMemory => FactFault::NoMemory,
+    }
+}
+
+fn is_among(names: &Texts, pattern: &[u8]) -> bool
+    ensures { result ≡ list_any (patterns.matches pattern.now) names.now }
+{
+    names
+        .as_slice()
+        .iter()
+        .any(|name| matches(pattern, name.bytes()))
+}
+
+// Whether a pattern matches a requested name, or the main target where none is requested.
+fn is_wanted(rule: &Option<Rule>, requested: &Texts, pattern: &[u8]) -> bool
+    ensures { result ≡ list_any (patterns.matches pattern.now)
+        (spec.wanted_of rule.now requested.now) }
+{
+    if !requested.is_empty() {
+        return is_among(requested, pattern);
+    }
+    match rule {
+        Some(rule) => matches(pattern, rule.target.bytes()),
+        None => false,
+    }
+}
+
+fn is_target(rule: &Option<Rule>, name: &[u8]) -> bool
+    ensures { result ≡ is_listed (spec.targets_of rule.now) name.now }
+{
+    match rule {
+        Some(rule) => rule.target.bytes() == name,
+        None => false,
+    }
+}
+
+fn has_commands(rule: &Option<Rule>, name: &[u8]) -> bool
+    ensures { result ≡ is_listed (spec.commanded_of rule.now) name.now }
+{
+    match rule {
+        Some(rule) if !rule.commands.is_empty() => rule.target.bytes() == name,
+        _ => false,
+    }
+}
+
+impl<'a, W: World> MadeFacts<'a, W> {
+    /// The facts of what was read, for these requested names, in this world, behind these questions.
+    pub fn new(
+        made: &'a Made,
+        requested: &'a Texts,
+        world: &'a mut W,
+        asked: &'a mut Vec<Asked>,
+    ) -> MadeFacts<'a, W>
+        ensures same_reference { result.world.ghost_name ≡ world.entry.ghost_name }
+        ensures world { result.world.now ≡ world.old }
+        ensures made { result.made.now ≡ made.now }
+        ensures requested { result.requested.now ≡ requested.now }
+        ensures asked { result.asked.now.items ≡ asked.old.items }
+    {
+        MadeFacts {
+            made,
+            requested,
+            world,
+            asked,
+        }
+    }
+
+    // Asks the world for the time of a path.
+    fn exists(&mut self, alloc: Global, path: &[u8]) -> Result<bool, FactFault>
+        ensures asked { IfOk result (λ answer.
+            self.new.asked.now.items ≡ asked_with self.old.asked.now.items exists path.now answer) }
+        ensures refused { OnErr result (self.new.asked.now.items ≡ self.old.asked.now.items) }
+        ensures made { self.new.made.now ≡ self.old.made.now }
+        ensures requested { self.new.requested.now ≡ self.old.requested.now }
+        ensures built { IfErr result (λ fault. fault ≡ Unbuilt → ⊥) }
+        ensures cause { HasCause Failed (W.faults self.old.world.now) (W.faults self.new.world.now) result }
+        ensures same_reference { self.new.world.ghost_name ≡ self.old.world.ghost_name }
+        ensures asking { W.runs self.old.world.now [] → Asking (W.history self.old.world.now)
+            (W.history self.new.world.now) self.old.asked.now.items self.new.asked.now.items }
+        ensures idle { W.runs self.old.world.now [] → W.runs self.new.world.now [] }
+    {
+        let path = Text::from_bytes(alloc, path)?;
+        if self.asked.reserve(1).is_err() {
+            return Err(FactFault::NoMemory);
+        }
+        match self.world.time(alloc, path.bytes()) {
+            Ok(when) => {
+                let answer = !is_missing_time(&when);
+                self.asked.push(Asked { path, answer }).unwrap();
+                Ok(answer)
+            }
+            Err(fault) => Err(of_world(fault)),
+        }
+    }
+}
+
+impl<'a, W: World> Facts for MadeFacts<'a, W> {
+    ghost use Rattle.std.specs.Prelude.{◌≡◌, []};
+    ghost use Rattle.std.proofs.Common.{refl, ◌∙◌};
+    ghost use Rattle.mk_plan.specs.Facts.{lists_of};
+    ghost use Rattle.mk_plan.specs.Asking.{Asking, asking_none, asking_then};
+
+    ghost lists = { λ facts. lists_of facts.made.now.rule facts.requested.now };
+
+    ghost asked = { λ facts. facts.asked.now.items };
+
+    ghost faults = { λ facts. W.faults facts.world.now };
+
+    ghost leads = { λ old new. (new.world.ghost_name ≡ old.world.ghost_name)
+        × (W.runs old.world.now [] → Asking (W.history old.world.now) (W.history new.world.now)
+        old.asked.now.items new.asked.now.items × W.runs new.world.now []) };
+
+    fn fact(&mut self, alloc: Global, fun: Fun, argument: &[u8]) -> Result<bool, FactFault>
+        requires { IsTrue (is_fact fun) }
+        ensures told { IfOk result (λ answer.
+            IsTold (spec.lists_of self.old.made.now.rule self.old.requested.now) fun argument.now answer) }
+        ensures asked { IfOk result (λ answer.
+            self.new.asked.now.items ≡ asked_with self.old.asked.now.items fun argument.now answer) }
+        ensures refused { OnErr result (self.new.asked.now.items ≡ self.old.asked.now.items) }
+        ensures built { IfOk result (λ answer.
+            (spec.lists_of self.old.made.now.rule self.old.requested.now).built ≡ true) }
+        ensures unbuilt { IfErr result (λ fault. fault ≡ Unbuilt
+            → (spec.lists_of self.old.made.now.rule self.old.requested.now).built ≡ false) }
+        ensures lists { spec.lists_of self.new.made.now.rule self.new.requested.now
+            ≡ spec.lists_of self.old.made.now.rule self.old.requested.now }
+        ensures cause { HasCause Failed (W.faults self.old.world.now) (W.faults self.new.world.now) result }
+        ensures leads { (self.new.world.ghost_name ≡ self.old.world.ghost_name)
+            × (W.runs self.old.world.now [] → Asking (W.history self.old.world.now)
+            (W.history self.new.world.now) self.old.asked.now.items self.new.asked.now.items
+            × W.runs self.new.world.now []) }
+    {
+        match fun {
+            Fun::Make => Ok(is_wanted(&self.made.rule, self.requested, argument)),
+            Fun::Exists => self.exists(alloc, argument),
+            Fun::Target => Ok(is_target(&self.made.rule, argument)),
+            Fun::Commands => Ok(has_commands(&self.made.rule, argument)),
+            Fun::Defined => Ok(false),
+            Fun::Empty => Ok(false),
+        }
+    }
+
+    ghost stays = { λ facts. (refl, λ idle. (asking_none _ _, idle)) };
+
+    ghost goes_on = { λ a b c first second. (
+      second.0 ∙ first.0,
+      λ idle.
+          let one = first.1 idle in let more = second.1 one.1 in
+          (asking_then _ _ _ _ _ _ one.0 more.0, more.1),
+    ) };
+}
