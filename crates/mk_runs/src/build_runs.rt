@@ -21,7 +21,7 @@ pub struct Case {
 const TWO: [(&str, &str); 2] = [("a", "1\n"), ("b", "2\n")];
 
 /// Builds.
-pub const CASES: [Case; 10] = [
+pub const CASES: [Case; 13] = [
     Case {
         shows: "a failed read of the makefile",
         makefile: "L=1\n",
@@ -158,5 +158,38 @@ pub const CASES: [Case; 10] = [
         err: "bmake: an outside call failed\n",
         status: 3,
         events: &[Kept(0), Start(1, 1), Wait],
+    },
+    Case {
+        shows: "a failed look of a print",
+        makefile: "",
+        files: &[],
+        words: &["-V", "A", "-V", "${exists(makefile):?y:n}", "-V", "A"],
+        fails: &[(CallKind::Time, 1)],
+        out: "last\n",
+        err: "bmake: an outside call failed\n",
+        status: 3,
+        events: &[],
+    },
+    Case {
+        shows: "commands that ask for files and targets",
+        makefile: "t: a\n\tsay ${exists(b):?y:n}${exists(t):?y:n}${make(t):?y:n}${commands(a):?y:n}\n",
+        files: &TWO,
+        words: &[],
+        fails: &[],
+        out: "say ynyn\nynyn\n",
+        err: "",
+        status: 0,
+        events: &[Kept(0), Start(1, 1), Wait, End(1, 1, 0)],
+    },
+    Case {
+        shows: "a failed look of a command",
+        makefile: "t: a\n\tput t x\n\tsay ${exists(b):?y:n}\n",
+        files: &TWO,
+        words: &[],
+        fails: &[(CallKind::Time, 4)],
+        out: "",
+        err: "bmake: an outside call failed\n",
+        status: 3,
+        events: &[Kept(0)],
     },
 ];

@@ -4,11 +4,13 @@ ghost use Rattle.mk_world.specs.History.{state_of, tickets_of};
 
 use crate::runs::{environment, pairs, sink, texts, world};
 use mk_bytes::{Items, NoMemory, Text};
+use mk_cond::Fun;
 use mk_driver::{BuildResult, Event, build};
+use mk_expand::Facts;
 use mk_flags::Flags;
 use mk_graph::{Made, Rule};
 use mk_memworld::MemWorld;
-use mk_plan::{Plan, PlanFault, make_plan, task};
+use mk_plan::{MadeFacts, Plan, PlanFault, make_plan, task};
 use mk_scopes::Scopes;
 use mk_world::TaskLine;
 use std::alloc::Global;
@@ -113,16 +115,49 @@ fn are_lines(lines: &[TaskLine]) -> bool {
     wanted
 }
 
-fn has_lines(alloc: Global, plan: &Plan, made: &Made) -> Result<bool, NoMemory> {
+fn has_lines(
+    alloc: Global,
+    world: &mut MemWorld,
+    plan: &Plan,
+    made: &Made,
+) -> Result<bool, NoMemory> {
     let newer = texts(alloc, &["a"])?;
     let flags = flags(alloc)?;
     if plan.len() < 2 {
         return Ok(false);
     }
-    match task(alloc, plan, made, 1, &newer, &flags) {
+    let mut asked = Vec::new(alloc);
+    let mut facts = MadeFacts::new(made, &flags.requested, world, &mut asked);
+    match task(alloc, plan, made, 1, &newer, &flags, &mut facts) {
         Ok(task) => Ok(are_lines(task.lines.as_slice())),
         Err(_) => Ok(false),
     }
+}
+
+// A function of a condition, its argument, whether names are requested, and the answer.
+const FACTS: [(Fun, &[u8], bool, bool); 10] = [
+    (Fun::Target, b"t", false, true),
+    (Fun::Target, b"a", false, false),
+    (Fun::Commands, b"t", false, true),
+    (Fun::Commands, b"a", false, false),
+    (Fun::Exists, b"a", false, true),
+    (Fun::Exists, b"q", false, false),
+    (Fun::Make, b"?", false, true),
+    (Fun::Make, b"x*", false, false),
+    (Fun::Make, b"x*", true, true),
+    (Fun::Make, b"t", true, false),
+];
+
+fn are_told(alloc: Global, world: &mut MemWorld, made: &Made) -> Result<bool, NoMemory> {
+    let mut told = true;
+    for row in &FACTS {
+        let (fun, argument, named, wanted) = *row;
+        let requested = texts(alloc, if named { &["xy"] } else { &[] })?;
+        let mut asked = Vec::new(alloc);
+        let mut facts = MadeFacts::new(made, &requested, world, &mut asked);
+        told = told && facts.fact(alloc, fun, argument) == Ok(wanted);
+    }
+    Ok(told)
 }
 
 fn is_built(rt: &impl Abort, alloc: Global, plan: &Plan, made: &Made) -> Result<bool, NoMemory> {
@@ -141,7 +176,9 @@ fn plans_tasks_and_builds_succeed(rt: HostRuntime) -> Result<(), Fail> {
     let made = made(rt.alloc())?;
     assert!(rt; is_planned(&rt, rt.alloc(), &made));
     let plan = plan(&rt, rt.alloc(), &made).expect(&rt, "a plan");
-    assert!(rt; has_lines(rt.alloc(), &plan, &made)?);
+    let mut world = one_file(&rt, rt.alloc())?;
+    assert!(rt; has_lines(rt.alloc(), &mut world, &plan, &made)?);
+    assert!(rt; are_told(rt.alloc(), &mut world, &made)?);
     assert!(rt; is_built(&rt, rt.alloc(), &plan, &made)?);
     Ok(())
 }

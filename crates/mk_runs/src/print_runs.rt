@@ -8,7 +8,7 @@ pub const ENVIRONMENT: Files = &[("A", "first"), ("A", "last"), ("E", "<$C>"), (
 pub type Print = (&'static str, &'static str, Words, &'static str);
 
 /// What is printed.
-pub const PRINTS: [Print; 39] = [
+pub const PRINTS: [Print; 43] = [
     (
         "a reference of itself stays when it is set",
         "D:=${D} x\n",
@@ -20,6 +20,39 @@ pub const PRINTS: [Print; 39] = [
         "W=a b c\n",
         &["-V", "${W:ts,:[2..1]} ${W:S/b/&&/:H} ${U:Ux}"],
         "b,a . . . x\n",
+    ),
+    (
+        "a condition in a name, with the variable set",
+        "",
+        &["X=y", "-V", "${${X} == \"y\":?yes:no}"],
+        "yes\n",
+    ),
+    (
+        "a body for each word",
+        "W=a b c\n",
+        &["-V", "${W:@v@${v}-${W:[#]}@} ${:U1 2:@v@<$v>@}"],
+        "a-3 b-3 c-3 <1> <2>\n",
+    ),
+    (
+        "files, and targets with their commands",
+        "t: s\n\tcat t s\n",
+        &[
+            "-V",
+            "${exists(makefile):?y:n}${exists(./x/../makefile):?y:n}${exists(t):?y:n}",
+            "-V",
+            "${exists():?y:n}${target(./t):?y:n}${target(s):?y:n}${commands(t):?y:n}",
+        ],
+        "yyn\nnyny\n",
+    ),
+    (
+        "what is to be made: the main target, or the targets that are asked for",
+        "t: s\n",
+        &[
+            "-V",
+            "${make(?):?y:n}${make(t):?y:n}${make(a*):?y:n}",
+            "abc",
+        ],
+        "nny\n",
     ),
     (
         "an undefined variable is an empty line",

@@ -5,7 +5,7 @@ use crate::runs::Words;
 pub type Refusal = (&'static str, &'static str, Words, &'static str);
 
 /// What is refused.
-pub const REFUSALS: [Refusal; 42] = [
+pub const REFUSALS: [Refusal; 45] = [
     (
         "a variable of itself",
         "B=$(B)\n",
@@ -13,10 +13,28 @@ pub const REFUSALS: [Refusal; 42] = [
         "bmake: variable B is recursive\n",
     ),
     (
-        "a modifier that is not built yet",
-        "A=1\n",
-        &["-v", "${A:?x:y}"],
-        "bmake: form is not built yet\n",
+        "a fact in a makefile, which is not built yet",
+        "A:=${exists(q):?x:y}\n",
+        &["-v", "A"],
+        "bmake: \"makefile\" line 1: form is not built yet\n",
+    ),
+    (
+        "a condition without its left side",
+        "",
+        &["-V", "${${X} == \"y\":?yes:no}"],
+        "bmake: bad condition at 1\n",
+    ),
+    (
+        "a text that is no number",
+        "",
+        &["-V", "${a < 1:?y:n}"],
+        "bmake: not a number\n",
+    ),
+    (
+        "an undefined side",
+        "",
+        &["-V", "${$${X} == 1:?y:n}"],
+        "bmake: undefined variable in condition\n",
     ),
     (
         "a reference of itself that has stayed",

@@ -2,8 +2,6 @@
 #![tactic(auto)]
 
 #[cfg(test)]
-mod chains;
-#[cfg(test)]
 mod children;
 #[cfg(test)]
 mod command_line;
@@ -31,9 +29,5 @@ mod pool;
 mod references;
 #[cfg(test)]
 mod texts;
-#[cfg(test)]
-mod values;
-#[cfg(test)]
-mod variables;
 #[cfg(test)]
 mod words;

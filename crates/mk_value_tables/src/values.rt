@@ -2,7 +2,7 @@
 use crate::variables::environment;
 use mk_ast::AstFault::{self, Unclosed};
 use mk_bytes::{Items, NoMemory, Text, Texts};
-use mk_expand::{ExpandFault, Locals, expand, name_tree, value_of_text};
+use mk_expand::{ExpandFault, Locals, expand_unasked, name_tree, value_of_text_unasked};
 use mk_scopes::{Class, Scopes};
 use std::alloc::Global;
 use std::test::Fail;
@@ -38,7 +38,7 @@ fn has_value(
     text: &[u8],
     wanted: &[u8],
 ) -> bool {
-    match value_of_text(alloc, scopes, locals, text, keep) {
+    match value_of_text_unasked(alloc, scopes, locals, text, keep) {
         Ok(value) => value.bytes() == wanted,
         Err(_) => false,
     }
@@ -108,7 +108,7 @@ fn is_wanted(fault: &ExpandFault, wanted: Wanted) -> bool {
 }
 
 fn has_fault(alloc: Global, scopes: &Scopes, locals: &Locals, text: &[u8], wanted: Wanted) -> bool {
-    match value_of_text(alloc, scopes, locals, text, false) {
+    match value_of_text_unasked(alloc, scopes, locals, text, false) {
         Ok(_) => false,
         Err(fault) => is_wanted(&fault, wanted),
     }
@@ -134,7 +134,11 @@ const FAULTS: [(&str, &[u8], Wanted); 9] = [
         Wanted::Tree(Unclosed(1)),
     ),
     ("the other way round", b"$R$N", Wanted::Recursive(b"R")),
-    ("a modifier", b"$A${A:?x:y}$R", Wanted::Unbuilt),
+    (
+        "a fact that nobody tells",
+        b"$A${exists(q):?x:y}$R",
+        Wanted::Unbuilt,
+    ),
     (
         "a value comes before its modifiers",
         b"${R:[x]}",
@@ -206,7 +210,7 @@ fn name_has_value(alloc: Global, scopes: &Scopes, name: &[u8], wanted: &[u8]) ->
     let (Ok(locals), Ok(tree)) = (Locals::none(alloc), name_tree(alloc, name)) else {
         return false;
     };
-    match expand(alloc, scopes, &locals, &tree, false) {
+    match expand_unasked(alloc, scopes, &locals, &tree, false) {
         Ok(value) => value.bytes() == wanted,
         Err(_) => false,
     }
@@ -251,7 +255,7 @@ fn long_scopes(alloc: Global) -> Result<Scopes, NoMemory> {
 }
 
 fn has_length(alloc: Global, scopes: &Scopes, locals: &Locals, text: &[u8], length: usize) -> bool {
-    match value_of_text(alloc, scopes, locals, text, false) {
+    match value_of_text_unasked(alloc, scopes, locals, text, false) {
         Ok(value) => value.len() == length,
         Err(_) => false,
     }
