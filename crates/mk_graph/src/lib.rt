@@ -1,11 +1,25 @@
 //! What the makefiles leave: the variables, and how targets are made (NetBSD make(1), "FILE
 //! DEPENDENCY SPECIFICATIONS").
 //!
-//! There is one rule today, and no graph of several.
+//! A [`Graph`] holds nodes in order of first mention. The program does not use it yet: [`Made`]
+//! has one rule, and no graph of several.
 #![tactic(auto)]
 
+mod attr;
+mod graph;
+mod links;
+mod lists;
+mod macros;
+mod mode;
+mod walk;
+
+pub use attr::Attr;
+pub use graph::Graph;
+pub use lists::{Nodes, Preds};
 use mk_bytes::{Text, Texts};
 use mk_scopes::Scopes;
+pub use mode::Mode;
+pub use walk::cycle;
 
 /// How one target is made.
 #[derive(Debug, Drop)]

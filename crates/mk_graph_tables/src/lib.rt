@@ -1,6 +1,10 @@
-//! Tests of single calls on dependency lines, as tables: what a row shows, the input, and the
-//! answer that is wanted.
+//! Tests of single calls on dependency lines, graphs and suffix rules, as tables: what a row shows,
+//! the input, and the answer that is wanted.
 #![tactic(auto)]
 
 #[cfg(test)]
 mod dependency_lines;
+#[cfg(test)]
+mod graphs;
+#[cfg(test)]
+mod suffixes;

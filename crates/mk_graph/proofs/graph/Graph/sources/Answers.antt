@@ -1,0 +1,24 @@
+use Rattle.std.proofs.Common.{sym, ap, arith}
+use Rattle.mk_graph.proofs.ViewLemmas.{within_links, node_is, sources_below}
+use Rattle.mk_graph.specs.Nodes.{Node}
+use Rattle.mk_graph.proofs.graph.Graph.sources.Goals as goal
+
+pub index-requires : goal.index-requires
+index-requires c =
+    let nodes = c.self.inside.nodes in
+    omega (
+      arith,
+      nodes.ok.0,
+      within_links c.self.inside.names nodes.items _ c.self.invariant c.self.view_is _ c.requires,
+    )
+
+pub returns-clause-value : goal.returns-clause-value
+returns-clause-value c =
+    ap (λ (node : Node). node.sources)
+    (sym (node_is c.self.inside.names c.self.inside.nodes.items c.args.self.now c.self.invariant
+    c.self.view_is c.args.n c.index.result.now c.requires c.index.ensures))
+
+pub returns-clause-within : goal.returns-clause-within
+returns-clause-within c =
+    sources_below c.self.inside.names c.self.inside.nodes.items c.args.self.now c.self.invariant
+    c.self.view_is c.args.n c.index.result.now c.requires c.index.ensures

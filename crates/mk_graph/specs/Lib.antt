@@ -1,0 +1,12 @@
+pub mod Closed
+pub mod Macros
+pub mod Marks
+pub mod Nodes
+pub mod Numbers
+pub mod PartView
+pub mod Parts
+pub mod StepCounts
+pub mod StepView
+pub mod Steps
+pub mod View
+pub mod Walks
