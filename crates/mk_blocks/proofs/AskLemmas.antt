@@ -1,0 +1,106 @@
+-- Questions about lines.
+use Rattle.std.proofs.Common.{◌≡◌, ℕ, inl, inr, List, [], Ok, Err, sym, ap, subst}
+use Rattle.mk_lines.specs.declared.line.LogLine.{LogLine}
+use Rattle.mk_blocks.specs.Languages.{LineMeaning, Question}
+use Rattle.mk_blocks.specs.Meaning.{asked, with_state}
+use Rattle.mk_blocks.specs.FileFaults.{in_place}
+use Rattle.mk_blocks.specs.Runs.{Reads, Run, run_at}
+use Rattle.mk_blocks.specs.Outcomes.{Outcome, silent, done}
+use Rattle.mk_blocks.specs.Ties.{Answers, Does, Goes, Placed, Refuses, Ties, failure_in, sorted}
+use Rattle.mk_blocks.specs.Turns.{Turn, in_turns}
+use Rattle.mk_blocks.specs.declared.fault.FileFault.{FileFault}
+use Rattle.mk_blocks.specs.declared.fault.LanguageFault.{LanguageFault}
+use Rattle.mk_blocks.specs.declared.fault.LanguageFault.TheVariants.{Wrong, Failed, NoMemory}
+use Rattle.mk_blocks.proofs.TieLemmas.{Goes-bind, Refuses-bind}
+
+module _ {X W F : Type 0} (ties : Ties X W F) (name : List ℕ) (number : ℕ) where
+  Goes-in_place : {B : Type 0} {x y : X} {o p : Outcome B W}
+      → Goes ties x y o p → Goes ties x y (in_place {F = F} name number o) (in_place name number p)
+  Goes-in_place goes = record {
+    messages = goes.messages;
+    written = goes.written;
+    is = ap (in_place name number) goes.is;
+  }
+
+  -- all messages that are written before a fault are those of its line
+  written_whole : {B : Type 0} {x y : X} {what : W} {o : Outcome B W}
+      → Goes ties x y o (silent (Err what)) → ties.writes_part x y o.messages
+  written_whole {x = x} {y = y} goes =
+      subst (λ (ms : List (List ℕ)). ties.writes_part x y ms)
+      (sym (ap (λ p. p.messages) goes.is)) (ties.part_of_more [] (ties.part_of_whole goes.written))
+
+  placed_fault : {B : Type 0} (x y : X) (fault : LanguageFault W F) (found : FileFault W F)
+      (o : Outcome B W)
+      → Refuses ties x y fault o → Placed name number fault found
+      → Refuses ties x y (sorted found) (in_place {F = F} name number o)
+  placed_fault x y (Wrong what) found o goes (inl want) =
+      subst (λ (f : FileFault W F). Refuses ties x y (sorted f) (in_place {F = F} name number o))
+      (sym want) (written_whole goes)
+  placed_fault x y (Wrong what) found o goes (inr is) =
+      subst (λ (f : FileFault W F). Refuses ties x y (sorted f) (in_place {F = F} name number o))
+      (sym is) (Goes-in_place goes)
+  placed_fault x y (Failed failure) found o part is =
+      subst (λ (f : FileFault W F). Refuses ties x y (sorted f) (in_place {F = F} name number o))
+      (sym is) part
+  placed_fault x y NoMemory found o part is =
+      subst (λ (f : FileFault W F). Refuses ties x y (sorted f) (in_place {F = F} name number o))
+      (sym is) part
+
+  placed_failure : (x y : X) (fault : LanguageFault W F) (found : FileFault W F)
+      → ties.leads (failure_in fault) x y → Placed name number fault found
+      → ties.leads (failure_in (sorted found)) x y
+  placed_failure x y (Wrong what) found leads (inl want) =
+      subst (λ (f : FileFault W F). ties.leads (failure_in (sorted f)) x y) (sym want) leads
+  placed_failure x y (Wrong what) found leads (inr is) =
+      subst (λ (f : FileFault W F). ties.leads (failure_in (sorted f)) x y) (sym is) leads
+  placed_failure x y (Failed failure) found leads is =
+      subst (λ (f : FileFault W F). ties.leads (failure_in (sorted f)) x y) (sym is) leads
+  placed_failure x y NoMemory found leads is =
+      subst (λ (f : FileFault W F). ties.leads (failure_in (sorted f)) x y) (sym is) leads
+
+module _ {X W F A B : Type 0} (ties : Ties X W F) {x y : X}
+    (question : LineMeaning ties.State W → Question B ties.State W) (view : A → B) (name : List ℕ)
+    (turns : List Turn) (l : LogLine) (count number : ℕ) (text : List ℕ)
+  where
+    -- the answer of a language to a question about a line in these turns
+    pub asked-ok : (given : A)
+        → number ≡ l.first → text ≡ in_turns turns l.text
+        → Answers ties x y question view name number text (Ok given)
+        → Does ties sorted x y
+        (λ answers given. done (view given, run_at (ties.state y) count)) (Ok given)
+        (λ answers. asked {F = F} (question (ties.meaning answers)) name turns l
+        (run_at (ties.state x) count))
+    asked-ok given first same answer = record {
+      leads = answer.leads;
+      gives = λ answers agrees.
+          let goes : Goes ties x y
+          (question (ties.meaning answers) name l.first (in_turns turns l.text) (ties.state x))
+          (silent (Ok (view given, ties.state y))) =
+          rw (← first, ← same) (answer.gives answers agrees) in
+          Goes-bind ties (λ g. done (with_state (run_at (ties.state x) count) g))
+          (Goes-in_place ties name l.first goes);
+    }
+
+    -- or its fault
+    pub asked-err : (fault : LanguageFault W F) (found : FileFault W F)
+        {C : Type 0} {rest : ties.Answers → C → Reads W F (B × Run ties.State)}
+        → number ≡ l.first → text ≡ in_turns turns l.text
+        → Answers ties x y question view name number text (Err fault)
+        → Placed name number fault found
+        → Does ties sorted x y rest (Err found)
+        (λ answers. asked (question (ties.meaning answers)) name turns l
+        (run_at (ties.state x) count))
+    asked-err fault found first same answer placed = record {
+      leads = placed_failure ties name number x y fault found answer.leads placed;
+      gives = λ answers agrees.
+          let refuses : Refuses ties x y fault
+          (question (ties.meaning answers) name l.first (in_turns turns l.text)
+          (ties.state x)) =
+          rw (← first, ← same) (answer.gives answers agrees) in
+          let at : Placed name l.first fault found = rw (← first) placed in
+          Refuses-bind ties x y (sorted found)
+          (in_place name l.first
+          (question (ties.meaning answers) name l.first (in_turns turns l.text) (ties.state x)))
+          (λ g. done (with_state (run_at (ties.state x) count) g))
+          (placed_fault ties name l.first x y fault found _ refuses at);
+    }

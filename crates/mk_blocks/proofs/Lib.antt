@@ -1,0 +1,16 @@
+mod AskLemmas
+mod BlockLemmas
+mod ClosingLemmas
+mod FileLemmas
+mod FitLemmas
+mod IncludeLemmas
+mod LineLemmas
+mod LoopLemmas
+mod OutcomeLemmas
+mod PlaceLemmas
+mod Rows
+mod RunLemmas
+mod SkipLemmas
+mod Small
+mod TieLemmas
+mod TurnLemmas

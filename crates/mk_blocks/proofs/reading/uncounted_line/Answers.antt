@@ -1,0 +1,44 @@
+use Rattle.std.proofs.Common.{refl, arith}
+use Rattle.std.proofs.lemmas.Result.{err_from_is_err_and}
+use Rattle.mk_blocks.specs.Blocks.{parse}
+use Rattle.mk_blocks.specs.Ties.{sorted}
+use Rattle.mk_blocks.proofs.LineLemmas.{line-uncounted, line_next}
+use Rattle.mk_blocks.proofs.FitLemmas.{Fits-less, IsInside-same}
+use Rattle.mk_blocks.proofs.TieLemmas.{first-err, first-ok}
+use Rattle.mk_blocks.proofs.reading.uncounted_line.Goals as goal
+
+pub returns-in_err-step-clause-does : goal.returns-in_err-step-clause-does
+returns-in_err-step-clause-does g c =
+    let ties = g.L.Language.ties in
+    let p = err_from_is_err_and c.from_residual.result c.from_residual.ensures.1 in
+    let place = c.args.place.now in
+    let q = parse ties.kind place.cursor in
+    rw (p.1, p.2)
+    (first-err ties sorted
+    (line_next ties c.args.file.now place.loops place.depth c.args.line.now q c.args.language.now
+    c.args.count)
+    (line-uncounted ties c.args.file.now place.loops place.depth c.args.line.now q
+    c.args.language.now c.args.count)
+    c.in_err-step.ensures)
+
+pub returns-clause-does : goal.returns-clause-does
+returns-clause-does g c =
+    let ties = g.L.Language.ties in
+    let place = c.args.place.now in
+    let q = parse ties.kind place.cursor in
+    first-ok ties sorted
+    (line_next ties c.args.file.now place.loops place.depth c.args.line.now q c.args.language.now
+    c.args.count)
+    (line-uncounted ties c.args.file.now place.loops place.depth c.args.line.now q
+    c.args.language.now c.args.count)
+    _ (λ answers. refl) c.in_ok-step.ensures
+
+pub returns-clause-place : goal.returns-clause-place
+returns-clause-place g c =
+    let place = c.args.place.now in
+    record {
+      inside = IsInside-same g.L.Language.ties.kind place.loops place.depth place.depth _ _ refl
+          c.requires.inside;
+      fits = Fits-less place.loops place.depth _ _ place.depth c.requires.fits (omega arith)
+          (omega arith);
+    }

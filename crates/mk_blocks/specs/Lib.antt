@@ -1,0 +1,14 @@
+pub mod Blocks
+pub mod Branches
+pub mod Calls
+pub mod FileFaults
+pub mod Languages
+pub mod Meaning
+pub mod OpenBlocks
+pub mod Outcomes
+pub mod Places
+pub mod Runs
+pub mod Skips
+pub mod Texts
+pub mod Ties
+pub mod Turns
