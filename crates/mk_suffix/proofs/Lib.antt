@@ -1,0 +1,14 @@
+pub mod AmongLemmas
+pub mod ExtendLemmas
+pub mod ExtendsLemmas
+pub mod FirstLemmas
+pub mod FoundLemmas
+pub mod FreshLemmas
+pub mod LeftLemmas
+pub mod LevelLemmas
+pub mod LookLemmas
+pub mod MadeLemmas
+pub mod NameLemmas
+pub mod Rows
+pub mod SearchLemmas
+pub mod WayLemmas

@@ -1,0 +1,10 @@
+pub mod Chains
+pub mod Extends
+pub mod Faults
+pub mod Found
+pub mod Looks
+pub mod Made
+pub mod NameView
+pub mod Names
+pub mod Search
+pub mod SearchView

@@ -1,0 +1,36 @@
+use mk_bytes::NoMemory;
+use mk_world::WorldFault;
+
+/// Why there is no answer.
+#[derive(Clone, Copy, Debug, PartialEq, Eq)]
+pub enum SuffixFault {
+    /// A call of the world failed.
+    Failed,
+    /// Memory ran out.
+    NoMemory,
+}
+
+impl From<NoMemory> for SuffixFault {
+    ghost use Rattle.std.specs.Prelude.{◌≡◌};
+    ghost use Rattle.mk_suffix.specs.declared.fault.SuffixFault.TheVariants.{NoMemory as no_memory};
+
+    ghost from_gives = { λ _ fault. fault ≡ no_memory };
+
+    fn from(_: NoMemory) -> SuffixFault {
+        SuffixFault::NoMemory
+    }
+}
+
+impl From<WorldFault> for SuffixFault {
+    ghost use Rattle.std.specs.Prelude.{◌≡◌};
+    ghost use Rattle.mk_suffix.specs.Faults.{of_world};
+
+    ghost from_gives = { λ given fault. fault ≡ of_world given };
+
+    fn from(fault: WorldFault) -> SuffixFault {
+        match fault {
+            WorldFault::Failed => SuffixFault::Failed,
+            WorldFault::NoMemory => SuffixFault::NoMemory,
+        }
+    }
+}

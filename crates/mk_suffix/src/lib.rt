@@ -1,0 +1,16 @@
+//! Suffix rules (NetBSD make(1), "FILE DEPENDENCY SPECIFICATIONS" and `.SUFFIXES`): by which chain
+//! of them a file is made from one that is there.
+#![tactic(auto)]
+
+mod chain;
+mod fault;
+mod found;
+mod name;
+mod rule;
+mod search;
+mod step;
+
+pub use chain::Chain;
+pub use fault::SuffixFault;
+pub use name::prefix_of;
+pub use search::resolve;

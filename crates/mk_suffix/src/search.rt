@@ -1,0 +1,178 @@
+//! The search for a chain of rules: it goes from the suffix of the target to those from which a
+//! rule leads there, and so on, and reaches each suffix once.
+ghost use Rattle.std.specs.Prelude.{◌≡◌, ◌<◌, [], length, IsTrue, IfOk, IfSome, OnErr};
+ghost use Rattle.std.specs.Option.{option_map};
+ghost use Rattle.mk_depline.specs.Names.{is_among};
+ghost use Rattle.mk_suffix.specs.Chains as spec;
+ghost use Rattle.mk_suffix.specs.Extends.{AreWays, IsStepFrom, GoesOn, Went, Found};
+ghost use Rattle.mk_suffix.specs.Found.{is_found};
+ghost use Rattle.mk_suffix.specs.Looks.{OnLooks, OnlyLooked};
+ghost use Rattle.mk_suffix.specs.Made.{IsFor};
+ghost use Rattle.mk_suffix.specs.declared.fault.SuffixFault.TheVariants.{Failed as failed};
+ghost use Rattle.mk_world.specs.Causes.{HasCause};
+
+use crate::chain::Chain;
+use crate::fault::SuffixFault;
+use crate::found::is_found;
+use crate::name::{suffix_of, without_end};
+use crate::rule::{joined, rule_between};
+use crate::step::{Search, Step};
+use mk_bytes::{NoMemory, Text, Texts};
+use mk_graph::Graph;
+use mk_world::World;
+use std::alloc::Global;
+
+// The step from a suffix to that at a place, where a rule leads there and the suffix was not reached
+// before.
+fn step_from<'s>(
+    alloc: Global,
+    graph: &Graph,
+    known: &[Text],
+    search: &Search<'s>,
+    suffix: &'s [u8],
+    at: usize,
+) -> Result<Option<Step<'s>>, NoMemory>
+    requires { at < length search.now }
+    ensures { IfOk result (λ step.
+        IsStepFrom graph.now known.now search.now suffix.now at step) }
+{
+    let Some(rule) = rule_between(alloc, graph, known, suffix, search.suffix(at))? else {
+        return Ok(None);
+    };
+    if search.has_reached(suffix) {
+        return Ok(None);
+    }
+    let to = at;
+    Ok(Some(Step { suffix, rule, to }))
+}
+
+// Reaches a suffix, if a rule leads from it to that at a place and it was not reached before. Where
+// its file is found, it is not reached, and the step from it is answered.
+fn reach<'s, W: World>(
+    alloc: Global,
+    graph: &Graph,
+    known: &[Text],
+    base: &[u8],
+    search: &mut Search<'s>,
+    suffix: &'s [u8],
+    at: usize,
+    world: &mut W,
+) -> Result<Option<Step<'s>>, SuffixFault>
+    requires place { at < length search.old }
+    requires known { IsTrue (is_among known.now suffix.now) }
+    requires idle { W.runs world.old [] }
+    ensures goes_on { IfOk result (λ hit.
+        GoesOn graph.now known.now search.old search.new at suffix.now hit) }
+    ensures told { IfOk result (λ hit. OnLooks (W.history world.old) (W.history world.new)
+        (λ files. Found (is_found files graph.now) base.now search.old search.new hit)) }
+    ensures refused { OnErr result (OnlyLooked (W.history world.old) (W.history world.new)) }
+    ensures cause { HasCause failed (W.faults world.old) (W.faults world.new) result }
+    ensures idle { W.runs world.new [] }
+{
+    let Some(step) = step_from(alloc, graph, known, search, suffix, at)? else {
+        return Ok(None);
+    };
+    let name = joined(alloc, base, suffix)?;
+    if is_found(alloc, graph, name.bytes(), world)? {
+        return Ok(Some(step));
+    }
+    search.push(step)?;
+    Ok(None)
+}
+
+// Reaches the suffixes from which a rule leads to that at a place, in the order in which they are
+// known, up to the first whose file is found: the step from that one is answered.
+fn extend<'s, W: World>(
+    alloc: Global,
+    graph: &Graph,
+    known: &'s [Text],
+    base: &[u8],
+    search: &mut Search<'s>,
+    at: usize,
+    world: &mut W,
+) -> Result<Option<Step<'s>>, SuffixFault>
+    requires place { at < length search.old }
+    requires ways { AreWays graph.now search.old }
+    requires idle { W.runs world.old [] }
+    ensures went { IfOk result (λ hit.
+        Went graph.now known.now search.old search.new at [] hit) }
+    ensures told { IfOk result (λ hit. OnLooks (W.history world.old) (W.history world.new)
+        (λ files. Found (is_found files graph.now) base.now search.old search.new hit)) }
+    ensures refused { OnErr result (OnlyLooked (W.history world.old) (W.history world.new)) }
+    ensures cause { HasCause failed (W.faults world.old) (W.faults world.new) result }
+    ensures idle { W.runs world.new [] }
+{
+    for suffix in known {
+        let suffix = suffix.bytes();
+        if let Some(step) = reach(alloc, graph, known, base, search, suffix, at, world)? {
+            return Ok(Some(step));
+        }
+    }
+    Ok(None)
+}
+
+// The first chain of rules to the suffix of a name of this base whose source is found.
+fn first_found<'s, W: World>(
+    alloc: Global,
+    graph: &Graph,
+    known: &'s [Text],
+    base: &[u8],
+    own: &'s [u8],
+    world: &mut W,
+) -> Result<Option<Chain>, SuffixFault>
+    requires idle { W.runs world.old [] }
+    ensures told { IfOk result (λ chain. OnLooks (W.history world.old) (W.history world.new)
+        (λ files. option_map (spec.chain_of graph.now base.now)
+        (spec.first_found (is_found files graph.now) graph.now known.now base.now own.now)
+        ≡ chain)) }
+    ensures made { IfOk result (λ chain. IfSome chain (IsFor graph.now)) }
+    ensures refused { OnErr result (OnlyLooked (W.history world.old) (W.history world.new)) }
+    ensures cause { HasCause failed (W.faults world.old) (W.faults world.new) result }
+    ensures idle { W.runs world.new [] }
+{
+    let mut search = Search::new(alloc, own)?;
+    let mut at = 0;
+    'suffixes: while at < search.len() {
+        if let Some(step) = extend(alloc, graph, known, base, &mut search, at, world)? {
+            let chain = search.chain(alloc, base, step)?;
+            return Ok(Some(chain));
+        }
+        at += 1;
+    }
+    Ok(None)
+}
+
+/// The chain of suffix rules by which a name is made.
+///
+/// The suffix of a name is the longest known one that its last component ends with and is longer
+/// than; the base is the name without it. A chain leads from a source, the base with another known
+/// suffix, by a rule from each suffix to the next, to the name; it has each suffix once. Shorter
+/// chains come first, and those of one length by the places of their suffixes in `suffixes`, the
+/// one nearest to the name first. The first chain is chosen whose source is a target, or is an
+/// existing file and not phony.
+///
+/// `None` exactly where there is no such chain. `Failed` comes only where the world's count of
+/// faults rose or is at its end, and `NoMemory` where memory runs out.
+pub fn resolve<W: World>(
+    alloc: Global,
+    graph: &Graph,
+    suffixes: &Texts,
+    name: &[u8],
+    world: &mut W,
+) -> Result<Option<Chain>, SuffixFault>
+    requires idle { W.runs world.old [] }
+
+    // Where the world tells, the answer is the chosen chain, by the files that it tells of.
+    ensures told { IfOk result (λ chain. OnLooks (W.history world.old) (W.history world.new)
+        (λ files. spec.choice files graph.now suffixes.now name.now ≡ chain)) }
+    ensures made { IfOk result (λ chain. IfSome chain (IsFor graph.now)) }
+    ensures refused { OnErr result (OnlyLooked (W.history world.old) (W.history world.new)) }
+    ensures cause { HasCause failed (W.faults world.old) (W.faults world.new) result }
+    ensures idle { W.runs world.new [] }
+{
+    let known = suffixes.as_slice();
+    let Some(own) = suffix_of(known, name) else {
+        return Ok(None);
+    };
+    first_found(alloc, graph, known, without_end(name, own), own, world)
+}
