@@ -1,8 +1,12 @@
-pub mod FaultLemmas
-pub mod FileLemmas
-pub mod LookLemmas
-pub mod PieceLemmas
-pub mod ReadLemmas
+mod CondLemmas
+mod FileLemmas
+mod GaveLemmas
+mod LineLemmas
+mod MomentLemmas
+mod QuestionLemmas
+mod ReadLemmas
 mod Rows
-pub mod SignLemmas
-pub mod SoughtLemmas
+mod SignLemmas
+mod StepLemmas
+mod TieLemmas
+mod VariableLemmas

@@ -1,12 +1,12 @@
 -- Dependency lines (make(1), "FILE DEPENDENCY SPECIFICATIONS"), of the one form that is built: one
 -- target, a colon, and sources, all of them plain names.
 use Rattle.std.specs.Prelude.{ℕ, Bool, false, not, is_some, ◌==◌, ◌&&◌, ◌||◌, List, [], ◌∷◌, map}
-use Rattle.std.specs.Prelude.{filter, position, Option, Some, None, if◌then◌else◌}
-use Rattle.std.specs.List.{list_all, list_any, slice_split, before_first, after_first}
+use Rattle.std.specs.Prelude.{position, Option, Some, None, if◌then◌else◌}
+use Rattle.std.specs.List.{list_all, list_any, before_first, after_first}
 use Rattle.std.specs.Str.{bytes_eq}
 use Rattle.mk_bytes.specs.Bytes as bytes
 use Rattle.mk_bytes.specs.Paths.{clean}
-use Rattle.mk_bytes.specs.Words.{is_white}
+use Rattle.mk_directive.specs.Words.{words_of}
 use Rattle.mk_graph.specs.declared.Rule.{Rule}
 use Rattle.mk_reader.specs.Assignments.{without_blanks}
 
@@ -22,24 +22,6 @@ is_plain_name (byte ∷ name) = not (byte == bytes.dot) && list_all is_plain_byt
 
 abbrev pub is_colon : ℕ → Bool
 is_colon byte = byte == bytes.colon
-
-abbrev pub is_some_text : List ℕ → Bool
-is_some_text text = not (bytes_eq text [])
-
--- what stands before, between and behind the white space of a text
-abbrev pub pieces : List ℕ → List (List ℕ)
-pieces text = slice_split is_white text
-
-abbrev pub pieces_behind : Option (List ℕ) → List (List ℕ)
-pieces_behind None = []
-pieces_behind (Some rest) = pieces rest
-
-abbrev pub words_among : List (List ℕ) → List (List ℕ)
-words_among texts = filter is_some_text texts
-
--- the words of a text
-abbrev pub words_of : List ℕ → List (List ℕ)
-words_of text = words_among (pieces text)
 
 abbrev pub is_among : List (List ℕ) → List ℕ → Bool
 is_among names name = list_any (λ one. bytes_eq one name) names

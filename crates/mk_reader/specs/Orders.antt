@@ -1,38 +1,42 @@
 -- What the words of a command line set before any makefile is read.
-use Rattle.std.specs.Prelude.{ℕ, false, List, [], ◌∷◌, None, Ok, codes}
-use Rattle.mk_bytes.specs.Agrees.{◌>>=◌}
+use Rattle.std.specs.Prelude.{ℕ, false, List, [], ◌∷◌, None, codes}
+use Rattle.mk_blocks.specs.Outcomes.{◌>>=◌}
 use Rattle.mk_cli.specs.declared.order.Order.{Order}
 use Rattle.mk_cli.specs.declared.order.Set.{Set}
 use Rattle.mk_expand.specs.Locals.{spaced}
-use Rattle.mk_scopes.specs.Scopes.{Variables, assigned_in, first_scopes}
+use Rattle.mk_scopes.specs.Scopes.{first_scopes}
 use Rattle.mk_scopes.specs.declared.scopes.Class.{Class}
 use Rattle.mk_scopes.specs.declared.scopes.Class.TheVariants.{Global, Command}
 use Rattle.mk_scopes.specs.declared.scopes.Env.{Env}
-use Rattle.mk_reader.specs.Files.{Read, at_line}
-use Rattle.mk_reader.specs.Variables.{Step, assigned_by, set_by}
-use Rattle.mk_reader.specs.declared.state.State.{State}
+use Rattle.mk_reader.specs.Moments.{Doing, Moment, stands}
+use Rattle.mk_reader.specs.Questions.{Answers}
+use Rattle.mk_reader.specs.Variables.{assigned_at, assigned_by, set_by}
+
+-- the environment, no rule, and no question
+abbrev pub first_moment : Env → Order → Moment
+first_moment env order = record {
+  made = record { scopes = first_scopes env order.env_first; rule = None };
+  in_group = false;
+  order = order;
+  asked = [];
+  read = 0;
+  ran = 0;
+}
 
 -- The name of a variable of the command line is expanded, and that of `-D` is taken as it is.
-abbrev pub set_of : Variables → Class → Set → Step Variables
-set_of variables Command set = assigned_by variables Command set.op set.name set.value
-set_of variables Global set = set_by variables Global set.op set.name set.value
+abbrev pub set_of : Answers → Class → Set → Moment → Doing (Unit {0})
+set_of answers Command set s = assigned_by answers Command set.op set.name set.value s
+set_of answers Global set s = set_by answers Global set.op set.name set.value s
 
 -- the assignments of a command line in order
-abbrev pub all_set : Variables → List Set → Step Variables
-all_set variables [] = Ok variables
-all_set variables (set ∷ sets) =
-    set_of variables set.class set >>= λ next. all_set next sets
+abbrev pub all_set : Answers → List Set → Moment → Doing (Unit {0})
+all_set answers [] s = stands s
+all_set answers (set ∷ sets) s = set_of answers set.class set s >>= λ next. all_set answers sets next.1
 
 -- the targets that were asked for, with one space between them
-abbrev pub with_targets : Variables → List (List ℕ) → Variables
-with_targets variables targets = assigned_in variables Global (codes ".TARGETS") (spaced targets)
+abbrev pub with_targets : Moment → Moment
+with_targets s = assigned_at s Global (codes ".TARGETS") (spaced s.order.flags.requested)
 
--- no rule, and no group
-abbrev pub state_of : Variables → State
-state_of variables = record { made = record { scopes = variables; rule = None }; in_group = false }
-
--- Before the first makefile. A fault has no file and no line.
-abbrev pub first_state : Env → Order → Read State
-first_state env order =
-    at_line [] 0 (all_set (first_scopes env order.env_first) order.sets)
-    >>= λ variables. Ok (state_of (with_targets variables order.flags.requested))
+-- All that a command line sets.
+abbrev pub ordered : Answers → Moment → Doing (Unit {0})
+ordered answers s = all_set answers s.order.sets s >>= λ next. stands (with_targets next.1)

@@ -1,31 +1,46 @@
--- Reading: from the files of the world to variables and the rule.
-use Rattle.std.specs.Prelude.{◌≡◌, ◌⊎◌, ℕ, List, [], ◌∷◌, Option, Some, None, Ok, Err, codes}
-use Rattle.mk_bytes.specs.Agrees.{◌>>=◌}
+-- Reading: from a command line and the answers of the outside to variables and the rule.
+use Rattle.std.specs.Prelude.{ℕ, List, [], ◌∷◌, Option, Some, None, codes}
+use Rattle.mk_blocks.specs.Meaning.{file_read}
+use Rattle.mk_blocks.specs.Outcomes.{done, refused, ◌>>=◌}
+use Rattle.mk_blocks.specs.Runs.{Run, run_at}
 use Rattle.mk_bytes.specs.Paths.{clean}
 use Rattle.mk_cli.specs.declared.order.Order.{Order}
 use Rattle.mk_graph.specs.declared.Made.{Made}
 use Rattle.mk_scopes.specs.declared.scopes.Env.{Env}
-use Rattle.mk_world.specs.Deeds.{Store}
-use Rattle.mk_world.specs.declared.fault.WorldFault.{WorldFault}
-use Rattle.mk_world.specs.declared.fault.WorldFault.TheVariants as world
-use Rattle.mk_reader.specs.Dependencies.{cleaned}
-use Rattle.mk_reader.specs.Files.{Read, file_read}
-use Rattle.mk_reader.specs.Orders.{first_state}
-use Rattle.mk_reader.specs.declared.fault.ReadFault.{ReadFault}
-use Rattle.mk_reader.specs.declared.fault.ReadFault.TheVariants.{NoFile, World, NoMemory}
-use Rattle.mk_reader.specs.declared.state.State.{State}
+use Rattle.mk_reader.specs.Kinds.{line_kind}
+use Rattle.mk_reader.specs.Languages.{meaning}
+use Rattle.mk_reader.specs.Moments.{Moment}
+use Rattle.mk_reader.specs.Orders.{first_moment, ordered}
+use Rattle.mk_reader.specs.Questions.{Answers}
+use Rattle.mk_reader.specs.ReadFaults.{Reads, file_fault, of_what, outcome_as}
+use Rattle.mk_reader.specs.Values.{contents}
+use Rattle.mk_reader.specs.declared.fault.ReadFault.TheVariants.{NoFile}
 
--- a file that was looked at
-abbrev pub answer_read : List ℕ → State → Option (List ℕ) → Read State
-answer_read file s None = Err (NoFile file)
-answer_read file s (Some text) = file_read file s text
+-- the bytes of a file of this name, which is cleaned; or none where it is missing
+abbrev pub looked : Answers → List ℕ → Moment → Reads (Option (List ℕ) × Moment)
+looked answers file s = outcome_as of_what (contents answers (clean s.made.scopes.cwd file) s)
+
+-- a file of this name with these bytes, and all that it includes
+abbrev pub whole_read : Answers → List ℕ → List ℕ → Run Moment → Reads (Run Moment)
+whole_read answers file bytes r =
+    outcome_as file_fault (file_read (meaning answers) line_kind file bytes r)
+
+-- a file that was found, or a missing one, which has this name
+abbrev pub found_read : Answers → List ℕ → List ℕ → ℕ → Option (List ℕ) × Moment
+    → Reads (Run Moment)
+found_read answers file missing count (None, s) = refused (NoFile missing)
+found_read answers file missing count (Some bytes, s) =
+    whole_read answers file bytes (run_at s count)
+
+abbrev pub makefile_read : Answers → List ℕ → List ℕ → Run Moment → Reads (Run Moment)
+makefile_read answers file missing r =
+    looked answers file r.state >>= found_read answers file missing r.count
 
 -- Makefiles one after the other. Faults name a file as the command line has it; the file that is
 -- read has the cleaned path.
-abbrev pub files_read : Store → List ℕ → State → List (List ℕ) → Read State
-files_read files cwd s [] = Ok s
-files_read files cwd s (file ∷ more) =
-    answer_read file s (files (clean cwd file)) >>= λ next. files_read files cwd next more
+abbrev pub files_read : Answers → List (List ℕ) → Run Moment → Reads (Run Moment)
+files_read answers [] r = done r
+files_read answers (file ∷ more) r = makefile_read answers file file r >>= files_read answers more
 
 -- the makefiles that are sought without `-f`
 abbrev pub first_name : List ℕ
@@ -34,36 +49,29 @@ first_name = codes "makefile"
 abbrev pub second_name : List ℕ
 second_name = codes "Makefile"
 
-abbrev pub second_read : State → Option (List ℕ) → Read State
-second_read s None = Err (NoFile first_name)
-second_read s (Some text) = file_read second_name s text
+abbrev pub first_or_second : Answers → ℕ → Option (List ℕ) × Moment → Reads (Run Moment)
+first_or_second answers count (None, s) =
+    makefile_read answers second_name first_name (run_at s count)
+first_or_second answers count (Some bytes, s) =
+    whole_read answers first_name bytes (run_at s count)
 
-abbrev pub default_read : State → Option (List ℕ) → Option (List ℕ) → Read State
-default_read s None second = second_read s second
-default_read s (Some text) second = file_read first_name s text
+-- the first default name that exists
+abbrev pub default_read : Answers → Run Moment → Reads (Run Moment)
+default_read answers r = looked answers first_name r.state >>= first_or_second answers r.count
 
--- the makefiles that the command line names, or else the first default name that exists
-abbrev pub makefiles_read : Store → List ℕ → State → List (List ℕ) → Read State
-makefiles_read files cwd s [] =
-    default_read s (files (clean cwd first_name)) (files (clean cwd second_name))
-makefiles_read files cwd s (file ∷ more) = files_read files cwd s (file ∷ more)
+-- the makefiles that the command line names, or else the default one
+abbrev pub makefiles_read : Answers → List (List ℕ) → Run Moment → Reads (Run Moment)
+makefiles_read answers [] r = default_read answers r
+makefiles_read answers (file ∷ more) r = files_read answers (file ∷ more) r
 
--- the paths that are sought, in order
-abbrev pub sought : List ℕ → List (List ℕ) → List (List ℕ)
-sought cwd [] = cleaned cwd (first_name ∷ second_name ∷ [])
-sought cwd (file ∷ more) = cleaned cwd (file ∷ more)
+-- the words of a command line, and then the makefiles
+abbrev pub all_read : Answers → Moment → Reads (Run Moment)
+all_read answers s =
+    outcome_as of_what (ordered answers s)
+    >>= λ first. makefiles_read answers first.1.order.files (run_at first.1 0)
 
--- What the makefiles of a run leave, or the first fault.
-abbrev pub reading : Store → Env → Order → Read Made
-reading files env order =
-    first_state env order >>= λ s. makefiles_read files env.cwd s order.files
-    >>= λ done. Ok done.made
-
--- how a fault of the world is answered
-abbrev pub of_world : WorldFault → ReadFault
-of_world world.Failed = World
-of_world world.NoMemory = NoMemory
-
--- a fault that no makefile causes
-abbrev pub IsOutside : ReadFault → Type 0
-IsOutside fault = (fault ≡ World) ⊎ (fault ≡ NoMemory)
+-- What the words of the command line and the makefiles of a run leave, or the first fault, and the
+-- messages that are written until then.
+abbrev pub reading : Answers → Env → Order → Reads Made
+reading answers env order =
+    all_read answers (first_moment env order) >>= λ last. done last.state.made

@@ -1,73 +1,77 @@
--- What one logical line of a makefile does.
-use Rattle.std.specs.Prelude.{ℕ, ◌==◌, true, false, List, [], ◌∷◌, ◌++◌, Option, Some, None}
-use Rattle.std.specs.Prelude.{Ok, Err, if◌then◌else◌}
-use Rattle.mk_bytes.specs.Agrees.{◌>>=◌}
-use Rattle.mk_bytes.specs.Bytes.{tab}
+-- What one logical line of a makefile does that is none of the blocks'.
+use Rattle.std.specs.Prelude.{ℕ, true, false, List, [], ◌∷◌, ◌++◌, Option, Some, None, codes}
+use Rattle.std.specs.Prelude.{if◌then◌else◌}
+use Rattle.mk_blocks.specs.Outcomes.{refused}
+use Rattle.mk_directive.specs.Directives.{Directed, directive_on}
+use Rattle.mk_directive.specs.declared.directive.Directive.{Directive}
+use Rattle.mk_directive.specs.declared.directive.Directive.TheVariants.{Undef, Error, Warning, Info}
 use Rattle.mk_graph.specs.declared.Rule.{Rule}
-use Rattle.mk_scopes.specs.Scopes.{Variables}
 use Rattle.mk_scopes.specs.declared.scopes.Class.TheVariants.{Global}
 use Rattle.mk_reader.specs.Assignments.{Parts, assignment}
 use Rattle.mk_reader.specs.Dependencies.{rule_on}
-use Rattle.mk_reader.specs.Directives.{is_directive}
-use Rattle.mk_reader.specs.Kinds.{plain_text, is_only_white}
-use Rattle.mk_reader.specs.Variables.{Step, assigned_by}
-use Rattle.mk_reader.specs.declared.fault.Refusal.TheVariants.{Wrong}
+use Rattle.mk_reader.specs.Kinds.{command_in, plain_text, is_only_white}
+use Rattle.mk_reader.specs.Messages.{message, stop}
+use Rattle.mk_reader.specs.Moments.{Doing, Moment, closed, stands}
+use Rattle.mk_reader.specs.Questions.{Answers}
+use Rattle.mk_reader.specs.Variables.{assigned_by, undefined_by}
 use Rattle.mk_reader.specs.declared.fault.What.TheVariants.{LostCommand, Unbuilt}
-use Rattle.mk_reader.specs.declared.state.State.{State}
-
--- no command line follows the rule any more
-abbrev pub closed : State → State
-closed s = record s { in_group = false }
-
-abbrev pub with_variables : State → Variables → State
-with_variables s variables = record s { made = record s.made { scopes = variables } }
 
 -- one more command of the rule
 abbrev pub commanded : Option Rule → List ℕ → Option Rule
 commanded None command = None
 commanded (Some rule) command = Some (record rule { commands = rule.commands ++ command ∷ [] })
 
-abbrev pub with_command : State → List ℕ → State
+abbrev pub with_command : Moment → List ℕ → Moment
 with_command s command = record s { made = record s.made { rule = commanded s.made.rule command } }
-
-abbrev pub command_added : State → List ℕ → Step State
-command_added s command = Ok (with_command s command)
 
 -- A command line, without its tab, belongs to the group of the last rule; white space alone is
 -- passed over.
-abbrev pub command_read : State → List ℕ → Step State
-command_read s command =
-    if is_only_white command then Ok s
-    else (if s.in_group then command_added s command else Err (Wrong LostCommand))
-
--- an assignment closes the group and sets a global
-abbrev pub assignment_read : State → Parts → Step State
-assignment_read s parts =
-    assigned_by s.made.scopes Global parts.1 parts.0 parts.2
-    >>= λ variables. Ok (with_variables (closed s) variables)
+abbrev pub command_read : List ℕ → Moment → Doing (Unit {0})
+command_read command s =
+    if is_only_white command then stands s
+    else (if s.in_group then stands (with_command s command) else refused LostCommand)
 
 -- the one rule that is built opens its group
-abbrev pub ruled : State → Option Rule → Option Rule → Step State
-ruled s None (Some rule) =
-    Ok (record { made = record s.made { rule = Some rule }; in_group = true })
-ruled s before here = Err (Wrong Unbuilt)
+abbrev pub with_rule : Moment → Rule → Moment
+with_rule s rule = record s { made = record s.made { rule = Some rule }; in_group = true }
 
-abbrev pub dependency_read : State → List ℕ → Step State
-dependency_read s line = ruled s s.made.rule (rule_on s.made.scopes.cwd line)
+abbrev pub ruled : Option Rule → Option Rule → Moment → Doing (Unit {0})
+ruled None (Some rule) s = stands (with_rule s rule)
+ruled before here s = refused Unbuilt
 
-abbrev pub by_assignment : State → List ℕ → Option Parts → Step State
-by_assignment s line None = dependency_read s line
-by_assignment s line (Some parts) = assignment_read s parts
+abbrev pub dependency_read : List ℕ → Moment → Doing (Unit {0})
+dependency_read line s = ruled s.made.rule (rule_on s.made.scopes.cwd line) s
+
+-- an assignment closes the group and sets a global
+abbrev pub assignment_read : Answers → Parts → Moment → Doing (Unit {0})
+assignment_read answers parts s = assigned_by answers Global parts.1 parts.0 parts.2 (closed s)
+
+abbrev pub by_assignment : Answers → List ℕ → Option Parts → Moment → Doing (Unit {0})
+by_assignment answers line None s = dependency_read line s
+by_assignment answers line (Some parts) s = assignment_read answers parts s
+
+-- directives that are none of the blocks'
+abbrev pub directed : Answers → List ℕ → ℕ → Directive → List ℕ → Moment → Doing (Unit {0})
+directed answers file number Undef text s = stands (undefined_by text s)
+directed answers file number Error text s = stop answers text s
+directed answers file number Warning text s = message answers file number (codes "warning: ") text s
+directed answers file number Info text s = message answers file number [] text s
+directed answers file number _ text s = stands s
+
+abbrev pub by_directive : Answers → List ℕ → ℕ → List ℕ → Option Directed → Moment → Doing (Unit {0})
+by_directive answers file number line None s = by_assignment answers line (assignment line) s
+by_directive answers file number line (Some found) s = directed answers file number found.0 found.1 s
 
 -- A line without its comment: nothing, a directive, an assignment, or else a dependency line.
-abbrev pub plain_read : State → List ℕ → Step State
-plain_read s [] = Ok s
-plain_read s (byte ∷ line) =
-    if is_directive (byte ∷ line) then Err (Wrong Unbuilt)
-    else by_assignment s (byte ∷ line) (assignment (byte ∷ line))
+abbrev pub plain_read : Answers → List ℕ → ℕ → List ℕ → Moment → Doing (Unit {0})
+plain_read answers file number [] s = stands s
+plain_read answers file number (byte ∷ line) s =
+    by_directive answers file number (byte ∷ line) (directive_on (byte ∷ line)) s
 
--- A logical line. A tab makes it a command line.
-abbrev pub line_read : State → List ℕ → Step State
-line_read s [] = Ok s
-line_read s (byte ∷ rest) =
-    if byte == tab then command_read s rest else plain_read s (plain_text (byte ∷ rest))
+abbrev pub by_command : Answers → List ℕ → ℕ → List ℕ → Option (List ℕ) → Moment → Doing (Unit {0})
+by_command answers file number line None s = plain_read answers file number (plain_text line) s
+by_command answers file number line (Some command) s = command_read command s
+
+-- A logical line of the file of this name. A tab makes it a command line.
+abbrev pub line_read : Answers → List ℕ → ℕ → List ℕ → Moment → Doing (Unit {0})
+line_read answers file number line s = by_command answers file number line (command_in line) s

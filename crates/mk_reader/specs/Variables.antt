@@ -1,57 +1,86 @@
 -- How assignments change variables (make(1), "VARIABLE ASSIGNMENTS").
-use Rattle.std.specs.Prelude.{ℕ, Bool, true, false, is_some, List, [], ◌∷◌, Result, Ok, Err}
+use Rattle.std.specs.Prelude.{ℕ, ◌-◌, ◌==◌, Bool, true, false, is_some, nat_eq, List, [], ◌∷◌, length, map, take}
 use Rattle.std.specs.Prelude.{if◌then◌else◌}
-use Rattle.mk_bytes.specs.Agrees.{◌>>=◌}
+use Rattle.std.specs.List.{ends_with}
+use Rattle.mk_blocks.specs.Outcomes.{refused, ◌>>=◌}
+use Rattle.mk_bytes.specs.Bytes.{newline, space}
 use Rattle.mk_cli.specs.declared.order.AssignOp.{AssignOp}
 use Rattle.mk_cli.specs.declared.order.AssignOp.TheVariants.{Plain, Append, Default, Now, Shell}
-use Rattle.mk_expand.specs.Locals.{no_locals}
-use Rattle.mk_expand.specs.Value.{unasked_value_of_text}
-use Rattle.mk_expand.specs.declared.fault.ExpandFault.{ExpandFault}
-use Rattle.mk_expand.specs.declared.fault.ExpandFault.TheVariants as expand
-use Rattle.mk_scopes.specs.Scopes.{Variables, raw_value, assigned_in, appended_in}
+use Rattle.mk_directive.specs.Words.{words_of}
+use Rattle.mk_scopes.specs.Scopes.{Variables, raw_value, assigned_in, appended_in, without_global}
 use Rattle.mk_scopes.specs.declared.scopes.Class.{Class}
-use Rattle.mk_reader.specs.declared.fault.Refusal.{Refusal}
-use Rattle.mk_reader.specs.declared.fault.Refusal.TheVariants.{Wrong, NoMemory}
-use Rattle.mk_reader.specs.declared.fault.What.TheVariants.{EmptyName, Expand, Unbuilt}
+use Rattle.mk_reader.specs.Moments.{Doing, Moment, given, stands, with_variables}
+use Rattle.mk_reader.specs.Questions.{Answers}
+use Rattle.mk_reader.specs.Values.{output, value}
+use Rattle.mk_reader.specs.declared.fault.What.TheVariants.{EmptyName}
 
--- what a line leaves, or why it is refused
-abbrev pub Step : Type 0 → Type 0
-Step A = Result A Refusal
-
--- a fault of an expansion; want of memory is what it is everywhere
-abbrev pub of_expand : ExpandFault → Refusal
-of_expand expand.NoMemory = NoMemory
-of_expand fault = Wrong (Expand fault)
-
-abbrev pub refusing : Result (List ℕ) ExpandFault → Step (List ℕ)
-refusing (Ok value) = Ok value
-refusing (Err fault) = Err (of_expand fault)
-
--- the value of a text where there are no local names
-abbrev pub value : Variables → Bool → List ℕ → Step (List ℕ)
-value variables keep text = refusing (unasked_value_of_text variables no_locals keep text)
-
-abbrev pub not_empty : List ℕ → Step (List ℕ)
-not_empty [] = Err (Wrong EmptyName)
-not_empty (byte ∷ name) = Ok (byte ∷ name)
+abbrev pub not_empty : List ℕ → Moment → Doing (List ℕ)
+not_empty [] s = refused EmptyName
+not_empty (byte ∷ name) s = given (byte ∷ name) s
 
 -- the name of a variable is expanded, and something has to be left of it
-abbrev pub variable_name : Variables → List ℕ → Step (List ℕ)
-variable_name variables text = value variables false text >>= λ name. not_empty name
+abbrev pub variable_name : Answers → List ℕ → Moment → Doing (List ℕ)
+variable_name answers text s = value answers false text s >>= λ name. not_empty name.0 name.1
 
--- What a sign does with a name and a value: it sets, appends, sets where no class has the name, or
--- sets the value that is expanded now. The output of a command is not built.
-abbrev pub set_by : Variables → Class → AssignOp → List ℕ → List ℕ → Step Variables
-set_by variables class Plain name text = Ok (assigned_in variables class name text)
-set_by variables class Append name text = Ok (appended_in variables class name text)
-set_by variables class Default name text =
-    Ok (if is_some (raw_value variables name) then variables
-    else assigned_in variables class name text)
-set_by variables class Now name text =
-    value variables true text >>= λ now. Ok (assigned_in variables class name now)
-set_by variables class Shell name text = Err (Wrong Unbuilt)
+abbrev pub assigned_at : Moment → Class → List ℕ → List ℕ → Moment
+assigned_at s class name text = with_variables s (assigned_in s.made.scopes class name text)
+
+abbrev pub appended_at : Moment → Class → List ℕ → List ℕ → Moment
+appended_at s class name text = with_variables s (appended_in s.made.scopes class name text)
+
+-- where no class has the name
+abbrev pub defaulted_in : Variables → Class → List ℕ → List ℕ → Variables
+defaulted_in variables class name text =
+    if is_some (raw_value variables name) then variables else assigned_in variables class name text
+
+abbrev pub defaulted_at : Moment → Class → List ℕ → List ℕ → Moment
+defaulted_at s class name text = with_variables s (defaulted_in s.made.scopes class name text)
+
+-- the output of a command: one final newline is dropped, and other ones become spaces
+abbrev pub without_newline : List ℕ → List ℕ
+without_newline text =
+    if ends_with nat_eq text (newline ∷ []) then take (length text - 1) text else text
+
+abbrev pub as_space : ℕ → ℕ
+as_space byte = if byte == newline then space else byte
+
+abbrev pub on_one_line : List ℕ → List ℕ
+on_one_line text = map as_space (without_newline text)
+
+-- the value of a text is set
+abbrev pub valued : Answers → Class → List ℕ → List ℕ → Moment → Doing (Unit {0})
+valued answers class name text s =
+    value answers true text s >>= λ now. stands (assigned_at now.1 class name now.0)
+
+-- what the value of a text prints as a command, whose status does not count
+abbrev pub printed : Answers → List ℕ → Moment → Doing (List ℕ)
+printed answers text s =
+    value answers false text s >>= λ command. output answers command.0 command.1
+
+abbrev pub run_for : Answers → Class → List ℕ → List ℕ → Moment → Doing (Unit {0})
+run_for answers class name text s =
+    printed answers text s
+    >>= λ found. stands (assigned_at found.1 class name (on_one_line found.0))
+
+-- What a sign does with a name and a text: it sets the text, appends it, sets it where no class has
+-- the name, sets its value, or sets what its value prints as a command.
+abbrev pub set_by : Answers → Class → AssignOp → List ℕ → List ℕ → Moment → Doing (Unit {0})
+set_by answers class Plain name text s = stands (assigned_at s class name text)
+set_by answers class Append name text s = stands (appended_at s class name text)
+set_by answers class Default name text s = stands (defaulted_at s class name text)
+set_by answers class Now name text s = valued answers class name text s
+set_by answers class Shell name text s = run_for answers class name text s
 
 -- An assignment, whose name is expanded first.
-abbrev pub assigned_by : Variables → Class → AssignOp → List ℕ → List ℕ → Step Variables
-assigned_by variables class op name text =
-    variable_name variables name >>= λ is. set_by variables class op is text
+abbrev pub assigned_by : Answers → Class → AssignOp → List ℕ → List ℕ → Moment → Doing (Unit {0})
+assigned_by answers class op name text s =
+    variable_name answers name s >>= λ is. set_by answers class op is.0 text is.1
+
+-- the globals of these names are removed
+abbrev pub without_globals : Variables → List (List ℕ) → Variables
+without_globals variables [] = variables
+without_globals variables (name ∷ names) = without_globals (without_global variables name) names
+
+-- The words of `.undef` are names as they are written.
+abbrev pub undefined_by : List ℕ → Moment → Moment
+undefined_by text s = with_variables s (without_globals s.made.scopes (words_of text))

@@ -8,8 +8,8 @@ ghost use Rattle.mk_bytes.specs.Words.{is_white as is_white_byte};
 ghost use Rattle.mk_cli.specs.Assignments as words;
 ghost use Rattle.mk_reader.specs.Assignments as spec;
 
-use crate::kind::is_white;
 use mk_cli::AssignOp;
+use mk_directive::is_white;
 
 /// The parts of an assignment.
 #[derive(Clone, Copy, Debug)]

@@ -1,13 +1,11 @@
 //! Dependency lines (make(1), "FILE DEPENDENCY SPECIFICATIONS"), of the one form that is built.
-ghost use Rattle.std.specs.Prelude.{◌≡◌, ◌<◌, ◌∷◌, ◌++◌, [], length, position, IfOk, OnOk, IfSome};
+ghost use Rattle.std.specs.Prelude.{◌≡◌, position, IfOk};
 ghost use Rattle.std.specs.List.{list_all};
-ghost use Rattle.std.specs.Option.{option_copied};
-ghost use Rattle.mk_bytes.specs.Words.{is_white as is_white_byte};
 ghost use Rattle.mk_reader.specs.Dependencies as spec;
 
 use crate::assignment::without_blanks;
-use crate::kind::is_white;
 use mk_bytes::{Items, NoMemory, Text, Texts, clean_path};
+use mk_directive::words;
 use mk_graph::Rule;
 use std::alloc::Global;
 
@@ -38,66 +36,22 @@ fn first_colon(line: &[u8]) -> Option<usize>
     line.iter().position(|byte| *byte == b':')
 }
 
-fn first_white(text: &[u8]) -> Option<usize>
-    ensures { result ≡ position is_white_byte text.now }
+// Whether all names are plain ones.
+fn are_plain_names(names: &Texts) -> bool
+    ensures { result ≡ list_all spec.is_plain_name names.now }
 {
-    text.iter().position(|byte| is_white(*byte))
+    names.as_slice().iter().all(|name| is_plain_name(name.bytes()))
 }
 
-// The first piece of a text, and what follows its white space.
-fn first_piece<'t>(text: &'t [u8]) -> (&'t [u8], Option<&'t [u8]>)
-    ensures pieces { spec.pieces text.now
-        ≡ result.0.now ∷ spec.pieces_behind (option_copied result.1) }
-    ensures shorter { IfSome result.1 (λ rest. length rest.now < length text.now) }
+// Names, cleaned against the current directory.
+fn cleaned_all(alloc: Global, cwd: &[u8], names: &Texts) -> Result<Texts, NoMemory>
+    ensures { IfOk result (λ cleaned. cleaned ≡ spec.cleaned cwd.now names.now) }
 {
-    match first_white(text) {
-        Some(at) => (&text[..at], Some(&text[at + 1..])),
-        None => (text, None),
+    let mut cleaned = Items::new(alloc, names.len())?;
+    for name in names.as_slice() {
+        cleaned.push(clean_path(alloc, cwd, name.bytes())?)?;
     }
-}
-
-// Whether all words of a text are plain names.
-fn are_plain_names(text: &[u8]) -> bool
-    ensures { result ≡ list_all spec.is_plain_name (spec.words_of text.now) }
-{
-    let mut rest = text;
-    'pieces: loop {
-        let (piece, more) = first_piece(rest);
-        if !piece.is_empty() && !is_plain_name(piece) {
-            return false;
-        }
-        match more {
-            Some(after) => rest = after,
-            None => return true,
-        }
-    }
-}
-
-// Adds a piece that is a word to names, cleaned.
-fn push_cleaned(alloc: Global, cwd: &[u8], piece: &[u8], names: &mut Texts) -> Result<(), NoMemory>
-    ensures { OnOk result
-        (names.new ≡ names.old ++ spec.cleaned cwd.now (spec.words_among (piece.now ∷ []))) }
-{
-    if piece.is_empty() {
-        return Ok(());
-    }
-    names.push(clean_path(alloc, cwd, piece)?)
-}
-
-// The words of a text, cleaned.
-fn cleaned_words(alloc: Global, cwd: &[u8], text: &[u8]) -> Result<Texts, NoMemory>
-    ensures { IfOk result (λ names. names ≡ spec.cleaned cwd.now (spec.words_of text.now)) }
-{
-    let mut names = Items::new(alloc, 0)?;
-    let mut rest = text;
-    'pieces: loop {
-        let (piece, more) = first_piece(rest);
-        push_cleaned(alloc, cwd, piece, &mut names)?;
-        match more {
-            Some(after) => rest = after,
-            None => return Ok(names),
-        }
-    }
+    Ok(cleaned)
 }
 
 fn is_among(names: &Texts, name: &[u8]) -> bool
@@ -116,14 +70,14 @@ pub fn rule_on(alloc: Global, cwd: &[u8], line: &[u8]) -> Result<Option<Rule>, N
         return Ok(None);
     };
     let target = without_blanks(&line[..at]);
-    let sources = &line[at + 1..];
-    if !is_plain_name(target) || !are_plain_names(sources) {
+    let sources = words(alloc, &line[at + 1..])?;
+    if !is_plain_name(target) || !are_plain_names(&sources) {
         return Ok(None);
     }
     rule_of(
         alloc,
         clean_path(alloc, cwd, target)?,
-        cleaned_words(alloc, cwd, sources)?,
+        cleaned_all(alloc, cwd, &sources)?,
     )
 }
 

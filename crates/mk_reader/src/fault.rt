@@ -1,6 +1,13 @@
-use mk_bytes::{NoMemory, Text};
+//! What is wrong with makefiles, and how their reading ends otherwise.
+ghost use Rattle.std.specs.Prelude.{◌≡◌};
+ghost use Rattle.mk_reader.specs.ReadFaults as spec;
+
+use mk_blocks::{BlockFault, FileFault, Wrong};
+use mk_bytes::{Kind, NoMemory, Text};
+use mk_cond::CondFault;
 use mk_expand::ExpandFault;
-use mk_world::WorldFault;
+use mk_world::{SinkFault, WorldFault};
+use std::alloc::Global;
 
 /// What is wrong with a line of a makefile, or with an assignment of the command line.
 #[derive(Debug, Drop)]
@@ -13,10 +20,45 @@ pub enum What {
     LostCommand,
     /// The name of a variable is empty once it is expanded.
     EmptyName,
-    /// A name or a text has no value. The fault is never want of memory.
+    /// The condition of a directive has a fault of its grammar at this place, counted from 0 at the
+    /// beginning of what follows the word and its blanks. A fault of a reference is `Expand`.
+    Cond(usize),
+    /// A `.for` has no word `in`, or no name before it.
+    ForForm,
+    /// A `.for` has so many words for so many names, and these do not divide those.
+    Count(usize, usize),
+    /// An `.else` or `.elif` stands where no if-block is open, or behind its `.else`.
+    Else,
+    /// An `.endif` stands where the innermost open block is no if-block.
+    Endif,
+    /// An `.endfor` stands where the innermost open block is no loop.
+    Endfor,
+    /// A `.break` stands outside of loops.
+    Break,
+    /// The block that begins here is open at the end of the file.
+    OpenBlock,
+    /// What `.include` is given is neither a name in quotes nor one in angle brackets.
+    IncludeForm,
+    /// The file of this name is missing.
+    Include(Text),
+    /// An `.error` with this text.
+    Error(Text),
+    /// A name or a text has no value. The fault is never want of memory, nor a failure of the
+    /// outside.
     Expand(ExpandFault),
     /// The line has a form that is not built yet.
     Unbuilt,
+}
+
+/// How a call of the outside failed.
+#[derive(Clone, Copy, Debug, PartialEq, Eq)]
+pub enum Outside {
+    /// The world failed, and has counted it.
+    World,
+    /// The sink failed, and has counted it.
+    Sink,
+    /// The world found no memory.
+    NoMemory,
 }
 
 /// Why a line is refused.
@@ -24,6 +66,8 @@ pub enum What {
 pub enum Refusal {
     /// The first thing that is wrong.
     Wrong(What),
+    /// The outside failed so.
+    Failed(Outside),
     /// Memory ran out.
     NoMemory,
 }
@@ -41,15 +85,58 @@ impl From<NoMemory> for Refusal {
 
 impl From<ExpandFault> for Refusal {
     ghost use Rattle.std.specs.Prelude.{◌≡◌};
-    ghost use Rattle.mk_reader.specs.Variables.{of_expand};
+    ghost use Rattle.mk_reader.specs.Refusals.{of_expand};
 
     ghost from_gives = { λ given fault. fault ≡ of_expand given };
 
     fn from(fault: ExpandFault) -> Refusal {
         match fault {
             ExpandFault::NoMemory => Refusal::NoMemory,
+            ExpandFault::Failed => Refusal::Failed(Outside::World),
             other => Refusal::Wrong(What::Expand(other)),
         }
+    }
+}
+
+impl From<CondFault> for Refusal {
+    ghost use Rattle.std.specs.Prelude.{◌≡◌};
+    ghost use Rattle.mk_reader.specs.Refusals.{of_cond};
+
+    ghost from_gives = { λ given fault. fault ≡ of_cond given };
+
+    fn from(fault: CondFault) -> Refusal {
+        match fault {
+            CondFault::Bad(at) => Refusal::Wrong(What::Cond(at)),
+            CondFault::TooDeep(at) => Refusal::Wrong(What::Cond(at)),
+            CondFault::Tree(fault) => Refusal::from(ExpandFault::from(fault)),
+            CondFault::NoMemory => Refusal::NoMemory,
+        }
+    }
+}
+
+impl From<WorldFault> for Refusal {
+    ghost use Rattle.std.specs.Prelude.{◌≡◌};
+    ghost use Rattle.mk_reader.specs.Refusals.{of_world};
+
+    ghost from_gives = { λ given fault. fault ≡ of_world given };
+
+    fn from(fault: WorldFault) -> Refusal {
+        match fault {
+            WorldFault::Failed => Refusal::Failed(Outside::World),
+            WorldFault::NoMemory => Refusal::Failed(Outside::NoMemory),
+        }
+    }
+}
+
+impl From<SinkFault> for Refusal {
+    ghost use Rattle.std.specs.Prelude.{◌≡◌};
+    ghost use Rattle.mk_reader.specs.declared.fault.Outside.TheVariants.{Sink as sink};
+    ghost use Rattle.mk_reader.specs.declared.fault.Refusal.TheVariants.{Failed as failed};
+
+    ghost from_gives = { λ _ fault. fault ≡ failed sink };
+
+    fn from(_: SinkFault) -> Refusal {
+        Refusal::Failed(Outside::Sink)
     }
 }
 
@@ -58,11 +145,16 @@ impl From<ExpandFault> for Refusal {
 pub enum ReadFault {
     /// The makefile of this name, as the command line has it, is missing.
     NoFile(Text),
-    /// A file as the command line has it, a line of it, counted from 1, and the first thing that is
-    /// wrong. For an assignment of the command line the name is empty and the line is 0.
+    /// A file, a line of it, counted from 1, and the first thing that is wrong. A makefile has the
+    /// name that the command line has, and an included one the path that was read. For an
+    /// assignment of the command line the name is empty and the line is 0.
     Bad(Text, u32, What),
+    /// A count would pass this number.
+    Limit(Kind, u64),
     /// A call of the world failed.
     World,
+    /// A write of a message failed.
+    Sink,
     /// Memory ran out.
     NoMemory,
 }
@@ -78,16 +170,94 @@ impl From<NoMemory> for ReadFault {
     }
 }
 
-impl From<WorldFault> for ReadFault {
+/// Why reading stops.
+#[derive(Debug, Drop)]
+pub enum Stop {
+    /// A fault of the makefiles or of the command line.
+    Fault(ReadFault),
+    /// The outside failed so.
+    Failed(Outside),
+    /// Memory ran out.
+    NoMemory,
+}
+
+impl From<NoMemory> for Stop {
     ghost use Rattle.std.specs.Prelude.{◌≡◌};
-    ghost use Rattle.mk_reader.specs.Reading.{of_world};
+    ghost use Rattle.mk_reader.specs.declared.fault.Stop.TheVariants.{NoMemory as no_memory};
 
-    ghost from_gives = { λ given fault. fault ≡ of_world given };
+    ghost from_gives = { λ _ fault. fault ≡ no_memory };
 
-    fn from(fault: WorldFault) -> ReadFault {
+    fn from(_: NoMemory) -> Stop {
+        Stop::NoMemory
+    }
+}
+
+impl From<FileFault<What, Outside>> for Stop {
+    ghost use Rattle.std.specs.Prelude.{◌≡◌};
+    ghost use Rattle.mk_reader.specs.ReadFaults.{of_file};
+
+    ghost from_gives = { λ given fault. fault ≡ of_file given };
+
+    fn from(fault: FileFault<What, Outside>) -> Stop {
         match fault {
-            WorldFault::Failed => ReadFault::World,
-            WorldFault::NoMemory => ReadFault::NoMemory,
+            FileFault::Bad(name, number, wrong) => {
+                Stop::Fault(ReadFault::Bad(name, number, what_of(wrong)))
+            }
+            FileFault::TooManyLines => Stop::Fault(ReadFault::Limit(Kind::Lines, 4_194_304)),
+            FileFault::TooManyFiles => Stop::Fault(ReadFault::Limit(Kind::Includes, 64)),
+            FileFault::Failed(failure) => Stop::Failed(failure),
+            FileFault::NoMemory => Stop::NoMemory,
         }
+    }
+}
+
+impl From<Stop> for ReadFault {
+    ghost use Rattle.std.specs.Prelude.{◌≡◌};
+    ghost use Rattle.mk_reader.specs.ReadFaults.{of_stop};
+
+    ghost from_gives = { λ given fault. fault ≡ of_stop given };
+
+    fn from(stop: Stop) -> ReadFault {
+        match stop {
+            Stop::Fault(fault) => fault,
+            Stop::Failed(Outside::World) => ReadFault::World,
+            Stop::Failed(Outside::Sink) => ReadFault::Sink,
+            Stop::Failed(Outside::NoMemory) => ReadFault::NoMemory,
+            Stop::NoMemory => ReadFault::NoMemory,
+        }
+    }
+}
+
+fn of_block(fault: BlockFault) -> What
+    ensures { result ≡ spec.of_block fault }
+{
+    match fault {
+        BlockFault::Else => What::Else,
+        BlockFault::EndIf => What::Endif,
+        BlockFault::EndFor => What::Endfor,
+        BlockFault::Break => What::Break,
+        BlockFault::OpenBlock => What::OpenBlock,
+    }
+}
+
+fn what_of(wrong: Wrong<What>) -> What
+    ensures { result ≡ spec.of_wrong wrong }
+{
+    match wrong {
+        Wrong::TooLong => What::TooLong,
+        Wrong::Zero => What::Zero,
+        Wrong::Block(fault) => of_block(fault),
+        Wrong::Line(what) => what,
+    }
+}
+
+/// A line of no file was refused.
+pub fn refused(alloc: Global, refusal: Refusal) -> Stop
+    ensures { result ≡ spec.of_refusal refusal }
+{
+    match refusal {
+        Refusal::Wrong(what) => Stop::Fault(ReadFault::Bad(Text::new(alloc), 0, what)),
+        Refusal::Failed(failure) => Stop::Failed(failure),
+        Refusal::NoMemory => Stop::NoMemory,
     }
 }

@@ -1,13 +1,19 @@
-//! The parts of a logical line: the tab of a command, and lines without comment and indent.
+//! The parts of a logical line, and what it is for the blocks of its file.
 ghost use Rattle.std.specs.Prelude.{◌≡◌, ◌≤◌, length, take_while};
+ghost use Rattle.std.specs.Option.{option_copied};
 ghost use Rattle.mk_reader.specs.Kinds as spec;
-ghost use Rattle.mk_bytes.specs.Words as words;
 
-/// Whether words are cut at a byte.
-pub fn is_white(byte: u8) -> bool
-    ensures { result ≡ words.is_white byte }
+use mk_blocks::LineKind;
+use mk_directive::{Directive, directive_on, is_white, without_blanks};
+
+/// The command of a command line, which a tab begins. `None` for every other line.
+pub fn command_in<'t>(text: &'t [u8]) -> Option<&'t [u8]>
+    ensures { option_copied result ≡ spec.command_in text.now }
 {
-    byte == b' ' || byte == b'\t' || byte == b'\n'
+    match text {
+        [b'\t', command @ ..] => Some(command),
+        _ => None,
+    }
 }
 
 /// Whether a text is white space alone.
@@ -29,4 +35,66 @@ pub fn without_spaces<'t>(line: &'t [u8]) -> &'t [u8]
     ensures { result.now ≡ spec.without_spaces line.now }
 {
     &line[spaces_len(line)..]
+}
+
+fn kind_of(directive: Directive) -> LineKind
+    ensures { result ≡ spec.kind_of directive }
+{
+    match directive {
+        Directive::If(_) => LineKind::If,
+        Directive::ElseIf(_) => LineKind::ElseIf,
+        Directive::Else => LineKind::Else,
+        Directive::EndIf => LineKind::EndIf,
+        Directive::For => LineKind::For,
+        Directive::EndFor => LineKind::EndFor,
+        Directive::Break => LineKind::Break,
+        Directive::Include => LineKind::Include,
+        Directive::TryInclude => LineKind::Include,
+        Directive::Undef => LineKind::Plain,
+        Directive::Error => LineKind::Plain,
+        Directive::Warning => LineKind::Plain,
+        Directive::Info => LineKind::Plain,
+    }
+}
+
+fn begins_comment(text: &[u8]) -> bool
+    ensures { result ≡ spec.begins_comment text.now }
+{
+    match text {
+        [] => true,
+        [first, ..] => *first == b'#',
+    }
+}
+
+fn command_kind(command: &[u8]) -> LineKind
+    ensures { result ≡ spec.command_kind command.now }
+{
+    if is_only_white(command) {
+        return LineKind::Uncounted;
+    }
+    LineKind::Plain
+}
+
+// A line that is no command, without its leading spaces.
+fn plain_kind(line: &[u8]) -> LineKind
+    ensures { result ≡ spec.plain_kind line.now }
+{
+    if let Some(found) = directive_on(line) {
+        return kind_of(found.directive);
+    }
+    if begins_comment(without_blanks(line)) {
+        return LineKind::Uncounted;
+    }
+    LineKind::Plain
+}
+
+/// What a logical line is for the blocks of its file: what its directive says, and else a line that
+/// counts where it is something. Takes no memory.
+pub fn line_kind(text: &[u8]) -> LineKind
+    ensures { result ≡ spec.line_kind text.now }
+{
+    match command_in(text) {
+        Some(command) => command_kind(command),
+        None => plain_kind(without_spaces(text)),
+    }
 }

@@ -1,14 +1,19 @@
 //! Reading of makefiles: from their bytes to variables and the rule (make(1)).
 #![tactic(auto)]
 
+mod asking;
 mod assignment;
+mod block;
 mod dependency;
-mod directive;
+mod facts;
 mod fault;
-mod file;
+mod inclusion;
 mod kind;
-mod look;
+mod language;
+mod message;
+mod note;
 mod order;
+mod reader;
 mod reading;
 mod state;
 mod step;

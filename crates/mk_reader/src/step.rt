@@ -1,96 +1,150 @@
-//! What one logical line of a makefile does.
-ghost use Rattle.mk_bytes.specs.Agrees.{Agrees};
+//! What one logical line of a makefile does that is none of the blocks'.
+ghost use Rattle.std.specs.Prelude.{◌≡◌, OnOk, OnErr};
 ghost use Rattle.mk_reader.specs.Steps as spec;
-ghost use Rattle.mk_reader.specs.declared.fault.Refusal.TheVariants.{NoMemory as no_memory};
+ghost use Rattle.mk_reader.specs.Ties.{Gave, outer};
 
-use crate::assignment::assignment;
+use crate::assignment::{Parts, assignment};
 use crate::dependency::rule_on;
-use crate::directive::is_directive;
 use crate::fault::{Refusal, What};
-use crate::kind::{is_only_white, without_spaces};
-use crate::state::State;
-use crate::variable::assign;
-use mk_bytes::Text;
+use crate::kind::{command_in, is_only_white, without_spaces};
+use crate::reader::Reader;
+use mk_bytes::{NoMemory, Text};
+use mk_directive::{Directed, Directive, directive_on};
+use mk_graph::Rule;
 use mk_lines::cut_comment;
 use mk_scopes::Class;
+use mk_world::{Sink, World};
 use std::alloc::Global;
 
-/// Reads a logical line. One that begins with a tab is a command line; every other line is, without
-/// its comment and leading spaces, nothing, a directive, an assignment or else a dependency line.
-pub fn read_line(alloc: Global, state: &mut State, text: &[u8]) -> Result<(), Refusal>
-    ensures { Agrees no_memory (λ _. state.new) result (spec.line_read state.old text.now) }
-{
-    match text {
-        [] => Ok(()),
-        [b'\t', command @ ..] => read_command(alloc, state, command),
-        _ => {
-            let line = cut_comment(alloc, text)?;
-            read_plain(alloc, state, without_spaces(line.as_slice()))
-        }
-    }
-}
-
-// Reads a command line, without its tab.
-fn read_command(alloc: Global, state: &mut State, command: &[u8]) -> Result<(), Refusal>
-    ensures { Agrees no_memory (λ _. state.new) result (spec.command_read state.old command.now) }
-{
-    if is_only_white(command) {
-        return Ok(());
-    }
-    if !state.in_group {
-        return Err(Refusal::Wrong(What::LostCommand));
-    }
-    add_command(alloc, state, command)
-}
-
-// Adds a command to the rule.
-fn add_command(alloc: Global, state: &mut State, command: &[u8]) -> Result<(), Refusal>
-    ensures { Agrees no_memory (λ _. state.new) result
-        (spec.command_added state.old command.now) }
+// Adds a command to a rule.
+fn add_command(alloc: Global, rule: &mut Option<Rule>, command: &[u8]) -> Result<(), NoMemory>
+    ensures ok { OnOk result (rule.new ≡ spec.commanded rule.old command.now) }
+    ensures err { OnErr result (rule.new ≡ rule.old) }
 {
     let command = Text::from_bytes(alloc, command)?;
-    if let Some(rule) = &mut state.made.rule {
-        rule.commands.push(command)?;
+    match rule {
+        Some(rule) => rule.commands.push(command),
+        None => Ok(()),
     }
-    Ok(())
 }
 
-// Reads a line without its comment.
-fn read_plain(alloc: Global, state: &mut State, line: &[u8]) -> Result<(), Refusal>
-    ensures { Agrees no_memory (λ _. state.new) result (spec.plain_read state.old line.now) }
-{
-    if line.is_empty() {
-        return Ok(());
+impl<'a, W: World, S: Sink> Reader<'a, W, S> {
+    // Reads a command line, without its tab.
+    fn read_command(&mut self, alloc: Global, command: &[u8]) -> Result<(), Refusal>
+        ensures { Gave (outer W.meaning W.history W.faults W.runs S.held S.faults)
+            self.old self.new (λ done. done) result
+            (λ answers. spec.command_read command.now) }
+    {
+        if is_only_white(command) {
+            return Ok(());
+        }
+        if !self.state.in_group {
+            return Err(Refusal::Wrong(What::LostCommand));
+        }
+        add_command(alloc, &mut self.state.made.rule, command)?;
+        Ok(())
     }
-    if is_directive(line) {
-        return Err(Refusal::Wrong(What::Unbuilt));
-    }
-    let Some(parts) = assignment(line) else {
-        return read_dependency(alloc, state, line);
-    };
-    state.in_group = false;
-    let scopes = &mut state.made.scopes;
-    assign(
-        alloc,
-        scopes,
-        Class::Global,
-        parts.op,
-        parts.name,
-        parts.value,
-    )
-}
 
-// Reads a dependency line.
-fn read_dependency(alloc: Global, state: &mut State, line: &[u8]) -> Result<(), Refusal>
-    ensures { Agrees no_memory (λ _. state.new) result (spec.dependency_read state.old line.now) }
-{
-    if state.made.rule.is_some() {
-        return Err(Refusal::Wrong(What::Unbuilt));
+    // Reads a dependency line.
+    fn read_dependency(&mut self, alloc: Global, line: &[u8]) -> Result<(), Refusal>
+        ensures { Gave (outer W.meaning W.history W.faults W.runs S.held S.faults)
+            self.old self.new (λ done. done) result
+            (λ answers. spec.dependency_read line.now) }
+    {
+        if self.state.made.rule.is_some() {
+            return Err(Refusal::Wrong(What::Unbuilt));
+        }
+        let Some(rule) = rule_on(alloc, self.state.made.scopes.cwd(), line)? else {
+            return Err(Refusal::Wrong(What::Unbuilt));
+        };
+        self.state.made.rule = Some(rule);
+        self.state.in_group = true;
+        Ok(())
     }
-    let Some(rule) = rule_on(alloc, state.made.scopes.cwd(), line)? else {
-        return Err(Refusal::Wrong(What::Unbuilt));
-    };
-    state.made.rule = Some(rule);
-    state.in_group = true;
-    Ok(())
+
+    // Reads an assignment, which closes the group.
+    fn read_assignment(&mut self, alloc: Global, parts: &Parts<'_>) -> Result<(), Refusal>
+        ensures { Gave (outer W.meaning W.history W.faults W.runs S.held S.faults)
+            self.old self.new (λ done. done) result
+            (λ answers. spec.assignment_read answers
+            (parts.now.name.now, parts.now.op, parts.now.value.now)) }
+    {
+        self.state.in_group = false;
+        self.assign(alloc, Class::Global, parts.op, parts.name, parts.value)
+    }
+
+    // Reads a directive that is none of the blocks'.
+    fn obey(
+        &mut self,
+        alloc: Global,
+        file: &[u8],
+        number: u32,
+        found: &Directed<'_>,
+    ) -> Result<(), Refusal>
+        ensures { Gave (outer W.meaning W.history W.faults W.runs S.held S.faults)
+            self.old self.new (λ done. done) result
+            (λ answers. spec.directed answers file.now number found.now.directive
+            found.now.argument.now) }
+    {
+        match found.directive {
+            Directive::Undef => self.undefine(alloc, found.argument),
+            Directive::Error => self.stop(alloc, found.argument),
+            Directive::Warning => self.inform(alloc, file, number, b"warning: ", found.argument),
+            Directive::Info => self.inform(alloc, file, number, b"", found.argument),
+            Directive::If(_) => Ok(()),
+            Directive::ElseIf(_) => Ok(()),
+            Directive::Else => Ok(()),
+            Directive::EndIf => Ok(()),
+            Directive::For => Ok(()),
+            Directive::EndFor => Ok(()),
+            Directive::Break => Ok(()),
+            Directive::Include => Ok(()),
+            Directive::TryInclude => Ok(()),
+        }
+    }
+
+    // Reads a line without its comment.
+    fn read_plain(
+        &mut self,
+        alloc: Global,
+        file: &[u8],
+        number: u32,
+        line: &[u8],
+    ) -> Result<(), Refusal>
+        ensures { Gave (outer W.meaning W.history W.faults W.runs S.held S.faults)
+            self.old self.new (λ done. done) result
+            (λ answers. spec.plain_read answers file.now number line.now) }
+    {
+        if line.is_empty() {
+            return Ok(());
+        }
+        if let Some(found) = directive_on(line) {
+            return self.obey(alloc, file, number, &found);
+        }
+        if let Some(parts) = assignment(line) {
+            return self.read_assignment(alloc, &parts);
+        }
+        self.read_dependency(alloc, line)
+    }
+
+    /// Reads a logical line. One that begins with a tab is a command line; every other line is,
+    /// without its comment and leading spaces, nothing, a directive, an assignment or else a
+    /// dependency line.
+    pub fn read_line(
+        &mut self,
+        alloc: Global,
+        file: &[u8],
+        number: u32,
+        text: &[u8],
+    ) -> Result<(), Refusal>
+        ensures { Gave (outer W.meaning W.history W.faults W.runs S.held S.faults)
+            self.old self.new (λ done. done) result
+            (λ answers. spec.line_read answers file.now number text.now) }
+    {
+        if let Some(command) = command_in(text) {
+            return self.read_command(alloc, command);
+        }
+        let line = cut_comment(alloc, text)?;
+        self.read_plain(alloc, file, number, without_spaces(line.as_slice()))
+    }
 }

@@ -1,77 +1,206 @@
 //! How assignments change variables (make(1), "VARIABLE ASSIGNMENTS").
-ghost use Rattle.mk_bytes.specs.Agrees.{Agrees};
+ghost use Rattle.std.specs.Prelude.{◌≡◌, ◌++◌, ◌∷◌, [], IfOk, OnOk, OnErr};
+ghost use Rattle.mk_reader.specs.Ties.{Gave, outer};
+ghost use Rattle.mk_reader.specs.Moments.{stands};
 ghost use Rattle.mk_reader.specs.Variables as spec;
-ghost use Rattle.mk_reader.specs.declared.fault.Refusal.TheVariants.{NoMemory as no_memory};
 
 use crate::fault::{Refusal, What};
-use mk_bytes::Text;
+use crate::reader::Reader;
+use mk_bytes::{Items, NoMemory, Text};
 use mk_cli::AssignOp;
-use mk_expand::{Locals, value_of_text_unasked};
+use mk_directive::words;
 use mk_scopes::{Class, Scopes};
+use mk_world::{Sink, World};
 use std::alloc::Global;
 
-// The value of a text where there are no local names.
-fn value(alloc: Global, scopes: &Scopes, keep: bool, text: &[u8]) -> Result<Text, Refusal>
-    ensures { Agrees no_memory (λ value. value) result (spec.value scopes.now keep text.now) }
+fn as_space(byte: u8) -> u8
+    ensures { result ≡ spec.as_space byte }
 {
-    let locals = Locals::none(alloc)?;
-    Ok(value_of_text_unasked(alloc, scopes, &locals, text, keep)?)
-}
-
-// The name of a variable, expanded.
-fn variable_name(alloc: Global, scopes: &Scopes, text: &[u8]) -> Result<Text, Refusal>
-    ensures { Agrees no_memory (λ name. name) result (spec.variable_name scopes.now text.now) }
-{
-    let name = value(alloc, scopes, false, text)?;
-    if name.is_empty() {
-        return Err(Refusal::Wrong(What::EmptyName));
+    if byte == b'\n' {
+        return b' ';
     }
-    Ok(name)
+    byte
 }
 
-/// Does with a name and a value what the sign of an assignment says: `=` sets, `+=` appends after
-/// one space, `?=` sets where no class has the name, and `:=` sets the value expanded now. `!=` is
-/// refused as not built yet. A fault of the expansion is that of the value.
-pub fn set_by(
-    alloc: Global,
+fn without_newline<'t>(text: &'t [u8]) -> &'t [u8]
+    ensures { result.now ≡ spec.without_newline text.now }
+{
+    if let Some(line) = text.strip_suffix(b"\n".as_slice()) {
+        return line;
+    }
+    text
+}
+
+// The output of a command without one final newline, and with spaces for other ones.
+fn on_one_line(alloc: Global, text: &[u8]) -> Result<Text, NoMemory>
+    ensures { IfOk result (λ line. line ≡ spec.on_one_line text.now) }
+{
+    let mut line = Text::new(alloc);
+    let rest = without_newline(text);
+    for byte in rest {
+        line.push(&[as_space(*byte)])?;
+    }
+    Ok(line)
+}
+
+// Sets a variable that no class has.
+fn set_default(
     scopes: &mut Scopes,
     class: Class,
-    op: AssignOp,
     name: &[u8],
     text: &[u8],
-) -> Result<(), Refusal>
-    ensures { Agrees no_memory (λ _. scopes.new) result
-        (spec.set_by scopes.old class op name.now text.now) }
+) -> Result<(), NoMemory>
+    ensures ok { OnOk result
+        (scopes.new ≡ spec.defaulted_in scopes.old class name.now text.now) }
+    ensures err { OnErr result (scopes.new ≡ scopes.old) }
 {
-    match op {
-        AssignOp::Plain => Ok(scopes.assign(class, name, text)?),
-        AssignOp::Append => Ok(scopes.append(class, name, text)?),
-        AssignOp::Default => {
-            if scopes.get(name).is_some() {
-                return Ok(());
-            }
-            Ok(scopes.assign(class, name, text)?)
-        }
-        AssignOp::Now => {
-            let now = value(alloc, scopes, true, text)?;
-            Ok(scopes.assign(class, name, now.bytes())?)
-        }
-        AssignOp::Shell => Err(Refusal::Wrong(What::Unbuilt)),
+    if scopes.get(name).is_some() {
+        return Ok(());
+    }
+    scopes.assign(class, name, text)
+}
+
+// Removes the globals of these names.
+fn remove_all(scopes: &mut Scopes, names: &[Text])
+    ensures { scopes.new ≡ spec.without_globals scopes.old names.now }
+{
+    for name in names {
+        scopes.undef(name.bytes());
     }
 }
 
-/// An assignment, whose name is expanded first: `EmptyName` where nothing is left of it.
-pub fn assign(
-    alloc: Global,
-    scopes: &mut Scopes,
-    class: Class,
-    op: AssignOp,
-    name: &[u8],
-    text: &[u8],
-) -> Result<(), Refusal>
-    ensures { Agrees no_memory (λ _. scopes.new) result
-        (spec.assigned_by scopes.old class op name.now text.now) }
-{
-    let name = variable_name(alloc, scopes, name)?;
-    set_by(alloc, scopes, class, op, name.bytes(), text)
+impl<'a, W: World, S: Sink> Reader<'a, W, S> {
+    // The name of a variable, expanded.
+    fn variable_name(&mut self, alloc: Global, text: &[u8]) -> Result<Text, Refusal>
+        ensures { Gave (outer W.meaning W.history W.faults W.runs S.held S.faults)
+            self.old self.new (λ name. name) result
+            (λ answers. spec.variable_name answers text.now) }
+    {
+        let name = self.value(alloc, false, text)?;
+        if name.is_empty() {
+            return Err(Refusal::Wrong(What::EmptyName));
+        }
+        Ok(name)
+    }
+
+    /// Sets a variable to a text.
+    pub fn set(&mut self, class: Class, name: &[u8], text: &[u8]) -> Result<(), Refusal>
+        ensures { Gave (outer W.meaning W.history W.faults W.runs S.held S.faults)
+            self.old self.new (λ done. done) result
+            (λ answers s. stands (spec.assigned_at s class name.now text.now)) }
+    {
+        self.state.made.scopes.assign(class, name, text)?;
+        Ok(())
+    }
+
+    fn append(&mut self, class: Class, name: &[u8], text: &[u8]) -> Result<(), Refusal>
+        ensures { Gave (outer W.meaning W.history W.faults W.runs S.held S.faults)
+            self.old self.new (λ done. done) result
+            (λ answers s. stands (spec.appended_at s class name.now text.now)) }
+    {
+        self.state.made.scopes.append(class, name, text)?;
+        Ok(())
+    }
+
+    fn default(&mut self, class: Class, name: &[u8], text: &[u8]) -> Result<(), Refusal>
+        ensures { Gave (outer W.meaning W.history W.faults W.runs S.held S.faults)
+            self.old self.new (λ done. done) result
+            (λ answers s. stands (spec.defaulted_at s class name.now text.now)) }
+    {
+        set_default(&mut self.state.made.scopes, class, name, text)?;
+        Ok(())
+    }
+
+    fn set_value(
+        &mut self,
+        alloc: Global,
+        class: Class,
+        name: &[u8],
+        text: &[u8],
+    ) -> Result<(), Refusal>
+        ensures { Gave (outer W.meaning W.history W.faults W.runs S.held S.faults)
+            self.old self.new (λ done. done) result
+            (λ answers. spec.valued answers class name.now text.now) }
+    {
+        let value = self.value(alloc, true, text)?;
+        self.set(class, name, value.bytes())
+    }
+
+    // What the value of a text prints as a command.
+    fn output_of(&mut self, alloc: Global, text: &[u8]) -> Result<Text, Refusal>
+        ensures { Gave (outer W.meaning W.history W.faults W.runs S.held S.faults)
+            self.old self.new (λ output. output) result
+            (λ answers. spec.printed answers text.now) }
+    {
+        let command = self.value(alloc, false, text)?;
+        self.run(alloc, command)
+    }
+
+    fn set_output(
+        &mut self,
+        alloc: Global,
+        class: Class,
+        name: &[u8],
+        text: &[u8],
+    ) -> Result<(), Refusal>
+        ensures { Gave (outer W.meaning W.history W.faults W.runs S.held S.faults)
+            self.old self.new (λ done. done) result
+            (λ answers. spec.run_for answers class name.now text.now) }
+    {
+        let output = self.output_of(alloc, text)?;
+        let line = on_one_line(alloc, output.bytes())?;
+        self.set(class, name, line.bytes())
+    }
+
+    /// Does with a name and a text what the sign of an assignment says: `=` sets the text, `+=`
+    /// appends it after one space, `?=` sets it where no class has the name, `:=` sets its value,
+    /// and `!=` sets what its value prints as a command.
+    pub fn set_by(
+        &mut self,
+        alloc: Global,
+        class: Class,
+        op: AssignOp,
+        name: &[u8],
+        text: &[u8],
+    ) -> Result<(), Refusal>
+        ensures { Gave (outer W.meaning W.history W.faults W.runs S.held S.faults)
+            self.old self.new (λ done. done) result
+            (λ answers. spec.set_by answers class op name.now text.now) }
+    {
+        match op {
+            AssignOp::Plain => self.set(class, name, text),
+            AssignOp::Append => self.append(class, name, text),
+            AssignOp::Default => self.default(class, name, text),
+            AssignOp::Now => self.set_value(alloc, class, name, text),
+            AssignOp::Shell => self.set_output(alloc, class, name, text),
+        }
+    }
+
+    /// An assignment, whose name is expanded first: `EmptyName` where nothing is left of it.
+    pub fn assign(
+        &mut self,
+        alloc: Global,
+        class: Class,
+        op: AssignOp,
+        name: &[u8],
+        text: &[u8],
+    ) -> Result<(), Refusal>
+        ensures { Gave (outer W.meaning W.history W.faults W.runs S.held S.faults)
+            self.old self.new (λ done. done) result
+            (λ answers. spec.assigned_by answers class op name.now text.now) }
+    {
+        let name = self.variable_name(alloc, name)?;
+        self.set_by(alloc, class, op, name.bytes(), text)
+    }
+
+    /// Removes the globals that the words of a text name, as they are written.
+    pub fn undefine(&mut self, alloc: Global, text: &[u8]) -> Result<(), Refusal>
+        ensures { Gave (outer W.meaning W.history W.faults W.runs S.held S.faults)
+            self.old self.new (λ done. done) result
+            (λ answers s. stands (spec.undefined_by text.now s)) }
+    {
+        let names = words(alloc, text)?;
+        remove_all(&mut self.state.made.scopes, names.as_slice());
+        Ok(())
+    }
 }

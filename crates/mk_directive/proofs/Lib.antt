@@ -1,0 +1,3 @@
+mod InLemmas
+mod PieceLemmas
+mod Rows

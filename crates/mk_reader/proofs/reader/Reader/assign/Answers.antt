@@ -1,0 +1,15 @@
+use Rattle.std.proofs.Common.{refl, sym, ap, ◌∙◌}
+use Rattle.std.proofs.lemmas.Result.{err_from_is_err_and}
+use Rattle.mk_reader.specs.Variables.{set_by}
+use Rattle.mk_reader.proofs.StepLemmas.{then-fault, then-given}
+use Rattle.mk_reader.proofs.reader.Reader.assign.Goals as goal
+
+pub returns-in_err-name : goal.returns-in_err-name
+returns-in_err-name g c =
+    let p = err_from_is_err_and c.from_residual.result c.from_residual.ensures.1 in
+    rw (p.1, p.2) (then-fault _ (λ answers is. set_by answers c.args.class c.args.op is.0 c.args.text.now is.1) c.in_err-name.ensures)
+
+pub returns : goal.returns
+returns g c =
+    then-given _ (λ answers is. set_by answers c.args.class c.args.op is.0 c.args.text.now is.1) c.in_ok-name.ensures
+    (rw (← c.bytes.ensures.value) c.set_by.ensures)

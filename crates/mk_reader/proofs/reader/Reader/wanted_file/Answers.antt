@@ -1,0 +1,15 @@
+use Rattle.std.proofs.Common.{refl}
+use Rattle.std.proofs.lemmas.Result.{err_from_is_err_and}
+use Rattle.mk_reader.proofs.StepLemmas.{given-as, here-want}
+use Rattle.mk_reader.proofs.reader.Reader.wanted_file.Goals as goal
+
+pub returns-in_err-line : goal.returns-in_err-line
+returns-in_err-line g c =
+    let p = err_from_is_err_and c.from_residual.result c.from_residual.ensures.1 in
+    rw (p.1, p.2) (here-want _ _ _ _)
+
+pub returns : goal.returns
+returns g c =
+    given-as _ _ _ _ _ _ (λ answers.
+      rw (c.without_spaces.ensures, c.as_slice.ensures.value, c.in_ok-line.ensures) refl)
+    c.file_on.ensures

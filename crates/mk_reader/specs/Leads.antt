@@ -1,0 +1,77 @@
+-- What calls leave of the world, by the questions that they ask.
+use Rattle.std.specs.Prelude.{◌≡◌, List, [], ◌∷◌, ◌++◌, map, Option, Some, None}
+use Rattle.std.proofs.Common.{refl, sym, ap, subst, ◌∙◌, append_assoc}
+use Rattle.std.proofs.lemmas.List.{append-nil, map-append}
+use Rattle.mk_world.specs.Talks.{Meaning}
+use Rattle.mk_world.specs.Told.{Told}
+use Rattle.mk_world.specs.declared.history.History.{History}
+use Rattle.mk_reader.specs.Notes.{question_of, questions_in}
+use Rattle.mk_reader.specs.Questions.{Question, AreAsked, readings_in, runnings_in}
+use Rattle.mk_reader.specs.Questions.{readings_in-append, runnings_in-append}
+use Rattle.mk_reader.specs.declared.note.Note.{Note}
+
+-- The questions that were noted in addition are those of `exists`. They were asked, and nothing else
+-- happened, where no child runs.
+pub record Led (meaning : Meaning) (idle : Type 0) (before after : Option History)
+    (old new : List Note) : Type 0
+  where
+    pub more : List Note
+    pub added : new ≡ old ++ more
+    pub no_reading : readings_in (questions_in more) ≡ []
+    pub no_running : runnings_in (questions_in more) ≡ []
+    pub told : idle → Told before after (AreAsked meaning (questions_in more))
+
+-- no question
+
+told-none : (meaning : Meaning) (told : Option History) → Told told told (AreAsked meaning [])
+told-none meaning None = tt
+told-none meaning (Some history) = refl
+
+pub led_nowhere : (meaning : Meaning) (idle : Type 0) (told : Option History) (notes : List Note)
+    → Led meaning idle told told notes notes
+led_nowhere meaning idle told notes = record {
+  more = [];
+  added = sym (append-nil notes);
+  no_reading = refl;
+  no_running = refl;
+  told = λ is. told-none meaning told;
+}
+
+-- one question after the other
+
+pub AreAsked-both : (meaning : Meaning) (a b c : History) (first second : List Question)
+    → AreAsked meaning first a b → AreAsked meaning second b c
+    → AreAsked meaning (first ++ second) a c
+AreAsked-both meaning a b c [] second same more = subst (λ h. AreAsked meaning second h c) same more
+AreAsked-both meaning a b c (one ∷ first) second asked more =
+    (asked.0, asked.1, AreAsked-both meaning asked.0 b c first second asked.2 more)
+
+pub told_both : (meaning : Meaning) (a b c : Option History) (first second : List Question)
+    → Told a b (AreAsked meaning first) → Told b c (AreAsked meaning second)
+    → Told a c (AreAsked meaning (first ++ second))
+told_both meaning a b None first second asked more = tt
+told_both meaning a None (Some z) first second asked more = absurd more
+told_both meaning None (Some y) (Some z) first second asked more = absurd asked
+told_both meaning (Some x) (Some y) (Some z) first second asked more =
+    AreAsked-both meaning x y z first second asked more
+
+pub led_on : (meaning : Meaning) (idle then_idle : Type 0) (a b c : Option History)
+    (old mid new : List Note)
+    → Led meaning idle a b old mid → (idle → then_idle) → Led meaning then_idle b c mid new
+    → Led meaning idle a c old new
+led_on meaning idle then_idle a b c old mid new first keeps second = record {
+  more = first.more ++ second.more;
+  added = second.added ∙ ap (λ l. l ++ second.more) first.added
+      ∙ append_assoc old first.more second.more;
+  no_reading = ap readings_in (map-append question_of first.more second.more)
+      ∙ readings_in-append (questions_in first.more) (questions_in second.more)
+      ∙ rw (first.no_reading, second.no_reading) refl;
+  no_running = ap runnings_in (map-append question_of first.more second.more)
+      ∙ runnings_in-append (questions_in first.more) (questions_in second.more)
+      ∙ rw (first.no_running, second.no_running) refl;
+  told = λ is.
+      subst (λ q. Told a c (AreAsked meaning q))
+      (sym (map-append question_of first.more second.more))
+      (told_both meaning a b c (questions_in first.more) (questions_in second.more)
+      (first.told is) (second.told (keeps is)));
+}

@@ -1,0 +1,121 @@
+-- Questions that reading asks of the world, and their answers.
+use Rattle.std.specs.Prelude.{◌≡◌, ℕ, Bool, true, false, List, [], ◌∷◌, ◌++◌, Option, Some, slice_get}
+use Rattle.std.proofs.Common.{refl, ap}
+use Rattle.mk_expand.specs.Facts.{AnsweredBy}
+use Rattle.mk_expand.specs.Facts as expand
+use Rattle.mk_expand.specs.declared.facts.Asked.{Asked}
+use Rattle.mk_world.specs.Calls.{when_of}
+use Rattle.mk_world.specs.History.{state_of}
+use Rattle.mk_world.specs.Runs.{Looked}
+use Rattle.mk_world.specs.Runs as runs
+use Rattle.mk_world.specs.Talks.{Meaning}
+use Rattle.mk_world.specs.declared.command.Cmd.{Cmd}
+use Rattle.mk_world.specs.declared.history.Happening.TheVariants.{Look}
+use Rattle.mk_world.specs.declared.history.History.{History}
+use Rattle.mk_world.specs.declared.step.Ended.{Ended}
+use Rattle.mk_world.specs.declared.time.When.{When}
+use Rattle.mk_world.specs.declared.time.When.TheVariants.{Missing, At, Unknown}
+
+pub data Question : Type 0 where
+  -- the bytes of a path
+  bytes_of : (path : List ℕ) → (found : Option (List ℕ)) → Question
+  -- its time, for `exists`
+  time_of : (path : List ℕ) → (when : When) → Question
+  -- a command, for `!=`
+  output_of : (cmd : Cmd) → (ended : Ended) → Question
+
+-- a file is there unless its time says that it is missing
+abbrev pub is_there : When → Bool
+is_there Missing = false
+is_there (At time) = true
+is_there Unknown = true
+
+-- a file that was read
+pub record Reading : Type 0 where
+  pub path : List ℕ
+  pub found : Option (List ℕ)
+
+-- a command that was run
+pub record Running : Type 0 where
+  pub cmd : Cmd
+  pub ended : Ended
+
+-- the questions of each sort, in order
+abbrev pub times_in : List Question → List Asked
+times_in [] = []
+times_in (time_of path when ∷ more) = record { path = path; answer = is_there when } ∷ times_in more
+times_in (bytes_of path found ∷ more) = times_in more
+times_in (output_of cmd ended ∷ more) = times_in more
+
+abbrev pub readings_in : List Question → List Reading
+readings_in [] = []
+readings_in (bytes_of path found ∷ more) = record { path = path; found = found } ∷ readings_in more
+readings_in (time_of path when ∷ more) = readings_in more
+readings_in (output_of cmd ended ∷ more) = readings_in more
+
+abbrev pub runnings_in : List Question → List Running
+runnings_in [] = []
+runnings_in (output_of cmd ended ∷ more) = record { cmd = cmd; ended = ended } ∷ runnings_in more
+runnings_in (bytes_of path found ∷ more) = runnings_in more
+runnings_in (time_of path when ∷ more) = runnings_in more
+
+pub times_in-append : (first second : List Question)
+    → times_in (first ++ second) ≡ times_in first ++ times_in second
+times_in-append [] second = refl
+times_in-append (time_of path when ∷ more) second =
+    ap (λ (l : List Asked). record { path = path; answer = is_there when } ∷ l)
+    (times_in-append more second)
+times_in-append (bytes_of path found ∷ more) second = times_in-append more second
+times_in-append (output_of cmd ended ∷ more) second = times_in-append more second
+
+pub readings_in-append : (first second : List Question)
+    → readings_in (first ++ second) ≡ readings_in first ++ readings_in second
+readings_in-append [] second = refl
+readings_in-append (bytes_of path found ∷ more) second =
+    ap (λ (l : List Reading). record { path = path; found = found } ∷ l)
+    (readings_in-append more second)
+readings_in-append (time_of path when ∷ more) second = readings_in-append more second
+readings_in-append (output_of cmd ended ∷ more) second = readings_in-append more second
+
+pub runnings_in-append : (first second : List Question)
+    → runnings_in (first ++ second) ≡ runnings_in first ++ runnings_in second
+runnings_in-append [] second = refl
+runnings_in-append (output_of cmd ended ∷ more) second =
+    ap (λ (l : List Running). record { cmd = cmd; ended = ended } ∷ l)
+    (runnings_in-append more second)
+runnings_in-append (time_of path when ∷ more) second = runnings_in-append more second
+runnings_in-append (bytes_of path found ∷ more) second = runnings_in-append more second
+
+-- What the outside answers: each sort of question by the number of those before it, and what is asked.
+pub record Answers : Type 0 where
+  pub exists : expand.Answers
+  pub contents : ℕ → List ℕ → Option (List ℕ)
+  pub outputs : ℕ → Cmd → List ℕ
+
+-- These answers were given to these questions.
+pub record Answered (answers : Answers) (questions : List Question) : Type 0 where
+  pub exists : AnsweredBy answers.exists (times_in questions)
+  pub contents : (place : ℕ) (one : Reading) → slice_get (readings_in questions) place ≡ Some one
+      → one.found ≡ answers.contents place one.path
+  pub outputs : (place : ℕ) (one : Running) → slice_get (runnings_in questions) place ≡ Some one
+      → one.ended.output ≡ answers.outputs place one.cmd
+
+-- In the world
+
+-- make asked for the time of a path, and was told what stands there; nothing else happened
+pub record Timed (path : List ℕ) (when : When) (old new : History) : Type 0 where
+  pub base : new.base ≡ old.base
+  pub event : new.events ≡ old.events ++ Look path ∷ []
+  pub told : when ≡ when_of ((state_of old).files path)
+
+-- a question was answered with what stood in the world at its moment, and nothing else happened
+abbrev pub IsAsked : Meaning → Question → History → History → Type 0
+IsAsked meaning (bytes_of path found) old new = Looked path found old new
+IsAsked meaning (time_of path when) old new = Timed path when old new
+IsAsked meaning (output_of cmd ended) old new = runs.Asked meaning cmd ended old new
+
+-- Questions were so answered, one after the other.
+abbrev pub AreAsked : Meaning → List Question → History → History → Type 0
+AreAsked meaning [] old new = new ≡ old
+AreAsked meaning (question ∷ more) old new =
+    (mid : History) × IsAsked meaning question old mid × AreAsked meaning more mid new

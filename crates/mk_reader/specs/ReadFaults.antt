@@ -1,0 +1,89 @@
+-- Why makefiles are not read to their end.
+use Rattle.std.specs.Prelude.{List, [], Result, Ok, Err}
+use Rattle.mk_blocks.specs.Runs.{max_files, max_lines}
+use Rattle.mk_blocks.specs.Outcomes.{Outcome}
+use Rattle.mk_blocks.specs.declared.fault.FileFault.{FileFault}
+use Rattle.mk_blocks.specs.declared.fault.FileFault.TheVariants as file
+use Rattle.mk_blocks.specs.declared.fault.LanguageFault.{LanguageFault}
+use Rattle.mk_blocks.specs.declared.fault.LanguageFault.TheVariants as language
+use Rattle.mk_blocks.specs.declared.fault.Wrong.{Wrong}
+use Rattle.mk_blocks.specs.declared.fault.Wrong.TheVariants as wrong
+use Rattle.mk_blocks.specs.declared.kind.BlockFault.{BlockFault}
+use Rattle.mk_blocks.specs.declared.kind.BlockFault.TheVariants as block
+use Rattle.mk_bytes.specs.declared.kind.Kind.TheVariants.{Lines, Includes}
+use Rattle.mk_reader.specs.declared.fault.Outside.{Outside}
+use Rattle.mk_reader.specs.declared.fault.Outside.TheVariants as outside
+use Rattle.mk_reader.specs.declared.fault.ReadFault.{ReadFault}
+use Rattle.mk_reader.specs.declared.fault.ReadFault.TheVariants.{Bad, Limit, World, Sink, NoMemory}
+use Rattle.mk_reader.specs.declared.fault.Refusal.{Refusal}
+use Rattle.mk_reader.specs.declared.fault.Refusal.TheVariants as refusal
+use Rattle.mk_reader.specs.declared.fault.Stop.{Stop}
+use Rattle.mk_reader.specs.declared.fault.Stop.TheVariants as stop
+use Rattle.mk_reader.specs.declared.fault.What.{What}
+use Rattle.mk_reader.specs.declared.fault.What.TheVariants as what
+
+-- a line out of its place
+abbrev pub of_block : BlockFault → What
+of_block block.Else = what.Else
+of_block block.EndIf = what.Endif
+of_block block.EndFor = what.Endfor
+of_block block.Break = what.Break
+of_block block.OpenBlock = what.OpenBlock
+
+abbrev pub of_wrong : Wrong What → What
+of_wrong wrong.TooLong = what.TooLong
+of_wrong wrong.Zero = what.Zero
+of_wrong (wrong.Block fault) = of_block fault
+of_wrong (wrong.Line found) = found
+
+-- how the outside failed
+abbrev pub of_outside : Outside → ReadFault
+of_outside outside.World = World
+of_outside outside.Sink = Sink
+of_outside outside.NoMemory = NoMemory
+
+-- a fault of a file
+abbrev pub of_file : FileFault What Outside → Stop
+of_file (file.Bad name number found) = stop.Fault (Bad name number (of_wrong found))
+of_file file.TooManyLines = stop.Fault (Limit Lines max_lines)
+of_file file.TooManyFiles = stop.Fault (Limit Includes max_files)
+of_file (file.Failed failure) = stop.Failed failure
+of_file file.NoMemory = stop.NoMemory
+
+-- a fault of the command line has no file and no line
+abbrev pub of_what : What → ReadFault
+of_what found = Bad [] 0 found
+
+abbrev pub of_refusal : Refusal → Stop
+of_refusal (refusal.Wrong what) = stop.Fault (of_what what)
+of_refusal (refusal.Failed failure) = stop.Failed failure
+of_refusal refusal.NoMemory = stop.NoMemory
+
+abbrev pub of_stop : Stop → ReadFault
+of_stop (stop.Fault fault) = fault
+of_stop (stop.Failed failure) = of_outside failure
+of_stop stop.NoMemory = NoMemory
+
+-- what is defined of files, as faults of the reading
+abbrev pub file_fault : FileFault What Outside → ReadFault
+file_fault fault = of_stop (of_file fault)
+
+-- reasons to stop, sorted
+abbrev pub sorted : Stop → LanguageFault ReadFault Outside
+sorted (stop.Fault fault) = language.Wrong fault
+sorted (stop.Failed failure) = language.Failed failure
+sorted stop.NoMemory = language.NoMemory
+
+abbrev pub Reads : Type 0 → Type 0
+Reads A = Outcome A ReadFault
+
+-- outcomes, with their faults as those of the reading
+abbrev pub fault_as : {A E F : Type 0} → (E → F) → Result A E → Result A F
+fault_as view (Ok given) = Ok given
+fault_as view (Err fault) = Err (view fault)
+
+abbrev pub outcome_as : {A E F : Type 0} → (E → F) → Outcome A E → Outcome A F
+outcome_as view outcome = record {
+  messages = outcome.messages;
+  answer = fault_as view outcome.answer;
+}

@@ -1,0 +1,288 @@
+-- How the calls of a reader are tied to the meaning of lines.
+use Rattle.std.specs.Prelude.{◌≡◌, ℕ, ◌<◌, ◌≤◌, List, [], ◌∷◌, ◌++◌, Option, Some, None, Result, Ok, Err, slice_get}
+use Rattle.std.specs.Prelude.{zero, suc, length, map}
+use Rattle.std.proofs.Common.{refl, sym, ap, subst, ◌∙◌, append_assoc, arith}
+use Rattle.std.proofs.lemmas.List.{append-nil, map-append}
+use Rattle.mk_blocks.specs.Languages.{Meaning as LineMeaning}
+use Rattle.mk_blocks.specs.Outcomes.{done}
+use Rattle.mk_blocks.specs.Ties.{Does, Ties}
+use Rattle.mk_expand.specs.Facts.{Means}
+use Rattle.mk_expand.specs.Facts as expand
+use Rattle.mk_expand.specs.declared.facts.Asked.{Asked}
+use Rattle.mk_expand.specs.declared.fault.ExpandFault.{ExpandFault}
+use Rattle.mk_world.specs.Causes.{HasCause}
+use Rattle.mk_world.specs.Runs.{RanAtMost}
+use Rattle.mk_world.specs.Sinks.{Begins, Gains, GainsPart}
+use Rattle.mk_world.specs.Talks.{Meaning}
+use Rattle.mk_world.specs.Told.{Told}
+use Rattle.mk_world.proofs.SinkLemmas.{Gains-nothing, Gains-then, GainsPart-more, GainsPart-then}
+use Rattle.mk_world.specs.declared.command.Cmd.{Cmd}
+use Rattle.mk_world.specs.declared.history.History.{History}
+use Rattle.mk_reader.specs.Kinds.{line_kind}
+use Rattle.mk_reader.specs.Languages.{meaning}
+use Rattle.mk_reader.specs.Leads.{AreAsked-both, Led}
+use Rattle.mk_reader.specs.Moments.{Doing, Moment, moment_of}
+use Rattle.mk_reader.specs.Notes.{asked_by, question_of, questions_in}
+use Rattle.mk_reader.specs.Questions.{Answered, Answers, AreAsked, Question, Reading, Running}
+use Rattle.mk_reader.specs.Questions.{readings_in, runnings_in, times_in}
+use Rattle.mk_reader.specs.Questions.{readings_in-append, runnings_in-append, times_in-append}
+use Rattle.mk_reader.specs.declared.fault.Outside.{Outside}
+use Rattle.mk_reader.specs.declared.fault.Outside.TheVariants as outside
+use Rattle.mk_reader.specs.Refusals.{sorted}
+use Rattle.mk_reader.specs.declared.fault.Refusal.{Refusal}
+use Rattle.mk_reader.specs.declared.fault.What.{What}
+use Rattle.mk_reader.specs.declared.note.Note.{Note}
+use Rattle.mk_reader.specs.declared.reader.Reader.{Reader}
+use Rattle.mk_reader.specs.declared.state.State.{State}
+
+-- a reader's world and sink, as they tell of themselves
+pub record Outer (W S : Type 0) : Type 1 where
+  pub meaning : Meaning
+  pub history : W → Option History
+  pub faults : W → ℕ
+  pub runs : W → List ℕ → Type 0
+  pub held : S → Option (List ℕ)
+  pub lost : S → ℕ
+
+-- A command that was not answered may have been run.
+abbrev pub Cut : Meaning → Option Outside → History → History → Type 0
+Cut meaning None mid new = new ≡ mid
+Cut meaning (Some outside.Sink) mid new = new ≡ mid
+Cut meaning (Some outside.World) mid new = (cmd : Cmd) × RanAtMost meaning cmd mid new
+Cut meaning (Some outside.NoMemory) mid new = (cmd : Cmd) × RanAtMost meaning cmd mid new
+
+-- Questions were asked, one after the other, and then the outside may have failed so.
+abbrev pub Asks : Meaning → Option Outside → List Question → History → History → Type 0
+Asks meaning failure questions old new =
+    (mid : History) × AreAsked meaning questions old mid × Cut meaning failure mid new
+
+-- how a call ended
+abbrev pub ended : Option Outside → Result (Unit {0}) Outside
+ended None = Ok tt
+ended (Some failure) = Err failure
+
+-- the bytes of messages, in order
+abbrev pub all_bytes : List (List ℕ) → List ℕ
+all_bytes [] = []
+all_bytes (message ∷ messages) = message ++ all_bytes messages
+
+pub all_bytes-append : (first second : List (List ℕ))
+    → all_bytes (first ++ second) ≡ all_bytes first ++ all_bytes second
+all_bytes-append [] second = refl
+all_bytes-append (message ∷ first) second =
+    ap (λ l. message ++ l) (all_bytes-append first second)
+    ∙ sym (append_assoc message (all_bytes first) (all_bytes second))
+
+pub GainsPart-whole : (a b : Option (List ℕ)) (bytes : List ℕ) → Gains a b bytes → GainsPart a b bytes
+GainsPart-whole a None bytes gains = tt
+GainsPart-whole None (Some b) bytes gains = gains
+GainsPart-whole (Some a) (Some b) bytes gains =
+    (bytes, record { rest = []; is = sym (append-nil bytes) }, gains)
+
+pub asks_nothing : (meaning : Meaning) (told : Option History) → Told told told (Asks meaning None [])
+asks_nothing meaning None = tt
+asks_nothing meaning (Some history) = (history, refl, refl)
+
+asks_both : (meaning : Meaning) (failure : Option Outside) (a b c : Option History)
+    (first second : List Question)
+    → Told a b (Asks meaning None first) → Told b c (Asks meaning failure second)
+    → Told a c (Asks meaning failure (first ++ second))
+asks_both meaning failure a b None first second asked more = tt
+asks_both meaning failure a None (Some z) first second asked more = absurd more
+asks_both meaning failure None (Some y) (Some z) first second asked more = absurd asked
+asks_both meaning failure (Some x) (Some y) (Some z) first second asked more =
+    (more.0,
+    AreAsked-both meaning x y more.0 first second
+    (subst (λ h. AreAsked meaning first x h) (sym asked.2) asked.1) more.1,
+    more.2)
+
+pub no_cause : (failed : Outside) (count : ℕ) → HasCause failed count count (ended None)
+no_cause failed count = record {
+  kept = omega arith;
+  answered = λ rose. absurd (let never : ⊥ = omega arith in never);
+  rose = λ is. absurd cc;
+}
+
+pub same_count : (failed : Outside) (before after : ℕ)
+    → HasCause failed before after (ended None) → after ≡ before
+same_count failed before after cause =
+    let none : before < after → ⊥ = λ rose. let is = cause.answered rose in absurd cc in
+    let kept : before ≤ after = cause.kept in omega (arith, none)
+
+cause_behind : (failed : Outside) (a b c : ℕ) (answer : Result (Unit {0}) Outside)
+    → HasCause failed a b (ended None) → HasCause failed b c answer
+    → HasCause failed a c answer
+cause_behind failed a b c answer first second =
+    let same : b ≡ a = same_count failed a b first in
+    subst (λ n. HasCause failed n c answer) same second
+
+-- the questions of a first part
+slice_get-append : {A : Type 0} (old more : List A) (place : ℕ) (one : A)
+    → slice_get old place ≡ Some one → slice_get (old ++ more) place ≡ Some one
+slice_get-append [] more place one is = absurd cc
+slice_get-append (x ∷ old) more zero one is = is
+slice_get-append (x ∷ old) more (suc place) one is = slice_get-append old more place one is
+
+Answered-first : (answers : Answers) (first more : List Question)
+    → Answered answers (first ++ more) → Answered answers first
+Answered-first answers first more by = record {
+  exists = λ place one is. by.exists place one
+      (rw (times_in-append first more)
+      (slice_get-append (times_in first) (times_in more) place one is));
+  contents = λ place one is. by.contents place one
+      (rw (readings_in-append first more)
+      (slice_get-append (readings_in first) (readings_in more) place one is));
+  outputs = λ place one is. by.outputs place one
+      (rw (runnings_in-append first more)
+      (slice_get-append (runnings_in first) (runnings_in more) place one is));
+}
+
+module _ {W S : Type 0} (outer : Outer W S) where
+  -- no child runs
+  abbrev pub idle : Reader W S → Type 0
+  idle x = outer.runs x.world.now []
+
+  -- What holds of a reader before and after calls, of which the last may have failed so: it has the
+  -- same outside and order, questions were noted in addition, they were asked, and a failure has
+  -- its cause.
+  pub record Leads (failure : Option Outside) (x y : Reader W S) : Type 0 where
+    pub world : y.world.ghost_name ≡ x.world.ghost_name
+    pub err : y.err.ghost_name ≡ x.err.ghost_name
+    pub state : y.state.ghost_name ≡ x.state.ghost_name
+    pub order : y.order.now ≡ x.order.now
+    pub more : List Note
+    pub noted : y.state.now.notes.items ≡ x.state.now.notes.items ++ more
+    pub told : idle x → Told (outer.history x.world.now) (outer.history y.world.now)
+        (Asks outer.meaning failure (questions_in more))
+    pub stays_idle : idle x → idle y
+    pub world_cause : HasCause outside.World (outer.faults x.world.now) (outer.faults y.world.now)
+        (ended failure)
+    pub sink_cause : HasCause outside.Sink (outer.lost x.err.now) (outer.lost y.err.now)
+        (ended failure)
+
+  pub leads_nowhere : (x : Reader W S) → Leads None x x
+  leads_nowhere x = record {
+    world = refl;
+    err = refl;
+    state = refl;
+    order = refl;
+    more = [];
+    noted = sym (append-nil x.state.now.notes.items);
+    told = λ is. asks_nothing outer.meaning (outer.history x.world.now);
+    stays_idle = λ is. is;
+    world_cause = no_cause outside.World (outer.faults x.world.now);
+    sink_cause = no_cause outside.Sink (outer.lost x.err.now);
+  }
+
+  pub leads_on : {x y z : Reader W S} {failure : Option Outside}
+      → Leads None x y → Leads failure y z → Leads failure x z
+  leads_on {x} {y} {z} {failure} first second = record {
+    world = second.world ∙ first.world;
+    err = second.err ∙ first.err;
+    state = second.state ∙ first.state;
+    order = second.order ∙ first.order;
+    more = first.more ++ second.more;
+    noted = second.noted ∙ ap (λ l. l ++ second.more) first.noted
+        ∙ append_assoc x.state.now.notes.items first.more second.more;
+    told = λ is.
+        subst (λ q. Told (outer.history x.world.now) (outer.history z.world.now)
+        (Asks outer.meaning failure q))
+        (sym (map-append question_of first.more second.more))
+        (asks_both outer.meaning failure (outer.history x.world.now)
+        (outer.history y.world.now) (outer.history z.world.now)
+        (questions_in first.more) (questions_in second.more)
+        (first.told is) (second.told (first.stays_idle is)));
+    stays_idle = λ is. second.stays_idle (first.stays_idle is);
+    world_cause = cause_behind outside.World (outer.faults x.world.now)
+        (outer.faults y.world.now) (outer.faults z.world.now) (ended failure)
+        first.world_cause second.world_cause;
+    sink_cause = cause_behind outside.Sink (outer.lost x.err.now)
+        (outer.lost y.err.now) (outer.lost z.err.now) (ended failure)
+        first.sink_cause second.sink_cause;
+  }
+
+  abbrev pub has_answered : Answers → Reader W S → Type 0
+  has_answered answers x = Answered answers (questions_in x.state.now.notes.items)
+
+  pub agreed : {x y : Reader W S} {failure : Option Outside} (answers : Answers)
+      → Leads failure x y → has_answered answers y → has_answered answers x
+  agreed {x} {y} answers leads by =
+      Answered-first answers (questions_in x.state.now.notes.items) (questions_in leads.more)
+      (subst (Answered answers)
+      (ap questions_in leads.noted ∙ map-append question_of x.state.now.notes.items leads.more)
+      by)
+
+  abbrev pub writes : Reader W S → Reader W S → List (List ℕ) → Type 0
+  writes x y messages = Gains (outer.held x.err.now) (outer.held y.err.now) (all_bytes messages)
+
+  abbrev pub writes_part : Reader W S → Reader W S → List (List ℕ) → Type 0
+  writes_part x y messages =
+      GainsPart (outer.held x.err.now) (outer.held y.err.now) (all_bytes messages)
+
+  -- What lines mean to a reader.
+  abbrev pub reader_ties : Ties (Reader W S) What Outside
+  reader_ties = record {
+    Answers = Answers;
+    agrees = has_answered;
+    State = Moment;
+    state = λ x. moment_of x.state.now x.order.now;
+    kind = line_kind;
+    meaning = meaning;
+    leads = Leads;
+    writes = writes;
+    writes_part = writes_part;
+    leads_nowhere = leads_nowhere;
+    leads_on = leads_on;
+    agreed = agreed;
+    writes_nothing = λ x. Gains-nothing (outer.held x.err.now);
+    writes_both = λ {x} {y} {z} {first} {second} one other.
+        subst (λ l. Gains (outer.held x.err.now) (outer.held z.err.now) l)
+        (sym (all_bytes-append first second))
+        (Gains-then (outer.held x.err.now) (outer.held y.err.now) (outer.held z.err.now)
+        (all_bytes first) (all_bytes second) one other);
+    part_of_whole = λ {x} {y} {whole} gains.
+        GainsPart-whole (outer.held x.err.now) (outer.held y.err.now) (all_bytes whole) gains;
+    part_of_more = λ {x} {y} {part} more gained.
+        subst (λ l. GainsPart (outer.held x.err.now) (outer.held y.err.now) l)
+        (sym (all_bytes-append part more))
+        (GainsPart-more (outer.held x.err.now) (outer.held y.err.now)
+        (all_bytes part) (all_bytes more) gained);
+    part_behind = λ {x} {y} {z} {first} {second} gains gained.
+        subst (λ l. GainsPart (outer.held x.err.now) (outer.held z.err.now) l)
+        (sym (all_bytes-append first second))
+        (GainsPart-then (outer.held x.err.now) (outer.held y.err.now) (outer.held z.err.now)
+        (all_bytes first) (all_bytes second) gains gained);
+  }
+
+abbrev pub outer : {W S : Type 0} → Meaning → (W → Option History) → (W → ℕ)
+    → (W → List ℕ → Type 0) → (S → Option (List ℕ)) → (S → ℕ) → Outer W S
+outer meaning history faults runs held lost = record {
+  meaning = meaning;
+  history = history;
+  faults = faults;
+  runs = runs;
+  held = held;
+  lost = lost;
+}
+
+-- A call of a reader gives what is defined, seen by `view`, and leaves the reader where reading
+-- stands behind it; or it is refused as that, or by the outside, or for want of memory.
+abbrev pub Gave : {W S A B : Type 0} → Outer W S → Reader W S → Reader W S → (A → B)
+    → Result A Refusal → (Answers → Moment → Doing B) → Type 0
+Gave outer x y view answer question =
+    Does (reader_ties outer) sorted x y
+    (λ answers found. done (view found, moment_of y.state.now y.order.now)) answer
+    (λ answers. question answers (moment_of x.state.now x.order.now))
+
+-- What evaluating a text or a condition gives, and what it leaves of what was read and of the world.
+pub record Evaluated {A B : Type 0} (meaning : Meaning) (idle then_idle : Type 0)
+    (before after : Option History) (old new : State) (view : A → B)
+    (answer : Result A ExpandFault)
+    (defined : expand.Answers → Result (B × List Asked) ExpandFault) : Type 0
+  where
+    pub value : Means (asked_by new.notes.items) (λ found. (view found, asked_by new.notes.items))
+        answer defined
+    pub made : new.made ≡ old.made
+    pub in_group : new.in_group ≡ old.in_group
+    pub led : Led meaning idle before after old.notes.items new.notes.items
+    pub stays_idle : idle → then_idle

@@ -1,0 +1,137 @@
+//! What reading asks of the outside: values, conditions, files, commands and messages.
+ghost use Rattle.std.specs.Prelude.{[]};
+ghost use Rattle.mk_cond.specs.View.{cond_view};
+ghost use Rattle.mk_expand.specs.Locals.{no_locals};
+ghost use Rattle.mk_expand.specs.Value as expand;
+ghost use Rattle.mk_expand.specs.declared.fault.ExpandFault.TheVariants.{Failed as failed};
+ghost use Rattle.mk_reader.specs.Facts.{lists_of};
+ghost use Rattle.mk_reader.specs.Notes.{asked_by};
+ghost use Rattle.mk_reader.specs.Ties.{Evaluated, Gave, outer};
+ghost use Rattle.mk_reader.specs.Values as spec;
+ghost use Rattle.mk_world.specs.Causes.{HasCause};
+
+use crate::facts::ReadFacts;
+use crate::fault::Refusal;
+use crate::note::Note;
+use crate::reader::Reader;
+use crate::state::State;
+use mk_bytes::{Items, Text, Texts};
+use mk_cond::Cond;
+use mk_expand::{ExpandFault, Locals, eval_cond, value_of_text};
+use mk_world::{Cmd, Sink, World};
+use std::alloc::Global;
+use std::snapshot::Snapshot;
+
+// The value of a text where there are no local names.
+fn value_in<W: World>(
+    alloc: Global,
+    world: &mut W,
+    state: &mut State,
+    requested: &Texts,
+    keep: bool,
+    text: &[u8],
+) -> Result<Text, ExpandFault>
+    ensures evaluated { Evaluated W.meaning (W.runs world.old []) (W.runs world.new [])
+        (W.history world.old) (W.history world.new) state.old state.new (λ value. value) result
+        (λ answers. expand.value_of_text state.old.made.scopes no_locals
+        (lists_of state.old.made.rule requested.now) answers keep
+        (asked_by state.old.notes.items) text.now) }
+    ensures cause { HasCause failed (W.faults world.old) (W.faults world.new) result }
+{
+    let locals = Locals::none(alloc)?;
+    let made = &state.made;
+    let mut facts = ReadFacts {
+        made,
+        requested,
+        world,
+        notes: &mut state.notes,
+    };
+    value_of_text(alloc, &made.scopes, &locals, text, &mut facts, keep)
+}
+
+// Whether a condition holds.
+fn truth_in<W: World>(
+    alloc: Global,
+    world: &mut W,
+    state: &mut State,
+    requested: &Texts,
+    cond: &Cond,
+) -> Result<bool, ExpandFault>
+    ensures evaluated { Evaluated W.meaning (W.runs world.old []) (W.runs world.new [])
+        (W.history world.old) (W.history world.new) state.old state.new (λ truth. truth) result
+        (λ answers. expand.truth state.old.made.scopes no_locals
+        (lists_of state.old.made.rule requested.now) answers
+        (asked_by state.old.notes.items) (cond_view cond.now)) }
+    ensures cause { HasCause failed (W.faults world.old) (W.faults world.new) result }
+{
+    let locals = Locals::none(alloc)?;
+    let made = &state.made;
+    let mut facts = ReadFacts {
+        made,
+        requested,
+        world,
+        notes: &mut state.notes,
+    };
+    eval_cond(alloc, &made.scopes, &locals, cond, &mut facts)
+}
+
+impl<'a, W: World, S: Sink> Reader<'a, W, S> {
+    /// The value of a text where there are no local names; with `keep` as `:=` sets it.
+    pub fn value(&mut self, alloc: Global, keep: bool, text: &[u8]) -> Result<Text, Refusal>
+        ensures { Gave (outer W.meaning W.history W.faults W.runs S.held S.faults)
+            self.old self.new (λ value. value) result
+            (λ answers. spec.value answers keep text.now) }
+    {
+        let requested = &self.order.flags.requested;
+        let value = value_in(alloc, self.world, self.state, requested, keep, text)?;
+        Ok(value)
+    }
+
+    /// Whether a condition holds.
+    pub fn truth(&mut self, alloc: Global, cond: &Cond) -> Result<bool, Refusal>
+        ensures { Gave (outer W.meaning W.history W.faults W.runs S.held S.faults)
+            self.old self.new (λ truth. truth) result
+            (λ answers. spec.truth answers (cond_view cond.now)) }
+    {
+        let requested = &self.order.flags.requested;
+        let truth = truth_in(alloc, self.world, self.state, requested, cond)?;
+        Ok(truth)
+    }
+
+    /// The bytes of the file at a cleaned path, or `None` where it is missing.
+    pub fn look(&mut self, alloc: Global, path: &Text) -> Result<Option<Text>, Refusal>
+        ensures { Gave (outer W.meaning W.history W.faults W.runs S.held S.faults)
+            self.old self.new (λ found. found) result
+            (λ answers. spec.contents answers path.now) }
+    {
+        if self.state.notes.reserve(1).is_err() {
+            return Err(Refusal::NoMemory);
+        }
+        let found = self.world.read(alloc, path.bytes())?;
+        self.state
+            .notes
+            .push(Note::Read(Snapshot::of(path), Snapshot::of(&found)))
+            .unwrap();
+        Ok(found)
+    }
+
+    /// What a command prints that is run in the current directory.
+    pub fn run(&mut self, alloc: Global, text: Text) -> Result<Text, Refusal>
+        ensures { Gave (outer W.meaning W.history W.faults W.runs S.held S.faults)
+            self.old self.new (λ output. output) result
+            (λ answers. spec.output answers text) }
+    {
+        let cwd = Text::from_bytes(alloc, self.state.made.scopes.cwd())?;
+        let exports = Items::new(alloc, 0)?;
+        let cmd = Cmd { text, cwd, exports };
+        if self.state.notes.reserve(1).is_err() {
+            return Err(Refusal::NoMemory);
+        }
+        let ended = self.world.ask(alloc, &cmd)?;
+        self.state
+            .notes
+            .push(Note::Ran(Snapshot::of(&cmd), Snapshot::of(&ended)))
+            .unwrap();
+        Ok(ended.output)
+    }
+}

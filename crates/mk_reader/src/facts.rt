@@ -1,0 +1,184 @@
+//! What conditions ask of the lines that were read and of the world.
+ghost use Rattle.std.specs.Prelude.{◌≡◌, [], true, false, IsTrue, IfOk, IfErr, OnErr};
+ghost use Rattle.std.specs.List.{list_any};
+ghost use Rattle.mk_cond.specs.declared.cond.Fun.TheVariants.{Exists as exists};
+ghost use Rattle.mk_expand.specs.Facts.{IsTold, asked_with, is_fact, is_listed};
+ghost use Rattle.mk_expand.specs.declared.facts.FactFault.TheVariants.{Failed, Unbuilt};
+ghost use Rattle.mk_glob.specs.Patterns as patterns;
+ghost use Rattle.mk_reader.specs.Facts as spec;
+ghost use Rattle.mk_reader.specs.Leads.{Led};
+ghost use Rattle.mk_reader.specs.Notes.{asked_by};
+ghost use Rattle.mk_reader.specs.Questions.{is_there};
+ghost use Rattle.mk_world.specs.Causes.{HasCause};
+
+use crate::note::Note;
+use mk_bytes::{Text, Texts};
+use mk_cond::Fun;
+use mk_expand::{FactFault, Facts};
+use mk_glob::matches;
+use mk_graph::{Made, Rule};
+use mk_world::{When, World, WorldFault};
+use std::alloc::Global;
+use std::snapshot::Snapshot;
+
+/// What conditions ask while makefiles are read: `make` of the requested names, or of the main target
+/// so far where there is none, `target` and `commands` of the rules so far, and `exists` of the world,
+/// where it is asked for the time of a path.
+#[derive(Drop)]
+pub struct ReadFacts<'a, W: World> {
+    pub made: &'a Made,
+    pub requested: &'a Texts,
+    pub world: &'a mut W,
+    pub notes: &'a mut Vec<Note>,
+}
+
+fn of_world(fault: WorldFault) -> FactFault
+    ensures { result ≡ spec.of_world fault }
+{
+    match fault {
+        WorldFault::Failed => FactFault::Failed,
+        WorldFault::NoMemory => FactFault::NoMemory,
+    }
+}
+
+fn is_there(when: &When) -> bool
+    ensures { result ≡ is_there when.now }
+{
+    match when {
+        When::Missing => false,
+        When::At(_) | When::Unknown => true,
+    }
+}
+
+fn is_among(names: &Texts, pattern: &[u8]) -> bool
+    ensures { result ≡ list_any (patterns.matches pattern.now) names.now }
+{
+    names
+        .as_slice()
+        .iter()
+        .any(|name| matches(pattern, name.bytes()))
+}
+
+// Whether a pattern matches a requested name, or the main target where none is requested.
+fn is_wanted(rule: &Option<Rule>, requested: &Texts, pattern: &[u8]) -> bool
+    ensures { result ≡ list_any (patterns.matches pattern.now)
+        (spec.wanted_of rule.now requested.now) }
+{
+    if !requested.is_empty() {
+        return is_among(requested, pattern);
+    }
+    match rule {
+        Some(rule) => matches(pattern, rule.target.bytes()),
+        None => false,
+    }
+}
+
+fn is_target(rule: &Option<Rule>, name: &[u8]) -> bool
+    ensures { result ≡ is_listed (spec.targets_of rule.now) name.now }
+{
+    match rule {
+        Some(rule) => rule.target.bytes() == name,
+        None => false,
+    }
+}
+
+fn has_commands(rule: &Option<Rule>, name: &[u8]) -> bool
+    ensures { result ≡ is_listed (spec.commanded_of rule.now) name.now }
+{
+    match rule {
+        Some(rule) if !rule.commands.is_empty() => rule.target.bytes() == name,
+        _ => false,
+    }
+}
+
+impl<'a, W: World> ReadFacts<'a, W> {
+    // Asks the world for the time of a path.
+    fn exists(&mut self, alloc: Global, path: &[u8]) -> Result<bool, FactFault>
+        ensures asked { IfOk result (λ answer.
+            asked_by self.new.notes.now.items
+            ≡ asked_with (asked_by self.old.notes.now.items) exists path.now answer) }
+        ensures refused { OnErr result
+            (asked_by self.new.notes.now.items ≡ asked_by self.old.notes.now.items) }
+        ensures made { self.new.made.now ≡ self.old.made.now }
+        ensures requested { self.new.requested.now ≡ self.old.requested.now }
+        ensures built { IfErr result (λ fault. fault ≡ Unbuilt → ⊥) }
+        ensures cause { HasCause Failed (W.faults self.old.world.now) (W.faults self.new.world.now) result }
+        ensures same_world { self.new.world.ghost_name ≡ self.old.world.ghost_name }
+        ensures same_notes { self.new.notes.ghost_name ≡ self.old.notes.ghost_name }
+        ensures led { Led W.meaning (W.runs self.old.world.now [])
+            (W.history self.old.world.now) (W.history self.new.world.now)
+            self.old.notes.now.items self.new.notes.now.items }
+        ensures idle { W.runs self.old.world.now [] → W.runs self.new.world.now [] }
+    {
+        let path = Text::from_bytes(alloc, path)?;
+        if self.notes.reserve(1).is_err() {
+            return Err(FactFault::NoMemory);
+        }
+        match self.world.time(alloc, path.bytes()) {
+            Ok(when) => {
+                self.notes
+                    .push(Note::Time(Snapshot::of(&path), Snapshot::of(&when)))
+                    .unwrap();
+                Ok(is_there(&when))
+            }
+            Err(fault) => Err(of_world(fault)),
+        }
+    }
+}
+
+impl<'a, W: World> Facts for ReadFacts<'a, W> {
+    ghost use Rattle.std.specs.Prelude.{◌≡◌, []};
+    ghost use Rattle.std.proofs.Common.{refl, ◌∙◌};
+    ghost use Rattle.mk_reader.specs.Facts.{lists_of};
+    ghost use Rattle.mk_reader.specs.Leads.{Led, led_nowhere, led_on};
+    ghost use Rattle.mk_reader.specs.Notes.{asked_by};
+
+    ghost lists = { λ facts. lists_of facts.made.now.rule facts.requested.now };
+
+    ghost asked = { λ facts. asked_by facts.notes.now.items };
+
+    ghost faults = { λ facts. W.faults facts.world.now };
+
+    ghost leads = { λ old new. (new.world.ghost_name ≡ old.world.ghost_name)
+        × (new.notes.ghost_name ≡ old.notes.ghost_name)
+        × Led W.meaning (W.runs old.world.now []) (W.history old.world.now)
+        (W.history new.world.now) old.notes.now.items new.notes.now.items
+        × (W.runs old.world.now [] → W.runs new.world.now []) };
+
+    fn fact(&mut self, alloc: Global, fun: Fun, argument: &[u8]) -> Result<bool, FactFault>
+        requires { IsTrue (is_fact fun) }
+        ensures told { IfOk result (λ answer.
+            IsTold (spec.lists_of self.old.made.now.rule self.old.requested.now) fun argument.now answer) }
+        ensures asked { IfOk result (λ answer.
+            asked_by self.new.notes.now.items
+            ≡ asked_with (asked_by self.old.notes.now.items) fun argument.now answer) }
+        ensures refused { OnErr result
+            (asked_by self.new.notes.now.items ≡ asked_by self.old.notes.now.items) }
+        ensures built { IfOk result (λ answer.
+            (spec.lists_of self.old.made.now.rule self.old.requested.now).built ≡ true) }
+        ensures unbuilt { IfErr result (λ fault. fault ≡ Unbuilt
+            → (spec.lists_of self.old.made.now.rule self.old.requested.now).built ≡ false) }
+        ensures lists { spec.lists_of self.new.made.now.rule self.new.requested.now
+            ≡ spec.lists_of self.old.made.now.rule self.old.requested.now }
+        ensures cause { HasCause Failed (W.faults self.old.world.now) (W.faults self.new.world.now) result }
+        ensures leads { (self.new.world.ghost_name ≡ self.old.world.ghost_name)
+            × (self.new.notes.ghost_name ≡ self.old.notes.ghost_name)
+            × Led W.meaning (W.runs self.old.world.now []) (W.history self.old.world.now)
+            (W.history self.new.world.now) self.old.notes.now.items self.new.notes.now.items
+            × (W.runs self.old.world.now [] → W.runs self.new.world.now []) }
+    {
+        match fun {
+            Fun::Make => Ok(is_wanted(&self.made.rule, self.requested, argument)),
+            Fun::Exists => self.exists(alloc, argument),
+            Fun::Target => Ok(is_target(&self.made.rule, argument)),
+            Fun::Commands => Ok(has_commands(&self.made.rule, argument)),
+            Fun::Defined => Ok(false),
+            Fun::Empty => Ok(false),
+        }
+    }
+
+    ghost stays = { λ facts. (refl, refl, led_nowhere _ _ _ _, λ idle. idle) };
+
+    ghost goes_on = { λ a b c first second. (second.0 ∙ first.0, second.1 ∙ first.1,
+        led_on _ _ _ _ _ _ _ _ _ first.2 first.3 second.2, λ idle. second.3 (first.3 idle)) };
+}
