@@ -7,6 +7,8 @@ mod build_runs;
 #[cfg(test)]
 mod calls;
 #[cfg(test)]
+mod directive_runs;
+#[cfg(test)]
 mod limit_runs;
 #[cfg(test)]
 mod print_runs;

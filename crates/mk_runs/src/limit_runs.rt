@@ -14,6 +14,8 @@ enum Shape {
     Doubles,
     /// This and 1,048,574 bytes more on one line.
     Line(&'static [u8]),
+    /// These lines so many times, and then those.
+    Nested(&'static [u8], u32, &'static [u8]),
 }
 
 fn link(n: u8) -> [u8; 2] {
@@ -54,12 +56,23 @@ fn push_line(text: &mut Text, start: &[u8]) -> Result<(), NoMemory> {
     Ok(())
 }
 
+fn push_times(text: &mut Text, line: &[u8], times: u32) -> Result<(), NoMemory> {
+    for _ in 0..times {
+        text.push(line)?;
+    }
+    Ok(())
+}
+
 fn makefile(alloc: Global, shape: Shape) -> Result<Text, NoMemory> {
     let mut text = Text::new(alloc);
     match shape {
         Shape::Chain(last) => push_chain(&mut text, last)?,
         Shape::Doubles => push_all_doubles(&mut text)?,
         Shape::Line(start) => push_line(&mut text, start)?,
+        Shape::Nested(open, depth, close) => {
+            push_times(&mut text, open, depth)?;
+            push_times(&mut text, close, depth)?;
+        }
     }
     Ok(text)
 }
@@ -67,7 +80,36 @@ fn makefile(alloc: Global, shape: Shape) -> Result<Text, NoMemory> {
 // What a row shows, the makefile, the words, the length of standard output, and standard error.
 type Row = (&'static str, Shape, Words, usize, &'static str);
 
-const ROWS: [Row; 9] = [
+const ROWS: [Row; 12] = [
+    (
+        "100000 nested branches",
+        Shape::Nested(b".if 1\n", 100_000, b".endif\n"),
+        &["-V", "X"],
+        1,
+        "",
+    ),
+    (
+        "4192257 lines and turns",
+        Shape::Nested(
+            b".for a in ${:U:range=2048}\n.for b in ${:U:range=2045}\n.endfor\n.endfor\n",
+            1,
+            b"",
+        ),
+        &["-V", "X"],
+        1,
+        "",
+    ),
+    (
+        "4194305 lines and turns",
+        Shape::Nested(
+            b".for a in ${:U:range=2048}\n.for b in ${:U:range=2046}\n.endfor\n.endfor\n",
+            1,
+            b"",
+        ),
+        &["-V", "X"],
+        0,
+        "bmake: limit of lines 4194304\n",
+    ),
     (
         "256 open references",
         Shape::Chain(b"pp=x\n"),

@@ -5,18 +5,12 @@ use crate::runs::Words;
 pub type Refusal = (&'static str, &'static str, Words, &'static str);
 
 /// What is refused.
-pub const REFUSALS: [Refusal; 45] = [
+pub const REFUSALS: [Refusal; 43] = [
     (
         "a variable of itself",
         "B=$(B)\n",
         &["-v", "B"],
         "bmake: variable B is recursive\n",
-    ),
-    (
-        "a fact in a makefile, which is not built yet",
-        "A:=${exists(q):?x:y}\n",
-        &["-v", "A"],
-        "bmake: \"makefile\" line 1: form is not built yet\n",
     ),
     (
         "a condition without its left side",
@@ -209,12 +203,6 @@ pub const REFUSALS: [Refusal; 45] = [
         "bmake: \"makefile\" line 1: form is not built yet\n",
     ),
     (
-        "the output of a command in a makefile",
-        "V!=date\n",
-        &["-V", "A"],
-        "bmake: \"makefile\" line 1: form is not built yet\n",
-    ),
-    (
         "two colons",
         "t:: a\n",
         &["-V", "A"],
@@ -233,10 +221,10 @@ pub const REFUSALS: [Refusal; 45] = [
         "bmake: \"makefile\" line 1: form is not built yet\n",
     ),
     (
-        "a directive",
+        "a block that is not closed",
         "A=1\\\n2\n.if 1\n",
         &["-V", "A"],
-        "bmake: \"makefile\" line 3: form is not built yet\n",
+        "bmake: \"makefile\" line 3: block is not closed\n",
     ),
     (
         "a makefile without a target has nothing to make",

@@ -4,6 +4,7 @@ ghost use Rattle.mk_bytes.specs.Paths.{is_clean_directory as is_clean};
 ghost use Rattle.mk_world.specs.History.{state_of, tickets_of};
 
 use crate::build_runs::{CASES, Case};
+use crate::directive_runs::{CONDITIONS, INCLUDES, LOOPS};
 use crate::print_runs::{ENVIRONMENT, FILES, PRINTS, Printed};
 use crate::refusal_runs::REFUSALS;
 use mk_bytes::{Items, NoMemory, Pair, Pairs, Text, Texts, is_clean_directory};
@@ -224,17 +225,30 @@ fn runs_refuse(rt: HostRuntime) -> Result<(), Fail> {
     Ok(())
 }
 
-#[test]
-fn makefiles_are_sought_and_read(rt: HostRuntime) -> Result<(), Fail> {
-    for row in &FILES {
-        assert!(rt; prints(&rt, rt.alloc(), row)?, "{}", row.0);
+fn all_print(rt: &impl Abort, alloc: Global, rows: &[Printed]) -> Result<(), Fail> {
+    for row in rows {
+        assert!(rt; prints(rt, alloc, row)?, "{}", row.0);
     }
     Ok(())
 }
 
-// What a run shows, the words, the writes that fail on standard output and on standard error, and
-// what stands there in the end. A printed line is two writes, of which its newline is the second.
+#[test]
+fn makefiles_are_sought_and_read(rt: HostRuntime) -> Result<(), Fail> {
+    all_print(&rt, rt.alloc(), &FILES)
+}
+
+#[test]
+fn directives_are_obeyed(rt: HostRuntime) -> Result<(), Fail> {
+    all_print(&rt, rt.alloc(), &CONDITIONS)?;
+    all_print(&rt, rt.alloc(), &LOOPS)?;
+    all_print(&rt, rt.alloc(), &INCLUDES)
+}
+
+// What a run shows, the makefile, the words, the writes that fail on standard output and on standard
+// error, and what stands there in the end. A printed line is two writes, of which its newline is the
+// second.
 type Broken = (
+    &'static str,
     &'static str,
     Words,
     Calls,
@@ -243,9 +257,19 @@ type Broken = (
     &'static str,
 );
 
-const BROKEN: [Broken; 4] = [
+const BROKEN: [Broken; 5] = [
+    (
+        "a message",
+        ".info x\n.info y\n",
+        &["-v", "A"],
+        &[],
+        &[(CallKind::Write, 1)],
+        "",
+        "",
+    ),
     (
         "the first line",
+        "",
         &["-v", "A"],
         &[(CallKind::Write, 1)],
         &[],
@@ -254,6 +278,7 @@ const BROKEN: [Broken; 4] = [
     ),
     (
         "the newline of the first line",
+        "",
         &["-v", "A"],
         &[(CallKind::Write, 2)],
         &[],
@@ -262,6 +287,7 @@ const BROKEN: [Broken; 4] = [
     ),
     (
         "the second line",
+        "",
         &["-v", "A", "-v", "A"],
         &[(CallKind::Write, 3)],
         &[],
@@ -270,6 +296,7 @@ const BROKEN: [Broken; 4] = [
     ),
     (
         "the line of the end",
+        "",
         &["-z"],
         &[],
         &[(CallKind::Write, 1)],
@@ -279,8 +306,9 @@ const BROKEN: [Broken; 4] = [
 ];
 
 fn breaks(rt: &impl Abort, alloc: Global, row: &Broken) -> Result<bool, NoMemory> {
-    let (_, words, out_fails, err_fails, out, err) = *row;
-    let files = with_makefile(alloc, Text::new(alloc), &[])?;
+    let (_, makefile, words, out_fails, err_fails, out, err) = *row;
+    let makefile = Text::from_bytes(alloc, makefile.as_bytes())?;
+    let files = with_makefile(alloc, makefile, &[])?;
     let mut world = world(rt, alloc, files, fails_of(alloc, &[])?)?;
     let broken_out = sink(alloc, out_fails)?;
     let broken_err = sink(alloc, err_fails)?;

@@ -1,24 +1,16 @@
 -- The meaning of a run, by its first steps.
-use Rattle.std.proofs.Common.{◌≡◌, ◌⊎◌, ℕ, List, [], Option, Some, None, Ok, Err}
+use Rattle.std.proofs.Common.{◌≡◌, ◌⊎◌, ◌<◌, ◌≤◌, ℕ, List, [], Option, Some, None, Ok, Err}
 use Rattle.std.proofs.Common.{inl, inr, refl, sym, ap, subst, arith}
 use Rattle.std.proofs.Math.Nat.{lt_irrefl}
-use Rattle.std.proofs.lemmas.List.{append-nil}
-use Rattle.mk_bytes.specs.Agrees.{AgreesErr, AgreesBut}
-use Rattle.mk_cli.specs.declared.order.Order.{Order}
-use Rattle.mk_graph.specs.declared.Made.{Made}
 use Rattle.mk_plan.specs.Asking.{LooksAll, answers_by}
 use Rattle.mk_plan.specs.Plans.{planned}
 use Rattle.mk_plan.specs.Tasks.{setting_of}
 use Rattle.mk_plan.specs.Refusals.{IsRefusedBy}
 use Rattle.mk_plan.specs.declared.fault.PlanFault.{PlanFault}
 use Rattle.mk_plan.specs.declared.fault.PlanFault.TheVariants as plan
-use Rattle.mk_reader.specs.Looks.{LooksAlong}
-use Rattle.mk_reader.specs.Reading as reader
 use Rattle.mk_reader.specs.declared.fault.ReadFault.{ReadFault}
-use Rattle.mk_scopes.specs.declared.scopes.Env.{Env}
-use Rattle.mk_reader.proofs.FaultLemmas.{HasCause-same}
-use Rattle.mk_world.specs.Causes.{HasCause}
-use Rattle.mk_world.specs.Deeds.{Store}
+use Rattle.mk_reader.specs.declared.fault.ReadFault.TheVariants as read
+use Rattle.mk_world.specs.Causes.{HasCause, Rose}
 use Rattle.mk_world.specs.Runs.{Same}
 use Rattle.mk_world.specs.Talks.{Meaning}
 use Rattle.mk_world.specs.Told.{Told}
@@ -26,24 +18,13 @@ use Rattle.mk_world.specs.declared.history.History.{History}
 use Rattle.mk_plan.proofs.LookLemmas.{OnLooks-none}
 use Rattle.mk_world.proofs.SinkLemmas.{Gains-nothing}
 use Rattle.mk_top.specs.Building.{point, unbuilt}
-use Rattle.mk_top.specs.Causes.{EndCause}
+use Rattle.mk_top.specs.Causes.{EndCause, LineCause, SinkCause}
 use Rattle.mk_top.specs.Ends.{IsOutside, of_plan, of_read}
-use Rattle.mk_top.specs.Meaning.{Outcome, Meant, only, prints, builds, printed, ended, asked, meant, by_reading}
+use Rattle.mk_top.specs.Meaning.{Outcome, Meant, only, prints, builds, printed, ended}
 use Rattle.mk_top.specs.Runs.{Printed, Goes}
 use Rattle.mk_top.specs.declared.report.End.{End}
-use Rattle.mk_top.specs.declared.report.End.TheVariants.{NoMemory}
+use Rattle.mk_top.specs.declared.report.End.TheVariants.{SinkFault}
 use Rattle.mk_top.proofs.PrintLemmas.{held, Printed-ended, Printed-stopped}
-
--- nothing was looked at
-pub LooksAlong-none : (h : Option History) (paths : List (List ℕ)) → Told h h (LooksAlong paths)
-LooksAlong-none None paths = tt
-LooksAlong-none (Some h) paths = record {
-  base = refl;
-  first = [];
-  others = paths;
-  in_order = refl;
-  events = sym (append-nil h.events);
-}
 
 -- nothing happened in between
 pub Same-told : (h : Option History) → Told h h Same
@@ -97,31 +78,6 @@ Goes-stopped meaning (builds made flags) end h a outside =
       printed = Gains-nothing a;
     })
 
--- the words end the run
-pub Goes-asked : (meaning : Meaning) (words : List (List ℕ)) (env : Env) (files : Store)
-    (fault : End) (h : Option History) (a : Option (List ℕ))
-    → AgreesErr NoMemory fault (asked env.cwd words)
-    → Goes meaning (meant words env files) (point h a) (point h a) (unbuilt fault)
-Goes-asked meaning words env files fault h a (inl want) =
-    Goes-stopped meaning (meant words env files) fault h a (inr want)
-Goes-asked meaning words env files fault h a (inr is) = rw is (Goes-ended meaning fault h a)
-
--- the makefiles end the run
-pub Goes-read : (meaning : Meaning) (env : Env) (files : Store) (order : Order) (fault : ReadFault)
-    (h : Option History) (a : Option (List ℕ))
-    → AgreesBut {X = Made} reader.IsOutside (λ made. made) (Err fault)
-    (reader.reading files env order)
-    → Goes meaning (by_reading order (reader.reading files env order)) (point h a) (point h a)
-    (unbuilt (of_read fault))
-Goes-read meaning env files order fault h a (inl (inl failed)) =
-    Goes-stopped meaning (by_reading order (reader.reading files env order)) (of_read fault) h a
-    (inl (ap of_read failed))
-Goes-read meaning env files order fault h a (inl (inr want)) =
-    Goes-stopped meaning (by_reading order (reader.reading files env order)) (of_read fault) h a
-    (inr (ap of_read want))
-Goes-read meaning env files order fault h a (inr defined) =
-    rw defined (Goes-ended meaning (of_read fault) h a)
-
 -- an end that is not this object's, where its count stands still
 pub EndCause-never : (failed end : End) (n : ℕ) → (end ≡ failed → ⊥) → EndCause failed n n end
 EndCause-never failed end n never = record {
@@ -136,3 +92,25 @@ pub EndCause-behind : {A E : Type 0} (other : E) (failed end : End) (before mid 
     → EndCause failed before after end
 EndCause-behind other failed end before mid after given cause behind =
     subst (λ n. EndCause failed n after end) (HasCause-same other before mid given cause) behind
+
+-- a count that a call does not fail by stands still
+pub HasCause-same : {A E : Type 0} (failed : E) (before after : ℕ) (given : A)
+    → HasCause failed before after (Ok given) → after ≡ before
+HasCause-same failed before after given cause =
+    let none : before < after → ⊥ = λ rose. let is = cause.answered rose in absurd cc in
+    let kept : before ≤ after = cause.kept in omega (arith, none)
+
+-- the sinks' counts where the makefiles were read, and output was written behind
+pub SinkCause-behind : {A : Type 0} (out later before after : ℕ) (given : A) (end : End)
+    → HasCause {T = A} read.Sink before after (Ok given) → EndCause SinkFault out later end
+    → SinkCause out later before after end
+SinkCause-behind out later before after given end cause behind = record {
+  kept_out = behind.kept;
+  kept_err = cause.kept;
+  rose = λ is. inl (behind.rose is);
+  answered = λ rose. answered rose;
+}
+  where
+    answered : (out < later) ⊎ (before < after) → end ≡ SinkFault
+    answered (inl rose) = behind.answered rose
+    answered (inr rose) = let is = cause.answered rose in absurd cc

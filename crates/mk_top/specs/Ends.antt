@@ -32,7 +32,9 @@ status_of NoMemory = 4
 abbrev pub of_read : ReadFault → End
 of_read (read.NoFile file) = NoFile file
 of_read (read.Bad file line what) = Bad file line what
+of_read (read.Limit kind most) = Limit kind most
 of_read read.World = WorldFault
+of_read read.Sink = SinkFault
 of_read read.NoMemory = NoMemory
 
 -- the end of a run whose plan was refused

@@ -19,15 +19,12 @@ use Rattle.mk_flags.specs.declared.Flags.{Flags}
 use Rattle.mk_graph.specs.declared.Made.{Made}
 use Rattle.mk_plan.specs.Facts.{lists_of}
 use Rattle.mk_plan.specs.Tasks.{Setting}
-use Rattle.mk_reader.specs.Files.{Read}
-use Rattle.mk_reader.specs.Reading.{reading, sought}
+use Rattle.mk_reader.specs.declared.fault.ReadFault.{ReadFault}
 use Rattle.mk_scopes.specs.Scopes.{Variables}
-use Rattle.mk_scopes.specs.declared.scopes.Env.{Env}
 use Rattle.mk_top.specs.Building.{is_plain}
 use Rattle.mk_top.specs.Ends.{of_read}
 use Rattle.mk_top.specs.declared.report.End.{End}
 use Rattle.mk_top.specs.declared.report.End.TheVariants as end
-use Rattle.mk_world.specs.Deeds.{Store}
 
 -- the lines that a run prints, without their newlines, and its end
 pub record Outcome : Type 0 where
@@ -84,7 +81,8 @@ by_mode made order [] =
 by_mode made order (print ∷ more) =
     prints made.scopes (lists_of made.rule order.flags.requested) (print ∷ more)
 
-abbrev pub by_reading : Order → Read Made → Meant
+-- what is done behind the reading: its fault ends the run
+abbrev pub by_reading : Order → Result Made ReadFault → Meant
 by_reading order (Ok made) = by_mode made order order.prints
 by_reading order (Err fault) = only (ended (of_read fault))
 
@@ -102,17 +100,3 @@ only_built unbuilt (Err usage.NoMemory) = Err end.NoMemory
 -- what the words ask for; the first that is refused or not built ends the run
 abbrev pub asked : List ℕ → List (List ℕ) → Result Order End
 asked cwd words = only_built (first_unbuilt words) (cli.order cwd words)
-
-abbrev pub by_order : Env → Store → Result Order End → Meant
-by_order env files (Ok order) = by_reading order (reading files env order)
-by_order env files (Err end) = only (ended end)
-
--- The meaning of a run of these words, in this environment, on these files. First come the words,
--- then the makefiles, then the prints or the build.
-abbrev pub meant : List (List ℕ) → Env → Store → Meant
-meant words env files = by_order env files (asked env.cwd words)
-
--- The paths of the makefiles that a run seeks, in order.
-abbrev pub sought_by : List ℕ → Result Order End → List (List ℕ)
-sought_by cwd (Ok order) = sought cwd order.files
-sought_by cwd (Err end) = []

@@ -35,13 +35,33 @@ fault_text expand.Unbuilt = codes "form is not built yet"
 fault_text expand.Failed = codes "an outside call failed"
 fault_text expand.NoMemory = codes "out of memory"
 
+-- what is wrong with a block or a directive, without a number
+abbrev pub directive_text : What → List ℕ
+directive_text what.TooLong = codes "line too long"
+directive_text what.Zero = codes "zero byte"
+directive_text what.LostCommand = codes "command without target"
+directive_text what.EmptyName = codes "empty variable name"
+directive_text what.ForForm = codes "bad .for"
+directive_text what.Else = codes "misplaced .else"
+directive_text what.Endif = codes "misplaced .endif"
+directive_text what.Endfor = codes "misplaced .endfor"
+directive_text what.Break = codes "misplaced .break"
+directive_text what.OpenBlock = codes "block is not closed"
+directive_text what.IncludeForm = codes "bad .include"
+directive_text (what.Include file) = codes "can't find " ++ file
+directive_text (what.Error text) = text
+directive_text what.Unbuilt = codes "form is not built yet"
+directive_text (what.Cond at) = []
+directive_text (what.Count words names) = []
+directive_text (what.Expand fault) = []
+
+-- what is wrong with a line
 abbrev pub what_text : What → List ℕ
-what_text what.TooLong = codes "line too long"
-what_text what.Zero = codes "zero byte"
-what_text what.LostCommand = codes "command without target"
-what_text what.EmptyName = codes "empty variable name"
+what_text (what.Cond at) = codes "bad condition at " ++ decimal at
+what_text (what.Count words names) =
+    codes ".for has " ++ (decimal words ++ (codes " words for " ++ (decimal names ++ codes " names")))
 what_text (what.Expand fault) = fault_text fault
-what_text what.Unbuilt = codes "form is not built yet"
+what_text wrong = directive_text wrong
 
 abbrev pub place_text : List ℕ → List ℕ → List ℕ → List ℕ
 place_text file number wrong =
@@ -107,4 +127,11 @@ fault_place fault = 0
 
 abbrev pub what_place : What → ℕ
 what_place (what.Expand fault) = fault_place fault
+what_place (what.Cond at) = at
+what_place (what.Count words names) = words
 what_place wrong = 0
+
+-- the number of names of a loop
+abbrev pub name_count : What → ℕ
+name_count (what.Count words names) = names
+name_count wrong = 0

@@ -1,30 +1,33 @@
 -- How a run ends, what its sinks gain, and the causes of its faults.
 use Rattle.std.specs.Prelude.{◌≡◌, ◌⊎◌, ℕ, List, [], ◌∷◌, ◌++◌, Option}
 use Rattle.std.specs.Prelude.{Result, Ok, Err}
+use Rattle.mk_bytes.specs.Agrees.{Agrees}
 use Rattle.mk_bytes.specs.Bytes.{newline}
 use Rattle.mk_cli.specs.declared.order.Order.{Order}
 use Rattle.mk_cli.specs.declared.order.Print.{Print}
 use Rattle.mk_expand.specs.Facts.{AsksMore, Lists}
 use Rattle.mk_expand.specs.declared.facts.Asked.{Asked}
 use Rattle.mk_expand.specs.declared.fault.ExpandFault.{ExpandFault}
+use Rattle.mk_graph.specs.declared.Made.{Made}
 use Rattle.mk_plan.specs.Asking.{LooksAll, Seen, answers_by}
 use Rattle.mk_plan.specs.Tasks.{setting_of}
 use Rattle.mk_scopes.specs.Scopes.{Variables}
-use Rattle.mk_reader.specs.Looks.{LooksAlong}
-use Rattle.mk_reader.specs.Reading.{reading, sought}
+use Rattle.mk_reader.specs.Reading.{reading}
+use Rattle.mk_reader.specs.Results.{ReadBy}
+use Rattle.mk_reader.specs.declared.fault.ReadFault.{ReadFault}
 use Rattle.mk_scopes.specs.declared.scopes.Env.{Env}
-use Rattle.mk_world.specs.Runs.{OnFiles, Same}
+use Rattle.mk_world.specs.Runs.{Same}
 use Rattle.mk_world.specs.Sinks.{Gains, GainsPart}
 use Rattle.mk_world.specs.Talks.{Meaning}
 use Rattle.mk_world.specs.Told.{Told}
 use Rattle.mk_world.specs.declared.history.History.{History}
 use Rattle.mk_top.specs.Building.{Point, point, Builds, unbuilt}
 use Rattle.mk_top.specs.Ends.{IsOutside}
-use Rattle.mk_top.specs.Meaning.{Outcome, Meant, only, prints, builds, printed as all_printed, meant, by_reading, asked, sought_by}
+use Rattle.mk_top.specs.Meaning.{Outcome, Meant, only, prints, builds, printed as all_printed, by_reading, asked, ended}
 use Rattle.mk_top.specs.Messages.{line_of}
 use Rattle.mk_top.specs.declared.building.Went.{Went}
 use Rattle.mk_top.specs.declared.report.End.{End}
-use Rattle.mk_top.specs.declared.report.End.TheVariants.{Done, SinkFault}
+use Rattle.mk_top.specs.declared.report.End.TheVariants.{Done, SinkFault, NoMemory}
 use Rattle.mk_top.specs.declared.report.Report.{Report}
 
 -- lines, each with its newline
@@ -107,32 +110,42 @@ Goes meaning (only outcome) first last went = Only outcome first last went
 Goes meaning (prints variables lists all) first last went = PrintsAll variables lists all first last went
 Goes meaning (builds made flags) first last went = Builds meaning made flags first last went
 
--- Reading looks at the makefiles alone, in order; what follows depends on the files that it finds.
-pub record Followed (meaning : Meaning) (env : Env) (order : Order) (first last : Point)
+-- Reading asks the world its questions in order and writes messages on standard error, as is defined
+-- by the answers; what follows depends on what it gave.
+pub record Followed (meaning : Meaning) (env : Env) (order : Order) (first last : Point) (err : Held)
     (went : Went) : Type 0
   where
     pub read_at : Option History
-    pub looks : Told first.history read_at (LooksAlong (sought env.cwd order.files))
-    pub goes : OnFiles first.history read_at (λ files.
-        Goes meaning (by_reading order (reading files env order)) (point read_at first.out) last went)
+    pub read : Result Made ReadFault
+    pub reads : ReadBy meaning first.history read_at err.before err.after read
+        (λ answers. reading answers env order)
+    pub goes : Goes meaning (by_reading order read) (point read_at first.out) last went
 
--- All of a run but the line of its end. Reading looks at the makefiles alone, in order; what is
--- meant depends on the files that it finds.
+-- what a run does whose words ask for this, or are refused
+abbrev pub Does : Meaning → Env → Result Order End → Point → Point → Held → Went → Type 0
+Does meaning env (Ok order) first last err went = Followed meaning env order first last err went
+Does meaning env (Err end) first last err went =
+    Goes meaning (only (ended end)) first last went × Gains err.before err.after []
+
+-- All of a run but the line of its end. First come the words: what they ask for is defined, but for
+-- want of memory.
 pub record Carried (meaning : Meaning) (words : List (List ℕ)) (env : Env) (first last : Point)
-    (went : Went) : Type 0
+    (err : Held) (went : Went) : Type 0
   where
-    pub read_at : Option History
-    pub looks : Told first.history read_at (LooksAlong (sought_by env.cwd (asked env.cwd words)))
-    pub goes : OnFiles first.history read_at
-        (λ files. Goes meaning (meant words env files) (point read_at first.out) last went)
+    pub order : Result Order End
+    pub is : Agrees NoMemory (λ asked. asked) order (asked env.cwd words)
+    pub does : Does meaning env order first last err went
 
--- A run: what it did is in its report, and the line of its end is written last.
+-- A run: what it did is in its report. Standard error gains the messages of the reading and then, last,
+-- the line of the end.
 pub record IsRun (meaning : Meaning) (words : List (List ℕ)) (env : Env) (first last : Point)
     (err : Held) (report : Report) : Type 0
   where
     pub went : Went
-    pub carried : Carried meaning words env first last went
-    pub closed : Closed words went.end err report.end
+    pub err_at : Option (List ℕ)
+    pub carried : Carried meaning words env first last
+        (record { before = err.before; after = err_at }) went
+    pub closed : Closed words went.end (record { before = err_at; after = err.after }) report.end
     pub plan : report.plan ≡ went.plan
     pub events : report.events ≡ went.events
 

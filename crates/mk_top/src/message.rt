@@ -42,6 +42,18 @@ fn what_place(what: &What) -> usize
 {
     match what {
         What::Expand(fault) => fault_place(fault),
+        What::Cond(at) => *at,
+        What::Count(words, _) => *words,
+        _ => 0,
+    }
+}
+
+// The number of names of a loop, or 0.
+fn name_count(what: &What) -> usize
+    ensures { result ≡ spec.name_count what.now }
+{
+    match what {
+        What::Count(_, names) => *names,
         _ => 0,
     }
 }
@@ -80,17 +92,46 @@ fn fault_text<'t>(fault: &'t ExpandFault, at: &'t [u8]) -> [&'t [u8]; 3]
     }
 }
 
-fn what_text<'t>(what: &'t What, at: &'t [u8]) -> [&'t [u8]; 3]
-    requires { at.now ≡ decimal (spec.what_place what.now) }
+// The text of what is wrong with a block or a directive, which has no number.
+fn directive_text(what: &What) -> [&[u8]; 2]
+    ensures { all_of result ≡ spec.directive_text what.now }
+{
+    match what {
+        What::TooLong => [b"line too long", b""],
+        What::Zero => [b"zero byte", b""],
+        What::LostCommand => [b"command without target", b""],
+        What::EmptyName => [b"empty variable name", b""],
+        What::ForForm => [b"bad .for", b""],
+        What::Else => [b"misplaced .else", b""],
+        What::Endif => [b"misplaced .endif", b""],
+        What::Endfor => [b"misplaced .endfor", b""],
+        What::Break => [b"misplaced .break", b""],
+        What::OpenBlock => [b"block is not closed", b""],
+        What::IncludeForm => [b"bad .include", b""],
+        What::Include(file) => [b"can't find ", file.bytes()],
+        What::Error(text) => [text.bytes(), b""],
+        What::Unbuilt => [b"form is not built yet", b""],
+        What::Cond(_) | What::Count(_, _) | What::Expand(_) => [b"", b""],
+    }
+}
+
+// The text of what is wrong with a line in five pieces, with its numbers in decimal.
+fn what_text<'t>(what: &'t What, at: &'t [u8], names: &'t [u8]) -> [&'t [u8]; 5]
+    requires place { at.now ≡ decimal (spec.what_place what.now) }
+    requires names { names.now ≡ decimal (spec.name_count what.now) }
     ensures { all_of result ≡ spec.what_text what.now }
 {
     match what {
-        What::TooLong => [b"line too long", b"", b""],
-        What::Zero => [b"zero byte", b"", b""],
-        What::LostCommand => [b"command without target", b"", b""],
-        What::EmptyName => [b"empty variable name", b"", b""],
-        What::Expand(fault) => fault_text(fault, at),
-        What::Unbuilt => [b"form is not built yet", b"", b""],
+        What::Cond(_) => [b"bad condition at ", at, b"", b"", b""],
+        What::Count(_, _) => [b".for has ", at, b" words for ", names, b" names"],
+        What::Expand(fault) => {
+            let [before, middle, after] = fault_text(fault, at);
+            [before, middle, after, b"", b""]
+        }
+        other => {
+            let [before, after] = directive_text(other);
+            [before, after, b"", b"", b""]
+        }
     }
 }
 
@@ -112,22 +153,24 @@ fn write_text<'t, S: Sink>(
     write_all(sink, &[b"bmake: ", before, name, after, b"\n"])
 }
 
-// Writes the line of a file, a number in decimal, and what is wrong there, with its place in decimal.
+// Writes the line of a file, a number in decimal, and what is wrong there, with its numbers in decimal.
 fn write_place<'t, S: Sink>(
     sink: &mut S,
     file: &'t [u8],
     number: &'t [u8],
     what: &'t What,
     at: &'t [u8],
+    names: &'t [u8],
 ) -> Result<(), SinkFault>
-    requires { at.now ≡ decimal (spec.what_place what.now) }
+    requires place { at.now ≡ decimal (spec.what_place what.now) }
+    requires names { names.now ≡ decimal (spec.name_count what.now) }
     ensures done { OnOk result (Gains (S.held sink.old) (S.held sink.new)
         (spec.as_line (spec.place_text file.now number.now (spec.what_text what.now)))) }
     ensures cut { OnErr result (GainsPart (S.held sink.old) (S.held sink.new)
         (spec.as_line (spec.place_text file.now number.now (spec.what_text what.now)))) }
     ensures cause { HasCause Failed (S.faults sink.old) (S.faults sink.new) result }
 {
-    let [before, name, after] = what_text(what, at);
+    let [first, second, third, fourth, fifth] = what_text(what, at, names);
     write_all(
         sink,
         &[
@@ -136,9 +179,11 @@ fn write_place<'t, S: Sink>(
             b"\" line ",
             number,
             b": ",
-            before,
-            name,
-            after,
+            first,
+            second,
+            third,
+            fourth,
+            fifth,
             b"\n",
         ],
     )
@@ -155,9 +200,11 @@ fn write_bad<S: Sink>(sink: &mut S, file: &[u8], line: u32, what: &What) -> Resu
 {
     let mut lines = Buffer::new();
     let mut places = Buffer::new();
+    let mut counts = Buffer::new();
     let number = lines.format(line).as_bytes();
     let at = places.format(what_place(what)).as_bytes();
-    write_place(sink, file, number, what, at)
+    let names = counts.format(name_count(what)).as_bytes();
+    write_place(sink, file, number, what, at, names)
 }
 
 fn write_fault<S: Sink>(sink: &mut S, fault: &ExpandFault) -> Result<(), SinkFault>

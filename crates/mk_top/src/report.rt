@@ -61,7 +61,9 @@ impl From<ReadFault> for End {
         match fault {
             ReadFault::NoFile(file) => End::NoFile(file),
             ReadFault::Bad(file, line, what) => End::Bad(file, line, what),
+            ReadFault::Limit(kind, most) => End::Limit(kind, most),
             ReadFault::World => End::WorldFault,
+            ReadFault::Sink => End::SinkFault,
             ReadFault::NoMemory => End::NoMemory,
         }
     }

@@ -94,18 +94,21 @@ fn follow<W: World, S: Sink>(
     env: &Env,
     world: &mut W,
     out: &mut S,
+    err: &mut S,
 ) -> Went
     requires directory { IsTrue (is_clean_directory env.now.cwd) }
     requires idle { W.runs world.old [] }
     ensures goes { runs.Followed W.meaning env.now order.now
         (point (W.history world.old) (S.held out.old))
-        (point (W.history world.new) (S.held out.new)) result }
+        (point (W.history world.new) (S.held out.new))
+        (record { before = S.held err.old; after = S.held err.new }) result }
     ensures world_cause { EndCause world_failed (W.faults world.old) (W.faults world.new)
         result.end }
-    ensures sink_cause { EndCause sink_failed (S.faults out.old) (S.faults out.new) result.end }
+    ensures sink_cause { SinkCause (S.faults out.old) (S.faults out.new) (S.faults err.old)
+        (S.faults err.new) result.end }
     ensures idle { W.runs world.new [] }
 {
-    match read(alloc, world, order, env) {
+    match read(alloc, world, err, order, env) {
         Ok(made) => by_mode(alloc, &made, order, world, out),
         Err(fault) => unbuilt(alloc, End::from(fault)),
     }
@@ -118,19 +121,22 @@ fn carry_out<W: World, S: Sink>(
     env: &Env,
     world: &mut W,
     out: &mut S,
+    err: &mut S,
 ) -> Went
     requires directory { IsTrue (is_clean_directory env.now.cwd) }
     requires idle { W.runs world.old [] }
     ensures carried { runs.Carried W.meaning words.now env.now
         (point (W.history world.old) (S.held out.old))
-        (point (W.history world.new) (S.held out.new)) result }
+        (point (W.history world.new) (S.held out.new))
+        (record { before = S.held err.old; after = S.held err.new }) result }
     ensures world_cause { EndCause world_failed (W.faults world.old) (W.faults world.new)
         result.end }
-    ensures sink_cause { EndCause sink_failed (S.faults out.old) (S.faults out.new) result.end }
+    ensures sink_cause { SinkCause (S.faults out.old) (S.faults out.new) (S.faults err.old)
+        (S.faults err.new) result.end }
     ensures idle { W.runs world.new [] }
 {
     match asked(alloc, words, env.cwd.bytes()) {
-        Ok(order) => follow(alloc, &order, env, world, out),
+        Ok(order) => follow(alloc, &order, env, world, out, err),
         Err(end) => unbuilt(alloc, end),
     }
 }
@@ -150,10 +156,10 @@ fn finish<S: Sink>(words: &Texts, went: End, err: &mut S) -> End
 /// Does all that the program does. The words are those of the command line without the program's
 /// name; the environment's directory is absolute and clean.
 ///
-/// It reads the words, then the makefiles, and then prints on `out` what the words ask for, each
-/// print on its line as soon as it is evaluated. Where they ask for no print it makes a plan of the
-/// targets and builds it, with one job and by times. Every end but `Done` and `SinkFault` has its
-/// line on `err`, which is written last.
+/// It reads the words, then the makefiles, whose messages it writes on `err`, and then prints on `out`
+/// what the words ask for, each print on its line as soon as it is evaluated. Where they ask for no
+/// print it makes a plan of the targets and builds it, with one job and by times. Every end but `Done`
+/// and `SinkFault` has its line on `err`, which is written last.
 pub fn run<W: World, S: Sink>(
     alloc: Global,
     words: &Texts,
@@ -178,7 +184,7 @@ pub fn run<W: World, S: Sink>(
     // No child is left.
     ensures idle { W.runs world.new [] }
 {
-    let went = carry_out(alloc, words, env, world, out);
+    let went = carry_out(alloc, words, env, world, out, err);
     let end = finish(words, went.end, err);
     Report {
         status: end.status(),
