@@ -2,7 +2,7 @@
 use Rattle.std.proofs.Common.{◌≡◌, ◌⊎◌, ℕ, Bool, true, false, List, inl, inr, Option, Some, None, Result, Ok, Err}
 use Rattle.std.proofs.Common.{refl, sym, subst}
 use Rattle.mk_blocks.specs.Outcomes.{done, refused}
-use Rattle.mk_blocks.specs.declared.language.File.{File}
+use Rattle.mk_blocks.specs.declared.language.IncludedFile.{IncludedFile}
 use Rattle.mk_reader.specs.Inclusions.{IsRequired, required}
 use Rattle.mk_reader.specs.Moments.{Moment}
 use Rattle.mk_reader.specs.Questions.{Answers}
@@ -14,19 +14,19 @@ use Rattle.mk_reader.specs.declared.reader.Reader.{Reader}
 use Rattle.mk_reader.proofs.GaveLemmas.{Given}
 use Rattle.mk_reader.proofs.StepLemmas.{here-given, here-want, here-wrong, stood}
 
-required-ok : (optional : Bool) (name : List ℕ) (found file : Option File) (s : Moment)
+required-ok : (optional : Bool) (name : List ℕ) (found file : Option IncludedFile) (s : Moment)
     → IsRequired optional name found (Ok file) → required optional name (found, s) ≡ done (file, s)
 required-ok optional name (Some one) file s is = rw is.0 refl
 required-ok true name None file s is = rw is.0 refl
 required-ok false name None file s is = absurd cc
 
-required-missing : (optional : Bool) (name : List ℕ) (found : Option File) (s : Moment)
+required-missing : (optional : Bool) (name : List ℕ) (found : Option IncludedFile) (s : Moment)
     → found ≡ None → optional ≡ false → required optional name (found, s) ≡ refused (Include name)
 required-missing optional name found s missing needed = rw (missing, needed) refl
 
-module _ {W S : Type 0} (o : Outer W S) (x : Reader W S) (view : Option File → Option File)
-    (same : (file : Option File) → view file ≡ file) (optional : Bool) (name : List ℕ)
-    (found : Option File)
+module _ {W S : Type 0} (o : Outer W S) (x : Reader W S) (view : Option IncludedFile → Option IncludedFile)
+    (same : (file : Option IncludedFile) → view file ≡ file) (optional : Bool) (name : List ℕ)
+    (found : Option IncludedFile)
   where
     refused_by : (fault : Refusal)
         → (fault ≡ NoMemory)
@@ -42,7 +42,7 @@ module _ {W S : Type 0} (o : Outer W S) (x : Reader W S) (view : Option File →
         (here-wrong o x view (λ answers. required optional name (found, stood o x)) (Include name)
         (λ answers. required-missing optional name found (stood o x) is.0 is.1))
 
-    pub gave-required : (answer : Result (Option File) Refusal)
+    pub gave-required : (answer : Result (Option IncludedFile) Refusal)
         → IsRequired optional name found answer
         → Given o x x view answer (λ answers. required optional name (found, stood o x))
     gave-required (Ok file) is =

@@ -1,5 +1,5 @@
 -- The language of makefiles, line by line.
-use Rattle.mk_blocks.specs.Languages.{Meaning}
+use Rattle.mk_blocks.specs.Languages.{LineMeaning}
 use Rattle.mk_reader.specs.Blocks.{condition, turns}
 use Rattle.mk_reader.specs.Inclusions.{included}
 use Rattle.mk_reader.specs.Moments.{Moment, closed}
@@ -8,7 +8,7 @@ use Rattle.mk_reader.specs.Steps.{line_read}
 use Rattle.mk_reader.specs.declared.fault.What.{What}
 
 -- What lines mean under these answers of the outside.
-abbrev pub meaning : Answers → Meaning Moment What
+abbrev pub meaning : Answers → LineMeaning Moment What
 meaning answers = record {
   step = λ file number line s. line_read answers file number line s;
   condition = λ file number line s. condition answers line s;

@@ -3,7 +3,7 @@ use Rattle.std.specs.Prelude.{◌≡◌, ℕ, ◌<◌, ◌≤◌, List, [], ◌�
 use Rattle.std.specs.Prelude.{zero, suc, length, map}
 use Rattle.std.proofs.Common.{refl, sym, ap, subst, ◌∙◌, append_assoc, arith}
 use Rattle.std.proofs.lemmas.List.{append-nil, map-append}
-use Rattle.mk_blocks.specs.Languages.{Meaning as LineMeaning}
+use Rattle.mk_blocks.specs.Languages.{LineMeaning}
 use Rattle.mk_blocks.specs.Outcomes.{done}
 use Rattle.mk_blocks.specs.Ties.{Does, Ties}
 use Rattle.mk_expand.specs.Facts.{Means}

@@ -9,7 +9,7 @@ use crate::block::argument_on;
 use crate::fault::{Refusal, What};
 use crate::kind::without_spaces;
 use crate::reader::Reader;
-use mk_blocks::File;
+use mk_blocks::IncludedFile;
 use mk_bytes::{Items, NoMemory, Text, Texts, clean_path};
 use mk_cli::Order;
 use mk_directive::{Directive, Wanted, directive_on, wanted_by};
@@ -131,8 +131,8 @@ fn required(
     alloc: Global,
     optional: bool,
     name: &[u8],
-    found: Option<File>,
-) -> Result<Option<File>, Refusal>
+    found: Option<IncludedFile>,
+) -> Result<Option<IncludedFile>, Refusal>
     ensures { spec.IsRequired optional name.now found result }
 {
     if found.is_some() || optional {
@@ -143,20 +143,20 @@ fn required(
 
 impl<'a, W: World, S: Sink> Reader<'a, W, S> {
     // The file at a cleaned path, if there is one.
-    fn open(&mut self, alloc: Global, path: &Text) -> Result<Option<File>, Refusal>
+    fn open(&mut self, alloc: Global, path: &Text) -> Result<Option<IncludedFile>, Refusal>
         ensures { Gave (outer W.meaning W.history W.faults W.runs S.held S.faults)
             self.old self.new (λ file. file) result
             (λ answers. spec.found_at answers path.now) }
     {
         let name = path.copy(alloc)?;
         match self.look(alloc, path)? {
-            Some(text) => Ok(Some(File { name, text })),
+            Some(text) => Ok(Some(IncludedFile { name, text })),
             None => Ok(None),
         }
     }
 
     // The first of these paths at which a file is.
-    fn seek(&mut self, alloc: Global, places: &Texts) -> Result<Option<File>, Refusal>
+    fn seek(&mut self, alloc: Global, places: &Texts) -> Result<Option<IncludedFile>, Refusal>
         ensures { Gave (outer W.meaning W.history W.faults W.runs S.held S.faults)
             self.old self.new (λ file. file) result
             (λ answers. spec.sought answers places.now) }
@@ -176,7 +176,7 @@ impl<'a, W: World, S: Sink> Reader<'a, W, S> {
         file: &[u8],
         optional: bool,
         text: &[u8],
-    ) -> Result<Option<File>, Refusal>
+    ) -> Result<Option<IncludedFile>, Refusal>
         ensures { Gave (outer W.meaning W.history W.faults W.runs S.held S.faults)
             self.old self.new (λ file. file) result
             (λ answers. spec.wanted_read answers file.now optional text.now) }
@@ -191,7 +191,7 @@ impl<'a, W: World, S: Sink> Reader<'a, W, S> {
     }
 
     // The file that a line without its comment includes.
-    fn file_on(&mut self, alloc: Global, file: &[u8], line: &[u8]) -> Result<Option<File>, Refusal>
+    fn file_on(&mut self, alloc: Global, file: &[u8], line: &[u8]) -> Result<Option<IncludedFile>, Refusal>
         ensures { Gave (outer W.meaning W.history W.faults W.runs S.held S.faults)
             self.old self.new (λ file. file) result
             (λ answers. spec.file_on answers file.now line.now) }
@@ -207,7 +207,7 @@ impl<'a, W: World, S: Sink> Reader<'a, W, S> {
         alloc: Global,
         file: &[u8],
         text: &[u8],
-    ) -> Result<Option<File>, Refusal>
+    ) -> Result<Option<IncludedFile>, Refusal>
         ensures { Gave (outer W.meaning W.history W.faults W.runs S.held S.faults)
             self.old self.new (λ file. file) result
             (λ answers. spec.included answers file.now text.now) }

@@ -5,7 +5,7 @@ ghost use Rattle.mk_reader.specs.Refusals.{sorted};
 use crate::fault::{Outside, Refusal, What};
 use crate::kind::line_kind;
 use crate::reader::Reader;
-use mk_blocks::{File, Language, LanguageFault, LineKind, Loop};
+use mk_blocks::{IncludedFile, Language, LanguageFault, LineKind, Loop};
 use mk_world::{Sink, World};
 use std::alloc::Global;
 
@@ -77,7 +77,7 @@ impl<'a, W: World, S: Sink> Language for Reader<'a, W, S> {
         name: &[u8],
         _number: u32,
         text: &[u8],
-    ) -> Result<Option<File>, LanguageFault<What, Outside>> {
+    ) -> Result<Option<IncludedFile>, LanguageFault<What, Outside>> {
         match self.wanted_file(alloc, name, text) {
             Ok(file) => Ok(file),
             Err(refusal) => Err(language_fault(refusal)),
