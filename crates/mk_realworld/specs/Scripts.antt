@@ -31,11 +31,11 @@ in_directory directory name =
     if bytes_eq directory (slash ∷ []) then slash ∷ name else directory ++ slash ∷ name
 
 -- The files of a child lie in its directory and are named by its ticket.
-abbrev pub files_of : List ℕ → ℕ → ChildFiles
-files_of directory ticket = record {
-  output = in_directory directory (codes ".bmake.out." ++ decimal ticket);
-  log = in_directory directory (codes ".bmake.fm." ++ decimal ticket);
-}
+abbrev pub output_file : List ℕ → ℕ → List ℕ
+output_file directory ticket = in_directory directory (codes ".bmake.out." ++ decimal ticket)
+
+abbrev pub log_file : List ℕ → ℕ → List ℕ
+log_file directory ticket = in_directory directory (codes ".bmake.fm." ++ decimal ticket)
 
 -- where standard error goes
 abbrev pub errors_to : Streams → List ℕ

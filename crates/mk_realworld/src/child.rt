@@ -109,6 +109,7 @@ struct Found {
 }
 
 // The oldest child that has ended, where there is one. Each is asked once.
+#[tactic(auto, using(crate::proofs::KidLemmas::with_kid_unseen))]
 fn oldest_ended<P: OpenProcess + Drop>(
     kids: &mut Kids<RealKid<P>>,
 ) -> Result<Option<Found>, Refusal>
@@ -143,6 +144,7 @@ fn next_ended<R: Clock, P: OpenProcess + Drop>(
 }
 
 // Waits for an only child, and for the first of several that has ended.
+#[tactic(auto, using(crate::proofs::KidLemmas::with_kid_unseen))]
 fn one_ended<R: Clock, P: OpenProcess + Drop>(
     rt: &R,
     kids: &mut Kids<RealKid<P>>,
@@ -159,6 +161,7 @@ fn one_ended<R: Clock, P: OpenProcess + Drop>(
 }
 
 /// Waits until a child has ended, and reads what it printed. It stays among the children.
+#[tactic(auto, using(crate::proofs::KidLemmas::with_kid_unseen))]
 pub fn wait_over<R: Files + Clock + AllocGlobal, P: OpenProcess + Drop>(
     rt: &R,
     alloc: Global,

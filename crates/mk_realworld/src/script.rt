@@ -71,7 +71,8 @@ fn path_in(alloc: Global, directory: &[u8], name: &[u8], number: u32) -> Result<
 impl ChildFiles {
     /// The files of the child with this ticket, in an absolute directory.
     pub fn new(alloc: Global, directory: &[u8], ticket: u32) -> Result<ChildFiles, NoMemory>
-        ensures { IfOk result (λ files. files ≡ spec.files_of directory.now ticket) }
+        ensures output { IfOk result (λ files. files.output ≡ spec.output_file directory.now ticket) }
+        ensures log { IfOk result (λ files. files.log ≡ spec.log_file directory.now ticket) }
     {
         Ok(ChildFiles {
             output: path_in(alloc, directory, b".bmake.out.", ticket)?,
