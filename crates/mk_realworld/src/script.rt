@@ -81,16 +81,23 @@ impl ChildFiles {
     }
 }
 
+// Where standard error goes.
+fn push_errors(out: &mut Text, streams: Streams) -> Result<(), NoMemory>
+    ensures { OnOk result (out.new ≡ out.old ++ spec.errors_to streams) }
+{
+    match streams {
+        Streams::Both => out.push(b" 2>&1\n"),
+        Streams::OutputAlone => out.push(b"\n"),
+    }
+}
+
 // The first line: where the streams go.
 fn push_streams(out: &mut Text, streams: Streams, output: &[u8]) -> Result<(), NoMemory>
     ensures { OnOk result (out.new ≡ out.old ++ spec.streams_line streams output.now) }
 {
     out.push(b"exec </dev/null >")?;
     push_quoted(out, output)?;
-    match streams {
-        Streams::Both => out.push(b" 2>&1\n"),
-        Streams::OutputAlone => out.push(b"\n"),
-    }
+    push_errors(out, streams)
 }
 
 // The second line: where a recorder finds its log.
