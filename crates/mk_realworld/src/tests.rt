@@ -70,7 +70,7 @@ fn run<R: Files + Processes + Clock + AllocGlobal>(
 }
 
 // What shows it, the command, its status and its output.
-const COMMANDS: [(&str, &str, u8, &str); 6] = [
+const COMMANDS: [(&str, &str, u8, &str); 7] = [
     (
         "both streams in order",
         "echo a; echo b >&2; echo c",
@@ -80,7 +80,13 @@ const COMMANDS: [(&str, &str, u8, &str); 6] = [
     ("a status", "echo a; exit 3", 3, "a\n"),
     ("a signal", "echo a; kill -9 $$", 255, "a\n"),
     ("empty standard input", "cat; echo a", 0, "a\n"),
-    ("a child in the background", "sleep 30 & echo a", 0, "a\n"),
+    (
+        "a child in the background",
+        "sleep 100 & echo $! > pid; echo a",
+        0,
+        "a\n",
+    ),
+    ("which runs on", "kill $(cat pid); echo $?", 0, "0\n"),
     (
         "a log for recorders",
         "echo \"${BMAKE_FILEMON##*/}\"",
