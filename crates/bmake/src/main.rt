@@ -27,7 +27,7 @@ const HELP: &[u8] = b"usage: bmake [options] [NAME=VALUE ..] [TARGET ..]
   --help       print this text, where it is the only word
   --version    print the version, where it is the only word
 
-Commands of targets are not started yet: a build that has something to do ends with status 3.
+Each command of a target is run by sh, in the current directory.
 
 Exit status: 0 where all went well, 1 where a command failed, 2 for a bad word, a fault in a
 makefile or a target that cannot be made, 3 where an outside call failed, 4 where memory ran out.

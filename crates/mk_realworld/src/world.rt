@@ -1,26 +1,26 @@
 ghost use Rattle.std.specs.Prelude.{◌≡◌, IfOk};
 
-use crate::count::count_fault;
+use crate::child::{RealKid, run, wait_over};
+use crate::file::{file_bytes, file_time, remove_file};
+use crate::refusal::{Refusal, counted};
+use crate::script::Streams;
 use mk_bytes::{NoMemory, Text};
 use mk_world::{Cmd, Ended, Kids, Ticket, Time, When, World, WorldFault};
 use std::alloc::Global;
 use std::fs::Files;
-use std::io::{ErrorKind, Read};
-use std::time::{SystemTime, UNIX_EPOCH};
-use std::{fs, io, str};
+use std::process::Processes;
+use std::time::Clock;
 
-// A file above 64 MiB counts as a fault.
-const MAX_FILE: usize = 67_108_864;
-
-/// The files of the system. Relative paths are taken from the process's current directory.
+/// The files and processes of the system. Relative paths are taken from the process's current
+/// directory, and children run in it.
 #[derive(Drop)]
-pub struct RealWorld<R: Files + AllocGlobal> {
+pub struct RealWorld<R: Files + Processes + Clock + AllocGlobal> {
     rt: R,
     faults: u64,
 }
 
-impl<R: Files + AllocGlobal> RealWorld<R> {
-    /// The files that this runtime reaches, with a count of faults of 0.
+impl<R: Files + Processes + Clock + AllocGlobal> RealWorld<R> {
+    /// The files and processes that this runtime reaches, with a count of faults of 0.
     pub fn new(rt: R) -> Result<RealWorld<R>, NoMemory>
         ensures { IfOk result (λ world. world.faults ≡ 0) }
     {
@@ -28,66 +28,24 @@ impl<R: Files + AllocGlobal> RealWorld<R> {
     }
 }
 
-// Whether an error says that there is no file: below a plain file there is none either.
-fn is_missing(kind: ErrorKind) -> bool {
-    kind == ErrorKind::NotFound || kind == ErrorKind::NotADirectory
-}
-
-// The bytes of a file, or `None` where it is missing.
-fn file_bytes<R: Files + AllocGlobal>(rt: &R, path: &[u8]) -> io::Result<Option<Vec<u8>>> {
-    let Ok(path) = str::from_utf8(path) else {
-        return Err(io::Error::from(ErrorKind::InvalidInput));
-    };
-    let file = match fs::open(rt, path) {
-        Ok(file) => file,
-        Err(error) => {
-            if is_missing(error.kind()) {
-                return Ok(None);
-            }
-            return Err(error);
-        }
-    };
-    let mut bytes = Vec::new(rt.alloc());
-    file.take(MAX_FILE as u64 + 1).read_to_end(&mut bytes)?;
-    if bytes.len() > MAX_FILE {
-        return Err(io::Error::from(ErrorKind::FileTooLarge));
-    }
-    Ok(Some(bytes))
-}
-
-// The time of a file, or `None` where it is missing.
-fn file_time<R: Files>(rt: &R, path: &[u8]) -> io::Result<Option<When>> {
-    let Ok(path) = str::from_utf8(path) else {
-        return Err(io::Error::from(ErrorKind::InvalidInput));
-    };
-    match fs::metadata(rt, path) {
-        Ok(metadata) => Ok(Some(nanoseconds(metadata.modified()?))),
-        Err(error) => {
-            if is_missing(error.kind()) {
-                return Ok(None);
-            }
-            Err(error)
-        }
+// The bytes of a file as a text, or `None` where it is missing.
+fn text_of<R: Files + AllocGlobal>(
+    rt: &R,
+    alloc: Global,
+    path: &[u8],
+) -> Result<Option<Text>, Refusal> {
+    match file_bytes(rt, path)? {
+        Some(bytes) => Ok(Some(Text::from_bytes(alloc, bytes.as_slice())?)),
+        None => Ok(None),
     }
 }
 
-// A time of the system in nanoseconds; one before 1970 or far in the future is not known.
-fn nanoseconds(time: SystemTime) -> When {
-    match time.duration_since(UNIX_EPOCH) {
-        Ok(since) => match u64::try_from(since.as_nanos()) {
-            Ok(nanos) => When::At(Time(nanos)),
-            Err(_) => When::Unknown,
-        },
-        Err(_) => When::Unknown,
-    }
-}
-
-impl<R: Files + AllocGlobal> World for RealWorld<R> {
+impl<R: Files + Processes + Clock + AllocGlobal> World for RealWorld<R> {
     ghost use Rattle.std.specs.Prelude.{None};
     ghost use Rattle.mk_world.specs.Untold.{untold};
     ghost use Rattle.mk_world.specs.Talks.{silent};
 
-    type Kid = ();
+    type Kid = RealKid<R::Started>;
 
     ghost meaning = { silent };
 
@@ -102,66 +60,86 @@ impl<R: Files + AllocGlobal> World for RealWorld<R> {
     /// The bytes of a file. A directory, an unreadable file, one above 64 MiB and a path that is
     /// not UTF-8 are counted faults; a path below a plain file is a missing file.
     fn read(&mut self, alloc: Global, path: &[u8]) -> Result<Option<Text>, WorldFault> {
-        match file_bytes(&self.rt, path) {
-            Ok(None) => Ok(None),
-            Ok(Some(bytes)) => Ok(Some(Text::from_bytes(alloc, bytes.as_slice())?)),
-            Err(error) => {
-                if error.kind() == ErrorKind::OutOfMemory {
-                    return Err(WorldFault::NoMemory);
-                }
-                count_fault(&mut self.faults);
-                Err(WorldFault::Failed)
-            }
+        match text_of(&self.rt, alloc, path) {
+            Ok(bytes) => Ok(bytes),
+            Err(refusal) => Err(counted(refusal, &mut self.faults)),
         }
     }
 
     /// The time of a file or directory, in nanoseconds.
     fn time(&mut self, _: Global, path: &[u8]) -> Result<When, WorldFault> {
         match file_time(&self.rt, path) {
-            Ok(None) => Ok(When::Missing),
-            Ok(Some(when)) => Ok(when),
-            Err(_) => {
-                count_fault(&mut self.faults);
-                Err(WorldFault::Failed)
-            }
+            Ok(when) => Ok(when),
+            Err(refusal) => Err(counted(refusal, &mut self.faults)),
         }
     }
 
-    /// Not built yet: a counted fault.
-    fn remove(&mut self, _: Global, _: &[u8]) -> Result<(), WorldFault> {
-        count_fault(&mut self.faults);
-        Err(WorldFault::Failed)
+    /// Removes a file. A directory is a counted fault.
+    fn remove(&mut self, _: Global, path: &[u8]) -> Result<(), WorldFault> {
+        match remove_file(&self.rt, path) {
+            Ok(()) => Ok(()),
+            Err(refusal) => Err(counted(refusal, &mut self.faults)),
+        }
     }
 
-    /// Not built yet: a counted fault.
-    fn ask(&mut self, _: Global, _: &Cmd) -> Result<Ended, WorldFault> {
-        count_fault(&mut self.faults);
-        Err(WorldFault::Failed)
+    /// Runs `sh -c` with the command to its end. Standard error is that of make, and what is printed
+    /// on standard output goes through a file of the current directory, as in `start`.
+    fn ask(&mut self, alloc: Global, cmd: &Cmd) -> Result<Ended, WorldFault> {
+        match run(&self.rt, alloc, cmd) {
+            Ok(ended) => Ok(ended),
+            Err(refusal) => Err(counted(refusal, &mut self.faults)),
+        }
     }
 
-    /// Not built yet: a counted fault.
+    /// Starts `sh -c` with the command. What it prints on standard output and standard error goes
+    /// into the file `.bmake.out.TICKET` of the current directory, and a recorder may write its log
+    /// into `.bmake.fm.TICKET`; older files of these names are removed first.
     fn start(
         &mut self,
         _: Global,
-        _: &mut Kids<()>,
-        _: Ticket,
+        kids: &mut Kids<RealKid<R::Started>>,
+        ticket: Ticket,
         _: Time,
-        _: &Cmd,
+        cmd: &Cmd,
     ) -> Result<(), WorldFault> {
-        count_fault(&mut self.faults);
-        Err(WorldFault::Failed)
+        match RealKid::start(&self.rt, Streams::Both, ticket, cmd) {
+            Ok(kid) => {
+                kids.add(ticket, kid);
+                Ok(())
+            }
+            Err(refusal) => Err(counted(refusal, &mut self.faults)),
+        }
     }
 
-    /// Not built yet: a counted fault.
-    fn wait_any(&mut self, _: Global, _: &mut Kids<()>) -> Result<Ended, WorldFault> {
-        count_fault(&mut self.faults);
-        Err(WorldFault::Failed)
+    /// Waits for an only child; of several, the oldest that has ended is taken in, and where none
+    /// has, all are asked again after pauses of 50 microseconds and more, up to 2 milliseconds. A
+    /// child that a signal ended has the status 255. A command that removed its own output file is
+    /// a counted fault.
+    fn wait_any(
+        &mut self,
+        alloc: Global,
+        kids: &mut Kids<RealKid<R::Started>>,
+    ) -> Result<Ended, WorldFault> {
+        match wait_over(&self.rt, alloc, kids) {
+            Ok(over) => {
+                let (ticket, _) = kids.take(over.place);
+                Ok(Ended {
+                    ticket,
+                    status: over.status,
+                    output: over.output,
+                    records: None,
+                })
+            }
+            Err(refusal) => Err(counted(refusal, &mut self.faults)),
+        }
     }
 
-    /// Takes out all children; none of them is a process yet.
-    fn abandon(&mut self, kids: &mut Kids<()>) {
+    /// Ends and takes in the shells of all children, and not what these started themselves. The
+    /// files of their output stay.
+    fn abandon(&mut self, kids: &mut Kids<RealKid<R::Started>>) {
         while !kids.is_empty() {
-            kids.take(0);
+            let (_, kid) = kids.take(0);
+            kid.give_up();
         }
     }
 }

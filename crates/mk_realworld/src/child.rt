@@ -1,0 +1,198 @@
+//! Children: shells that run one command each.
+ghost use Rattle.std.specs.Prelude.{◌≡◌, ◌<◌, length, IfOk, IfSome};
+
+use crate::file::{file_bytes, remove_file};
+use crate::refusal::Refusal;
+use crate::script::{ChildFiles, Streams, script};
+use mk_bytes::Text;
+use mk_world::{Cmd, Ended, Kids, Ticket};
+use std::alloc::Global;
+use std::fs::Files;
+use std::marker::Model;
+use std::process::{Child, Command, ExitStatus, OpenProcess, Processes};
+use std::time::{Clock, Duration};
+use std::{str, thread};
+
+// Pauses between two rounds of questions, in microseconds.
+const FIRST_PAUSE: u64 = 50;
+
+const LONGEST_PAUSE: u64 = 2_000;
+
+/// The shell that was started for a command, with its files. Contracts see nothing of it.
+#[derive(Drop)]
+pub struct RealKid<P: OpenProcess + Drop> {
+    child: Child<P>,
+    files: ChildFiles,
+}
+
+impl<P: OpenProcess + Drop> Model for RealKid<P> {
+    ghost Value = { Unit {0} };
+
+    ghost view = { λ _. tt };
+}
+
+// The exit status; that of a child which a signal ended is 255.
+fn status_of(status: ExitStatus) -> u8 {
+    match status.code() {
+        Some(code) => u8::try_from(code).unwrap_or(255),
+        None => 255,
+    }
+}
+
+impl<P: OpenProcess + Drop> RealKid<P> {
+    /// Starts a shell that runs a command. Files that an earlier child of this ticket left behind
+    /// are removed first.
+    pub fn start<R: Processes<Started = P> + Files + AllocGlobal>(
+        rt: &R,
+        streams: Streams,
+        ticket: Ticket,
+        cmd: &Cmd,
+    ) -> Result<RealKid<P>, Refusal> {
+        let files = ChildFiles::new(rt.alloc(), cmd.cwd.bytes(), ticket.0)?;
+        let script = script(rt.alloc(), streams, &files, cmd.text.bytes())?;
+        remove_file(rt, files.output.bytes())?;
+        remove_file(rt, files.log.bytes())?;
+        let mut command = Command::new(rt.alloc(), "sh")?;
+        command.arg("-c")?.arg(str::from_utf8(script.bytes())?)?;
+        for pair in cmd.exports.as_slice() {
+            command.env(
+                str::from_utf8(pair.name.bytes())?,
+                str::from_utf8(pair.value.bytes())?,
+            )?;
+        }
+        let child = command.spawn(rt)?;
+        Ok(RealKid { child, files })
+    }
+
+    // The exit status, where it has ended.
+    fn ended(&mut self) -> Result<Option<u8>, Refusal> {
+        Ok(self.child.try_wait()?.map(status_of))
+    }
+
+    // The exit status, when it has ended.
+    fn wait(&mut self) -> Result<u8, Refusal> {
+        Ok(status_of(self.child.wait()?))
+    }
+
+    // What it printed. Its files are removed; a command that removed that one itself is refused.
+    fn output<R: Files + AllocGlobal>(&self, rt: &R, alloc: Global) -> Result<Text, Refusal> {
+        let Some(bytes) = file_bytes(rt, self.files.output.bytes())? else {
+            return Err(Refusal::Outside);
+        };
+        let output = Text::from_bytes(alloc, bytes.as_slice())?;
+        remove_file(rt, self.files.output.bytes())?;
+        remove_file(rt, self.files.log.bytes())?;
+        Ok(output)
+    }
+
+    /// Ends it, and takes it in. What it printed stays in its files.
+    pub fn give_up(mut self) {
+        if self.child.kill().is_ok() {
+            let _ = self.child.wait();
+        }
+    }
+}
+
+/// A child that has ended: its place, its exit status and what it printed.
+#[derive(Drop)]
+pub struct Over {
+    pub place: usize,
+    pub status: u8,
+    pub output: Text,
+}
+
+// The place and the exit status of a child that has ended.
+#[derive(Clone, Copy)]
+struct Found {
+    place: usize,
+    status: u8,
+}
+
+// The oldest child that has ended, where there is one. Each is asked once.
+#[tactic(auto, using(crate::proofs::KidLemmas::with_kid_unseen))]
+fn oldest_ended<P: OpenProcess + Drop>(
+    kids: &mut Kids<RealKid<P>>,
+) -> Result<Option<Found>, Refusal>
+    ensures same { kids.new ≡ kids.old }
+    ensures place { IfOk result (λ found. IfSome found (λ one. one.place < length kids.old.tickets)) }
+{
+    for place in 0..kids.len() {
+        if let Some(status) = kids.kid(place).ended()? {
+            return Ok(Some(Found { place, status }));
+        }
+    }
+    Ok(None)
+}
+
+// Asks again after pauses that grow, until a child has ended.
+fn next_ended<R: Clock, P: OpenProcess + Drop>(
+    rt: &R,
+    kids: &mut Kids<RealKid<P>>,
+) -> Result<Found, Refusal>
+    ensures same { kids.new ≡ kids.old }
+    ensures place { IfOk result (λ found. found.place < length kids.old.tickets) }
+{
+    let mut pause = FIRST_PAUSE;
+    for _ in 0..u64::MAX {
+        if let Some(found) = oldest_ended(kids)? {
+            return Ok(found);
+        }
+        thread::sleep(rt, Duration::from_micros(pause));
+        pause = pause.saturating_mul(2).min(LONGEST_PAUSE);
+    }
+    Err(Refusal::Outside)
+}
+
+// Waits for an only child, and for the first of several that has ended.
+#[tactic(auto, using(crate::proofs::KidLemmas::with_kid_unseen))]
+fn one_ended<R: Clock, P: OpenProcess + Drop>(
+    rt: &R,
+    kids: &mut Kids<RealKid<P>>,
+) -> Result<Found, Refusal>
+    requires { 0 < length kids.old.tickets }
+    ensures same { kids.new ≡ kids.old }
+    ensures place { IfOk result (λ found. found.place < length kids.old.tickets) }
+{
+    if kids.len() > 1 {
+        return next_ended(rt, kids);
+    }
+    let status = kids.kid(0).wait()?;
+    Ok(Found { place: 0, status })
+}
+
+/// Waits until a child has ended, and reads what it printed. It stays among the children.
+#[tactic(auto, using(crate::proofs::KidLemmas::with_kid_unseen))]
+pub fn wait_over<R: Files + Clock + AllocGlobal, P: OpenProcess + Drop>(
+    rt: &R,
+    alloc: Global,
+    kids: &mut Kids<RealKid<P>>,
+) -> Result<Over, Refusal>
+    requires { 0 < length kids.old.tickets }
+    ensures same { kids.new ≡ kids.old }
+    ensures place { IfOk result (λ over. over.place < length kids.old.tickets) }
+{
+    let found = one_ended(rt, kids)?;
+    let output = kids.kid(found.place).output(rt, alloc)?;
+    Ok(Over {
+        place: found.place,
+        status: found.status,
+        output,
+    })
+}
+
+/// Runs a command to its end. Standard error is that of make.
+pub fn run<R: Processes + Files + AllocGlobal>(
+    rt: &R,
+    alloc: Global,
+    cmd: &Cmd,
+) -> Result<Ended, Refusal>
+    ensures { IfOk result (λ ended. ended.ticket.0 ≡ 0) }
+{
+    let mut kid = RealKid::start(rt, Streams::OutputAlone, Ticket(0), cmd)?;
+    Ok(Ended {
+        ticket: Ticket(0),
+        status: kid.wait()?,
+        output: kid.output(rt, alloc)?,
+        records: None,
+    })
+}

@@ -1,0 +1,71 @@
+//! Single files, by their paths.
+use crate::refusal::Refusal;
+use mk_world::{Time, When};
+use std::fs::Files;
+use std::io::{Error, ErrorKind, Read};
+use std::time::{SystemTime, UNIX_EPOCH};
+use std::{fs, str};
+
+// A file above 64 MiB counts as a fault.
+const MAX_FILE: usize = 67_108_864;
+
+// Whether an error says that there is no file: below a plain file there is none either.
+fn is_missing(error: &Error) -> bool {
+    error.kind() == ErrorKind::NotFound || error.kind() == ErrorKind::NotADirectory
+}
+
+/// The bytes of a file, or `None` where it is missing.
+pub fn file_bytes<R: Files + AllocGlobal>(rt: &R, path: &[u8]) -> Result<Option<Vec<u8>>, Refusal> {
+    let file = match fs::open(rt, str::from_utf8(path)?) {
+        Ok(file) => file,
+        Err(error) => {
+            if is_missing(&error) {
+                return Ok(None);
+            }
+            return Err(Refusal::from(error));
+        }
+    };
+    let mut bytes = Vec::new(rt.alloc());
+    file.take(MAX_FILE as u64 + 1).read_to_end(&mut bytes)?;
+    if bytes.len() > MAX_FILE {
+        return Err(Refusal::Outside);
+    }
+    Ok(Some(bytes))
+}
+
+/// The time of a file or directory.
+pub fn file_time<R: Files>(rt: &R, path: &[u8]) -> Result<When, Refusal> {
+    match fs::metadata(rt, str::from_utf8(path)?) {
+        Ok(metadata) => Ok(nanoseconds(metadata.modified()?)),
+        Err(error) => {
+            if is_missing(&error) {
+                return Ok(When::Missing);
+            }
+            Err(Refusal::from(error))
+        }
+    }
+}
+
+// A time of the system in nanoseconds; one before 1970 or far in the future is not known.
+fn nanoseconds(time: SystemTime) -> When {
+    match time.duration_since(UNIX_EPOCH) {
+        Ok(since) => match u64::try_from(since.as_nanos()) {
+            Ok(nanos) => When::At(Time(nanos)),
+            Err(_) => When::Unknown,
+        },
+        Err(_) => When::Unknown,
+    }
+}
+
+/// Removes a file; a missing one is no fault.
+pub fn remove_file<R: Files>(rt: &R, path: &[u8]) -> Result<(), Refusal> {
+    match fs::remove_file(rt, str::from_utf8(path)?) {
+        Ok(()) => Ok(()),
+        Err(error) => {
+            if is_missing(&error) {
+                return Ok(());
+            }
+            Err(Refusal::from(error))
+        }
+    }
+}

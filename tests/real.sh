@@ -1,0 +1,155 @@
+#!/usr/bin/env bash
+# The built program on real files and with real children. Run it at the top of the repository, where
+# the program stands at crates/bmake/out/bmake. Its last line is 'N passed, M failed'.
+set -u
+program=${BMAKE:-$PWD/crates/bmake/out/bmake}
+room=$(mktemp -d) || exit 1
+trap 'chmod -R u+rwx "$room"; rm -rf "$room"' EXIT
+passed=0
+failed=0
+
+# Whether a file holds a text.
+holds() {
+    printf '%s' "$2" | cmp -s - "$1"
+}
+
+# One case, in an empty folder of its own: what it shows, the shell lines before it, the makefile,
+# the program's run, and then the exit status, standard output and standard error that are wanted,
+# and the shell lines that are true after it.
+row() {
+    local shows before=: makefile='' run='"$program"' status=0 out='' err='' after=: is
+    local "$@"
+    local here=$room/$((passed + failed)) wrong=''
+    mkdir "$here"
+    is=$(
+        cd "$here" || exit 125
+        eval "$before" || exit 125
+        [ -z "$makefile" ] || printf '%s' "$makefile" >makefile
+        # Nothing is read from standard input, and nothing is waited for that runs on.
+        eval "$run" <<<'not for commands' >"$here.out" 2>"$here.err"
+        is=$?
+        eval "$after" || exit 126
+        exit "$is"
+    ) >"$here.said" 2>&1
+    is=$?
+    [ "$is" = "$status" ] || wrong="status $is and not $status"
+    holds "$here.out" "$out" || wrong="$wrong; standard output: $(cat "$here.out")"
+    holds "$here.err" "$err" || wrong="$wrong; standard error: $(cat "$here.err")"
+    if [ -z "$wrong" ]; then
+        passed=$((passed + 1))
+    else
+        failed=$((failed + 1))
+        printf 'failed: %s: %s\n' "$shows" "$wrong"
+        cat "$here.said"
+    fi
+}
+
+if [ ! -x "$program" ]; then
+    echo "there is no program $program"
+    echo "0 passed, 1 failed"
+    exit 1
+fi
+
+outside=$'bmake: an outside call failed\n'
+
+row shows='a command writes its target' \
+    makefile=$'t:\n\techo hi > t\n' \
+    out=$'echo hi > t\n' \
+    after='holds t "hi
+" && [ "$(ls -A)" = "makefile
+t" ]'
+
+row shows='a second run does nothing' \
+    before='printf "t:\n\techo hi > t\n" >makefile; "$program" >/dev/null; touch -d 2001-01-01 t' \
+    after='[ -n "$(find t ! -newermt 2001-01-02)" ]'
+
+row shows='a target that is older than a source is made again' \
+    before='echo 1 >a; echo 2 >b; echo old >t; touch -d 2001-01-01 a t; touch -d 2001-01-02 b' \
+    makefile=$'t: a b\n\t@cat a b > t\n' \
+    after='holds t "1
+2
+"'
+
+row shows='a target that is no older than its sources is kept' \
+    before='echo 1 >a; echo old >t; touch -d 2001-01-01 a t' \
+    makefile=$'t: a\n\t@cat a > t\n' \
+    after='holds t "old
+"'
+
+row shows='each command is a shell of its own, in the directory of the program' \
+    before='mkdir d' \
+    makefile=$'t:\n\t@cd d; A=1; echo 1 > t\n\t@echo "$${A-none}" > t\n' \
+    after='holds t "none
+" && holds d/t "1
+"'
+
+row shows='both streams are printed in order' \
+    makefile=$'t:\n\t@echo a; echo b >&2; echo c; echo d >&2\n' \
+    out=$'a\nb\nc\nd\n'
+
+row shows='a long output' \
+    makefile=$'t:\n\t@head -c 1000000 /dev/zero | tr "\\\\0" x\n' \
+    out="$(head -c 1000000 /dev/zero | tr '\0' x)"
+
+row shows='standard input is empty' \
+    makefile=$'t:\n\t@cat; echo a\n' \
+    out=$'a\n'
+
+row shows='a command that fails ends the build' \
+    makefile=$'t:\n\t@echo a\n\t@echo b; exit 3\n\t@echo c\n' \
+    status=1 out=$'a\nb\n' err=$'bmake: target t command 2: status 3\n'
+
+row shows='a command that ends itself by a signal' \
+    makefile=$'t:\n\t@echo a; kill -9 $$$$\n' \
+    status=1 out=$'a\n' err=$'bmake: target t command 1: status 255\n'
+
+row shows='a child in the background is not waited for' \
+    makefile=$'t:\n\t@sleep 60 & echo $$! > pid\n' \
+    run='timeout 30 "$program"' \
+    after='kill "$(cat pid)"'
+
+# The status of a shell that is given no folder is the shell's own.
+no_folder=$(cd "$room" && sh -c '{ echo 1 >d/t; } 2>/dev/null' || echo $?)
+
+row shows='a target below a folder that is not there' \
+    makefile=$'d/t:\n\t@{ echo 1 > d/t; } 2>/dev/null\n' \
+    status=1 err="bmake: target d/t command 1: status $no_folder"$'\n'
+
+row shows='files that an earlier run left behind are removed' \
+    before='echo old >.bmake.out.1; echo old >.bmake.fm.1' \
+    makefile=$'t:\n\t@echo new\n' \
+    out=$'new\n' after='[ "$(ls -A)" = makefile ]'
+
+row shows='a command that removes its own output file' \
+    makefile=$'t:\n\t@rm .bmake.out.*\n' \
+    status=3 err="$outside"
+
+row shows='the names of folders are quoted' \
+    before=$'d=$\'it\\\'s "$x" *\\n`y`\'; mkdir "$d"; cd "$d"' \
+    makefile=$'t:\n\t@echo a > t; echo b\n' \
+    out=$'b\n' after='holds t "a
+"'
+
+row shows='a makefile that is a folder' \
+    before='mkdir makefile' status=3 err="$outside"
+
+row shows='a makefile below a plain file is missing' \
+    before='echo 1 >f' run='"$program" -f f/x' \
+    status=2 err=$'bmake: no makefile f/x\n'
+
+row shows='a closed standard output' \
+    makefile=$'A=1\n' run='"$program" -v A >&-' status=3
+
+row shows='a full device as standard output' \
+    makefile=$'A=1\n' run='"$program" -v A >/dev/full' status=3
+
+if [ "$(id -u)" = 0 ]; then
+    echo 'skipped: an unreadable makefile (root reads everything)'
+else
+    row shows='an unreadable makefile' \
+        before='echo A=1 >makefile; chmod 000 makefile' run='"$program" -v A' \
+        status=3 err="$outside"
+fi
+
+echo "$passed passed, $failed failed"
+[ "$failed" = 0 ]
