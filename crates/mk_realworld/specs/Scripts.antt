@@ -1,12 +1,12 @@
 -- What the shell is given for a command, and where what it prints is kept.
-use Rattle.std.specs.Prelude.{ℕ, Bool, ◌+◌, ◌==◌, ◌||◌, nat_le, List, [], ◌∷◌, ◌++◌, decimal}
+use Rattle.std.specs.Prelude.{ℕ, Bool, ◌==◌, ◌||◌, nat_le, List, [], ◌∷◌, ◌++◌, decimal}
 use Rattle.std.specs.Prelude.{if◌then◌else◌, codes}
 use Rattle.std.specs.List.{flat_map, list_any}
 use Rattle.std.specs.Str.{bytes_eq}
 use Rattle.mk_bytes.specs.Bytes.{newline, slash, backslash, is_letter, is_digit}
+use Rattle.mk_realworld.specs.declared.script.ChildFiles.{ChildFiles}
 use Rattle.mk_realworld.specs.declared.script.Streams.{Streams}
 use Rattle.mk_realworld.specs.declared.script.Streams.TheVariants.{Both, OutputAlone}
-use Rattle.mk_realworld.specs.declared.script.ChildFiles.{ChildFiles}
 
 -- the bytes that a shell reads as themselves
 abbrev pub is_plain : ℕ → Bool

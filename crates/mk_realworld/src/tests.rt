@@ -7,11 +7,23 @@ use mk_bytes::{Items, Text, is_clean_directory};
 use mk_world::{Cmd, Ended, Kids, Ticket, Time, When, World, WorldFault};
 use std::alloc::Global;
 use std::env::Env;
-use std::fs;
 use std::fs::Files;
 use std::process::Processes;
 use std::test::Fail;
 use std::time::Clock;
+use std::{env, fs, io};
+
+// Makes a folder of the test's own the current directory. What a failed run left is removed.
+fn enter<R: Files + Env + AllocGlobal>(rt: &R, folder: &str) -> io::Result<()> {
+    let _ = fs::remove_dir_all(rt, folder);
+    fs::create_dir(rt, folder)?;
+    env::set_current_dir(rt, folder)
+}
+
+fn leave<R: Files + Env + AllocGlobal>(rt: &R, folder: &str) -> io::Result<()> {
+    env::set_current_dir(rt, "..")?;
+    fs::remove_dir_all(rt, folder)
+}
 
 // A command in the current directory.
 fn command<R: Env + AllocGlobal>(rt: &R, text: &str) -> Result<Cmd, WorldFault>
@@ -97,6 +109,7 @@ const COMMANDS: [(&str, &str, u8, &str); 7] = [
 
 #[test]
 fn children_are_taken_in(rt: HostRuntime) -> Result<(), Fail> {
+    enter(&rt, "test_children_are_taken_in")?;
     let mut world = RealWorld::new(&rt)?;
     for (shows, text, status, output) in COMMANDS {
         let cmd = command(&rt, text)?;
@@ -110,11 +123,13 @@ fn children_are_taken_in(rt: HostRuntime) -> Result<(), Fail> {
             "{shows}"
         );
     }
+    leave(&rt, "test_children_are_taken_in")?;
     Ok(())
 }
 
 #[test]
 fn an_older_child_is_abandoned(rt: HostRuntime) -> Result<(), Fail> {
+    enter(&rt, "test_an_older_child_is_abandoned")?;
     let mut world = RealWorld::new(&rt)?;
     let older = command(&rt, "exec sleep 600")?;
     let younger = command(&rt, "sleep 1; echo a")?;
@@ -125,22 +140,26 @@ fn an_older_child_is_abandoned(rt: HostRuntime) -> Result<(), Fail> {
         world.time(rt.alloc(), b".bmake.out.1")? != When::Missing,
         "its output stays"
     );
+    leave(&rt, "test_an_older_child_is_abandoned")?;
     Ok(())
 }
 
 #[test]
 fn commands_are_asked(rt: HostRuntime) -> Result<(), Fail> {
+    enter(&rt, "test_commands_are_asked")?;
     let mut world = RealWorld::new(&rt)?;
     let cmd = command(&rt, "echo a; echo \"this line is no answer\" >&2; exit 4")?;
     let ended = world.ask(rt.alloc(), &cmd)?;
     assert_eq!(rt; ended.ticket.0, 0);
     assert_eq!(rt; ended.status, 4);
     assert!(rt; ended.output.bytes() == b"a\n".as_slice());
+    leave(&rt, "test_commands_are_asked")?;
     Ok(())
 }
 
 #[test]
 fn refusals_are_faults(rt: HostRuntime) -> Result<(), Fail> {
+    enter(&rt, "test_refusals_are_faults")?;
     let mut world = RealWorld::new(&rt)?;
     let cmd = command(&rt, "rm .bmake.out.1")?;
     let ended = run(rt.alloc(), &mut world, &cmd, None);
@@ -152,11 +171,13 @@ fn refusals_are_faults(rt: HostRuntime) -> Result<(), Fail> {
         Some(WorldFault::Failed),
         "a folder in its place"
     );
+    leave(&rt, "test_refusals_are_faults")?;
     Ok(())
 }
 
 #[test]
 fn files_are_removed(rt: HostRuntime) -> Result<(), Fail> {
+    enter(&rt, "test_files_are_removed")?;
     let mut world = RealWorld::new(&rt)?;
     fs::write(&rt, "plain", "a")?;
     world.remove(rt.alloc(), b"plain/below")?;
@@ -167,5 +188,6 @@ fn files_are_removed(rt: HostRuntime) -> Result<(), Fail> {
     fs::create_dir(&rt, "folder")?;
     let refused = world.remove(rt.alloc(), b"folder");
     assert_eq!(rt; refused, Err(WorldFault::Failed));
+    leave(&rt, "test_files_are_removed")?;
     Ok(())
 }
