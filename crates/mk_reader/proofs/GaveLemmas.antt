@@ -242,6 +242,7 @@ module _ {W S : Type 0} (o : Outer W S) where
   no_loss failure x y same none =
       subst (λ s. HasCause outside.Sink (o.lost x.err.now) (o.lost s) (ended failure)) (sym same)
       (no_rise outside.Sink failure (o.lost x.err.now) none)
+
   module _ {A B : Type 0} (x y : Reader W S) (stays : Stays x y) (view : A → B)
       (defined : expand.Answers → Result (B × List Asked) ExpandFault)
       (whole : Answers → Doing B)

@@ -4,6 +4,7 @@ mod GaveLemmas
 mod LineLemmas
 mod MomentLemmas
 mod QuestionLemmas
+mod ReadByLemmas
 mod ReadLemmas
 mod Rows
 mod SignLemmas

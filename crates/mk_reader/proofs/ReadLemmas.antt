@@ -1,9 +1,13 @@
 -- Reasons to stop.
-use Rattle.std.proofs.Common.{◌≡◌, refl}
+use Rattle.std.proofs.Common.{◌≡◌, ◌↔◌, ℕ, Bool, true, false, List, [], ◌∷◌, IsTrue, refl}
+use Rattle.mk_blocks.specs.Runs.{Run}
 use Rattle.mk_blocks.specs.Ties as blocks
 use Rattle.mk_blocks.specs.declared.fault.FileFault.{FileFault}
 use Rattle.mk_blocks.specs.declared.fault.FileFault.TheVariants as file
 use Rattle.mk_reader.specs.ReadFaults.{file_fault, of_file, of_refusal, of_what, sorted}
+use Rattle.mk_reader.specs.Moments.{Moment}
+use Rattle.mk_reader.specs.Questions.{Answers}
+use Rattle.mk_reader.specs.Reading.{default_read, files_read, makefiles_read}
 use Rattle.mk_reader.specs.Refusals as refusals
 use Rattle.mk_reader.specs.declared.fault.Outside.{Outside}
 use Rattle.mk_reader.specs.declared.fault.Refusal.{Refusal}
@@ -24,3 +28,14 @@ sorted-file file.TooManyLines = refl
 sorted-file file.TooManyFiles = refl
 sorted-file (file.Failed failure) = refl
 sorted-file file.NoMemory = refl
+
+pub makefiles-none : (answers : Answers) (files : List (List ℕ)) (r : Run Moment) → files ≡ []
+    → makefiles_read answers files r ≡ default_read answers r
+makefiles-none answers files r none = rw none refl
+
+pub makefiles-some : (answers : Answers) (files : List (List ℕ)) (r : Run Moment) (none : Bool)
+    → (IsTrue none ↔ (files ≡ [])) → none ≡ false
+    → makefiles_read answers files r ≡ files_read answers files r
+makefiles-some answers [] r none tells is =
+    absurd (let never : none ≡ true = tells.1 refl in cc)
+makefiles-some answers (file ∷ more) r none tells is = refl

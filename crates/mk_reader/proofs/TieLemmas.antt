@@ -57,7 +57,7 @@ module _ {X W F : Type 0} (ties : Ties X W F) where
     messages = goes.messages ++ then_goes.messages;
     written = ties.writes_both goes.written then_goes.written;
     is = goes.is ∙ ap (behind goes.messages) then_goes.is
-      ∙ behind-behind goes.messages then_goes.messages third;
+        ∙ behind-behind goes.messages then_goes.messages third;
   }
 
   pub Goes-bind : {A B E : Type 0} {x y : X} {first second : Outcome A E} (next : A → Outcome B E)
@@ -66,7 +66,7 @@ module _ {X W F : Type 0} (ties : Ties X W F) where
     messages = goes.messages;
     written = goes.written;
     is = ap (λ o. o >>= next) goes.is
-      ∙ bind-behind goes.messages second.messages second.answer next;
+        ∙ bind-behind goes.messages second.messages second.answer next;
   }
 
   pub Goes-as : {A E : Type 0} (x y : X) {one other rest then_rest : Outcome A E}

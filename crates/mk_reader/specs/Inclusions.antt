@@ -41,7 +41,7 @@ places order beside (system, name) =
     if is_absolute name then name ∷ []
     else (if system then in_all order.system name
     else (directory_of beside ++ name)
-      ∷ (in_all order.near name ++ in_all order.system name))
+    ∷ (in_all order.near name ++ in_all order.system name))
 
 -- the paths that are read for it, in order
 abbrev pub candidates : Order → List ℕ → List ℕ → Wanted → List (List ℕ)

@@ -11,10 +11,12 @@ use Rattle.mk_blocks.specs.declared.fault.Wrong.TheVariants as wrong
 use Rattle.mk_blocks.specs.declared.kind.BlockFault.{BlockFault}
 use Rattle.mk_blocks.specs.declared.kind.BlockFault.TheVariants as block
 use Rattle.mk_bytes.specs.declared.kind.Kind.TheVariants.{Lines, Includes}
+use Rattle.mk_reader.specs.declared.fault.Fault.{Fault}
+use Rattle.mk_reader.specs.declared.fault.Fault.TheVariants as fault
 use Rattle.mk_reader.specs.declared.fault.Outside.{Outside}
 use Rattle.mk_reader.specs.declared.fault.Outside.TheVariants as outside
 use Rattle.mk_reader.specs.declared.fault.ReadFault.{ReadFault}
-use Rattle.mk_reader.specs.declared.fault.ReadFault.TheVariants.{Bad, Limit, World, Sink, NoMemory}
+use Rattle.mk_reader.specs.declared.fault.ReadFault.TheVariants.{NoFile, Bad, Limit, World, Sink, NoMemory}
 use Rattle.mk_reader.specs.declared.fault.Refusal.{Refusal}
 use Rattle.mk_reader.specs.declared.fault.Refusal.TheVariants as refusal
 use Rattle.mk_reader.specs.declared.fault.Stop.{Stop}
@@ -42,11 +44,17 @@ of_outside outside.World = World
 of_outside outside.Sink = Sink
 of_outside outside.NoMemory = NoMemory
 
+-- a fault of the makefiles or of the command line
+abbrev pub of_fault : Fault → ReadFault
+of_fault (fault.NoFile name) = NoFile name
+of_fault (fault.Bad name number found) = Bad name number found
+of_fault (fault.Limit kind most) = Limit kind most
+
 -- a fault of a file
 abbrev pub of_file : FileFault What Outside → Stop
-of_file (file.Bad name number found) = stop.Fault (Bad name number (of_wrong found))
-of_file file.TooManyLines = stop.Fault (Limit Lines max_lines)
-of_file file.TooManyFiles = stop.Fault (Limit Includes max_files)
+of_file (file.Bad name number found) = stop.Fault (fault.Bad name number (of_wrong found))
+of_file file.TooManyLines = stop.Fault (fault.Limit Lines max_lines)
+of_file file.TooManyFiles = stop.Fault (fault.Limit Includes max_files)
 of_file (file.Failed failure) = stop.Failed failure
 of_file file.NoMemory = stop.NoMemory
 
@@ -55,22 +63,22 @@ abbrev pub of_what : What → ReadFault
 of_what found = Bad [] 0 found
 
 abbrev pub of_refusal : Refusal → Stop
-of_refusal (refusal.Wrong what) = stop.Fault (of_what what)
+of_refusal (refusal.Wrong what) = stop.Fault (fault.Bad [] 0 what)
 of_refusal (refusal.Failed failure) = stop.Failed failure
 of_refusal refusal.NoMemory = stop.NoMemory
 
 abbrev pub of_stop : Stop → ReadFault
-of_stop (stop.Fault fault) = fault
+of_stop (stop.Fault found) = of_fault found
 of_stop (stop.Failed failure) = of_outside failure
 of_stop stop.NoMemory = NoMemory
 
 -- what is defined of files, as faults of the reading
 abbrev pub file_fault : FileFault What Outside → ReadFault
-file_fault fault = of_stop (of_file fault)
+file_fault found = of_stop (of_file found)
 
 -- reasons to stop, sorted
 abbrev pub sorted : Stop → LanguageFault ReadFault Outside
-sorted (stop.Fault fault) = language.Wrong fault
+sorted (stop.Fault found) = language.Wrong (of_fault found)
 sorted (stop.Failed failure) = language.Failed failure
 sorted stop.NoMemory = language.NoMemory
 
@@ -80,7 +88,7 @@ Reads A = Outcome A ReadFault
 -- outcomes, with their faults as those of the reading
 abbrev pub fault_as : {A E F : Type 0} → (E → F) → Result A E → Result A F
 fault_as view (Ok given) = Ok given
-fault_as view (Err fault) = Err (view fault)
+fault_as view (Err found) = Err (view found)
 
 abbrev pub outcome_as : {A E F : Type 0} → (E → F) → Outcome A E → Outcome A F
 outcome_as view outcome = record {

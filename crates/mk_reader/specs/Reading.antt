@@ -64,14 +64,18 @@ abbrev pub makefiles_read : Answers → List (List ℕ) → Run Moment → Reads
 makefiles_read answers [] r = default_read answers r
 makefiles_read answers (file ∷ more) r = files_read answers (file ∷ more) r
 
--- the words of a command line, and then the makefiles
-abbrev pub all_read : Answers → Moment → Reads (Run Moment)
-all_read answers s =
-    outcome_as of_what (ordered answers s)
-    >>= λ first. makefiles_read answers first.1.order.files (run_at first.1 0)
+-- the words of a command line
+abbrev pub words_applied : Answers → Moment → Reads (Unit {0} × Moment)
+words_applied answers s = outcome_as of_what (ordered answers s)
+
+-- and then the makefiles
+abbrev pub all_read : Answers → Run Moment → Reads (Run Moment)
+all_read answers r =
+    words_applied answers r.state
+    >>= λ first. makefiles_read answers first.1.order.files (run_at first.1 r.count)
 
 -- What the words of the command line and the makefiles of a run leave, or the first fault, and the
 -- messages that are written until then.
 abbrev pub reading : Answers → Env → Order → Reads Made
 reading answers env order =
-    all_read answers (first_moment env order) >>= λ last. done last.state.made
+    all_read answers (run_at (first_moment env order) 0) >>= λ last. done last.state.made

@@ -10,7 +10,6 @@ use Rattle.mk_world.specs.declared.history.History.{History}
 use Rattle.mk_reader.specs.Moments.{Moment, moment_of}
 use Rattle.mk_reader.specs.Questions.{Answered, Answers, Question}
 use Rattle.mk_reader.specs.ReadFaults.{Reads, sorted}
-use Rattle.mk_reader.specs.Reading.{all_read}
 use Rattle.mk_reader.specs.Ties.{Asks, Outer, all_bytes, reader_ties}
 use Rattle.mk_reader.specs.declared.fault.Outside.{Outside}
 use Rattle.mk_reader.specs.declared.fault.Outside.TheVariants as outside
@@ -36,12 +35,6 @@ abbrev pub Went : {W S : Type 0} → Outer W S → Reader W S → Reader W S →
 Went outer x y before after answer question =
     Does (reader_ties outer) sorted x y (λ answers u. done (run_at (standing y) after)) answer
     (λ answers. question answers (run_at (standing x) before))
-
--- The command line was applied, and the makefiles were read.
-abbrev pub WentAll : {W S : Type 0} → Outer W S → Reader W S → Reader W S → Result ℕ Stop → Type 0
-WentAll outer x y answer =
-    Does (reader_ties outer) sorted x y (λ answers count. done (run_at (standing y) count)) answer
-    (λ answers. all_read answers (standing x))
 
 -- how the outside may have failed behind the questions
 abbrev pub failure_by : ReadFault → Option Outside

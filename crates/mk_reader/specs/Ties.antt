@@ -90,11 +90,12 @@ asks_both : (meaning : Meaning) (failure : Option Outside) (a b c : Option Histo
 asks_both meaning failure a b None first second asked more = tt
 asks_both meaning failure a None (Some z) first second asked more = absurd more
 asks_both meaning failure None (Some y) (Some z) first second asked more = absurd asked
-asks_both meaning failure (Some x) (Some y) (Some z) first second asked more =
-    (more.0,
-    AreAsked-both meaning x y more.0 first second
-    (subst (λ h. AreAsked meaning first x h) (sym asked.2) asked.1) more.1,
-    more.2)
+asks_both meaning failure (Some x) (Some y) (Some z) first second asked more = (
+  more.0,
+  AreAsked-both meaning x y more.0 first second
+      (subst (λ h. AreAsked meaning first x h) (sym asked.2) asked.1) more.1,
+  more.2,
+)
 
 pub no_cause : (failed : Outside) (count : ℕ) → HasCause failed count count (ended None)
 no_cause failed count = record {

@@ -40,7 +40,10 @@ fn first_colon(line: &[u8]) -> Option<usize>
 fn are_plain_names(names: &Texts) -> bool
     ensures { result ≡ list_all spec.is_plain_name names.now }
 {
-    names.as_slice().iter().all(|name| is_plain_name(name.bytes()))
+    names
+        .as_slice()
+        .iter()
+        .all(|name| is_plain_name(name.bytes()))
 }
 
 // Names, cleaned against the current directory.

@@ -179,6 +179,10 @@ impl<'a, W: World> Facts for ReadFacts<'a, W> {
 
     ghost stays = { λ facts. (refl, refl, led_nowhere _ _ _ _, λ idle. idle) };
 
-    ghost goes_on = { λ a b c first second. (second.0 ∙ first.0, second.1 ∙ first.1,
-        led_on _ _ _ _ _ _ _ _ _ first.2 first.3 second.2, λ idle. second.3 (first.3 idle)) };
+    ghost goes_on = { λ a b c first second. (
+      second.0 ∙ first.0,
+      second.1 ∙ first.1,
+      led_on _ _ _ _ _ _ _ _ _ first.2 first.3 second.2,
+      λ idle. second.3 (first.3 idle),
+    ) };
 }

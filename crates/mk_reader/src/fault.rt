@@ -170,11 +170,37 @@ impl From<NoMemory> for ReadFault {
     }
 }
 
+/// A fault of the makefiles or of the command line.
+#[derive(Debug, Drop)]
+pub enum Fault {
+    /// As `ReadFault::NoFile`.
+    NoFile(Text),
+    /// As `ReadFault::Bad`.
+    Bad(Text, u32, What),
+    /// As `ReadFault::Limit`.
+    Limit(Kind, u64),
+}
+
+impl From<Fault> for ReadFault {
+    ghost use Rattle.std.specs.Prelude.{◌≡◌};
+    ghost use Rattle.mk_reader.specs.ReadFaults.{of_fault};
+
+    ghost from_gives = { λ given fault. fault ≡ of_fault given };
+
+    fn from(fault: Fault) -> ReadFault {
+        match fault {
+            Fault::NoFile(file) => ReadFault::NoFile(file),
+            Fault::Bad(file, line, what) => ReadFault::Bad(file, line, what),
+            Fault::Limit(kind, most) => ReadFault::Limit(kind, most),
+        }
+    }
+}
+
 /// Why reading stops.
 #[derive(Debug, Drop)]
 pub enum Stop {
     /// A fault of the makefiles or of the command line.
-    Fault(ReadFault),
+    Fault(Fault),
     /// The outside failed so.
     Failed(Outside),
     /// Memory ran out.
@@ -201,10 +227,10 @@ impl From<FileFault<What, Outside>> for Stop {
     fn from(fault: FileFault<What, Outside>) -> Stop {
         match fault {
             FileFault::Bad(name, number, wrong) => {
-                Stop::Fault(ReadFault::Bad(name, number, what_of(wrong)))
+                Stop::Fault(Fault::Bad(name, number, what_of(wrong)))
             }
-            FileFault::TooManyLines => Stop::Fault(ReadFault::Limit(Kind::Lines, 4_194_304)),
-            FileFault::TooManyFiles => Stop::Fault(ReadFault::Limit(Kind::Includes, 64)),
+            FileFault::TooManyLines => Stop::Fault(Fault::Limit(Kind::Lines, 4_194_304)),
+            FileFault::TooManyFiles => Stop::Fault(Fault::Limit(Kind::Includes, 64)),
             FileFault::Failed(failure) => Stop::Failed(failure),
             FileFault::NoMemory => Stop::NoMemory,
         }
@@ -219,7 +245,7 @@ impl From<Stop> for ReadFault {
 
     fn from(stop: Stop) -> ReadFault {
         match stop {
-            Stop::Fault(fault) => fault,
+            Stop::Fault(fault) => ReadFault::from(fault),
             Stop::Failed(Outside::World) => ReadFault::World,
             Stop::Failed(Outside::Sink) => ReadFault::Sink,
             Stop::Failed(Outside::NoMemory) => ReadFault::NoMemory,
@@ -256,7 +282,7 @@ pub fn refused(alloc: Global, refusal: Refusal) -> Stop
     ensures { result ≡ spec.of_refusal refusal }
 {
     match refusal {
-        Refusal::Wrong(what) => Stop::Fault(ReadFault::Bad(Text::new(alloc), 0, what)),
+        Refusal::Wrong(what) => Stop::Fault(Fault::Bad(Text::new(alloc), 0, what)),
         Refusal::Failed(failure) => Stop::Failed(failure),
         Refusal::NoMemory => Stop::NoMemory,
     }

@@ -191,7 +191,12 @@ impl<'a, W: World, S: Sink> Reader<'a, W, S> {
     }
 
     // The file that a line without its comment includes.
-    fn file_on(&mut self, alloc: Global, file: &[u8], line: &[u8]) -> Result<Option<IncludedFile>, Refusal>
+    fn file_on(
+        &mut self,
+        alloc: Global,
+        file: &[u8],
+        line: &[u8],
+    ) -> Result<Option<IncludedFile>, Refusal>
         ensures { Gave (outer W.meaning W.history W.faults W.runs S.held S.faults)
             self.old self.new (λ file. file) result
             (λ answers. spec.file_on answers file.now line.now) }

@@ -2,7 +2,7 @@
 ghost use Rattle.std.specs.Prelude.{◌≡◌, ◌≤◌, ◌^◌, ◌<◌, [], length, IsTrue, OnOk};
 ghost use Rattle.mk_bytes.specs.Paths.{is_clean_directory};
 ghost use Rattle.mk_reader.specs.Reading as spec;
-ghost use Rattle.mk_reader.specs.Results.{Found, ReadBy, Went, WentAll};
+ghost use Rattle.mk_reader.specs.Results.{Found, ReadBy, Went};
 ghost use Rattle.mk_reader.specs.Ties.{outer};
 ghost use Rattle.mk_reader.specs.declared.fault.ReadFault.TheVariants.{
   Sink as sink_failed,
@@ -11,7 +11,7 @@ ghost use Rattle.mk_reader.specs.declared.fault.ReadFault.TheVariants.{
 };
 ghost use Rattle.mk_world.specs.Causes.{HasCause};
 
-use crate::fault::{ReadFault, Stop, refused};
+use crate::fault::{Fault, ReadFault, Stop, refused};
 use crate::reader::Reader;
 use crate::state::State;
 use mk_blocks::read_file;
@@ -70,7 +70,7 @@ impl<'a, W: World, S: Sink> Reader<'a, W, S> {
     {
         match self.sought(alloc, file)? {
             Some(text) => self.read_whole(alloc, file, text.bytes(), count),
-            None => Err(Stop::Fault(ReadFault::NoFile(Text::from_bytes(alloc, missing)?))),
+            None => Err(Stop::Fault(Fault::NoFile(Text::from_bytes(alloc, missing)?))),
         }
     }
 
@@ -109,18 +109,25 @@ impl<'a, W: World, S: Sink> Reader<'a, W, S> {
         self.read_files(alloc, files, count)
     }
 
+    // Applies the words of the command line.
+    fn apply_words(&mut self, alloc: Global) -> Result<(), Stop>
+        ensures { Found (outer W.meaning W.history W.faults W.runs S.held S.faults)
+            self.old self.new result spec.words_applied }
+    {
+        match self.apply_order(alloc) {
+            Ok(done) => Ok(done),
+            Err(refusal) => Err(refused(alloc, refusal)),
+        }
+    }
+
     // Applies the command line, and reads the makefiles.
-    fn read_all(&mut self, alloc: Global) -> Result<u32, Stop>
-        ensures { WentAll (outer W.meaning W.history W.faults W.runs S.held S.faults)
-            self.old self.new result }
+    fn read_all(&mut self, alloc: Global, count: &mut u32) -> Result<(), Stop>
+        ensures { Went (outer W.meaning W.history W.faults W.runs S.held S.faults)
+            self.old self.new count.old count.new result spec.all_read }
     {
         let order = self.order;
-        if let Err(refusal) = self.apply_order(alloc) {
-            return Err(refused(alloc, refusal));
-        }
-        let mut count = 0;
-        self.read_makefiles(alloc, &order.files, &mut count)?;
-        Ok(count)
+        self.apply_words(alloc)?;
+        self.read_makefiles(alloc, &order.files, count)
     }
 }
 
@@ -159,7 +166,8 @@ pub fn read<W: World, S: Sink>(
         in_group: false,
         notes: Vec::new(alloc),
     };
+    let mut count = 0;
     let mut reader = Reader::new(world, err, &mut state, order);
-    reader.read_all(alloc)?;
+    reader.read_all(alloc, &mut count)?;
     Ok(state.made)
 }

@@ -19,10 +19,10 @@ returns-in-Ok-clause-led g c =
     (pushed ∙ ap (λ l. l ++ Time c.of.result c.of-in-Ok.result ∷ []) c.reserve.ensures.items)
     refl refl
     (λ runs.
-      let idle : IsIdle (g.W.World.history c.args.self.now.world.now) =
-      λ h is. g.met.W.World.told_children c.args.self.now.world.now h [] runs is in
-      timed_idle g.W.World.meaning _ _ _ _ idle
-      (rw (c.of.ensures, ← c.bytes.ensures.value, c.of-in-Ok.ensures) c.in-Ok.ensures.done))
+    let idle : IsIdle (g.W.World.history c.args.self.now.world.now) =
+    λ h is. g.met.W.World.told_children c.args.self.now.world.now h [] runs is in
+    timed_idle g.W.World.meaning _ _ _ _ idle
+    (rw (c.of.ensures, ← c.bytes.ensures.value, c.of-in-Ok.ensures) c.in-Ok.ensures.done))
 
 pub returns-clause-led : goal.returns-clause-led
 returns-clause-led g c =

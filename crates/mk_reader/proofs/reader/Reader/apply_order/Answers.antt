@@ -19,4 +19,4 @@ pub returns : goal.returns
 returns g c =
     then-given _ (λ answers next. stands (with_targets next.1)) c.in_ok-apply_all.ensures
     (given-as _ _ _ _ _ _ (λ answers.
-      rw (c.in_ok-apply_all.ensures.leads.order, c.bytes.ensures.value, c.in_ok-targets.ensures) refl) c.set.ensures)
+    rw (c.in_ok-apply_all.ensures.leads.order, c.bytes.ensures.value, c.in_ok-targets.ensures) refl) c.set.ensures)

@@ -19,14 +19,14 @@ returns-in_err-found g c =
     let p = err_from_is_err_and c.from_residual-in_err-found.result c.from_residual-in_err-found.ensures.1 in
     rw (p.1, p.2)
     (given-as _ _ _ _ _ _ (λ answers.
-      rw (← c.wanted_by.ensures, c.in-Some.is, c.in_ok-places.ensures, c.cwd-cwd.ensures.value) refl)
+    rw (← c.wanted_by.ensures, c.in-Some.is, c.in_ok-places.ensures, c.cwd-cwd.ensures.value) refl)
     (then-fault _ (λ answers. required c.args.optional c.in-Some.wanted.name.now)
     c.in_err-found.ensures))
 
 pub returns : goal.returns
 returns g c =
     given-as _ _ _ _ _ _ (λ answers.
-      rw (← c.wanted_by.ensures, c.in-Some.is, c.in_ok-places.ensures, c.cwd-cwd.ensures.value) refl)
+    rw (← c.wanted_by.ensures, c.in-Some.is, c.in_ok-places.ensures, c.cwd-cwd.ensures.value) refl)
     (then-given _ (λ answers. required c.args.optional c.in-Some.wanted.name.now)
     c.in_ok-found.ensures
     (gave-required _ _ _ (λ file. refl) _ _ _ _ c.required.ensures))

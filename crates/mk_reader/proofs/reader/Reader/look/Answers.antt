@@ -21,9 +21,9 @@ returns-in_err-found g c =
     (record { world = refl; err = refl; state = refl; order = refl; same = refl }) _ _ _
     c.reserve.ensures.items
     (unanswered-same _ _ _ _ (λ runs.
-      let idle : IsIdle (g.W.World.history c.args.self.now.world.now) =
-      λ h is. g.met.W.World.told_children c.args.self.now.world.now h [] runs is in
-      same_idle g.W.World.meaning _ _ idle c.in_err-found.ensures.refused))
+    let idle : IsIdle (g.W.World.history c.args.self.now.world.now) =
+    λ h is. g.met.W.World.told_children c.args.self.now.world.now h [] runs is in
+    same_idle g.W.World.meaning _ _ idle c.in_err-found.ensures.refused))
     (λ runs. c.in_err-found.ensures.children [] runs)
     c.in_err-found.ensures.cause)
 
@@ -36,16 +36,16 @@ returns g c =
     (leads-noted _ _ _
     (record { world = refl; err = refl; state = refl; order = refl; same = refl }) note pushed
     (λ runs.
-      let idle : IsIdle (g.W.World.history c.args.self.now.world.now) =
-      λ h is. g.met.W.World.told_children c.args.self.now.world.now h [] runs is in
-      looked_idle g.W.World.meaning c.of.result.value c.of-2.result.value
-      (g.W.World.history c.args.self.now.world.now) (g.W.World.history c.read.new.self) idle
-      (rw (c.of.ensures, ← c.bytes.ensures.value, c.of-2.ensures) c.in_ok-found.ensures.done))
+    let idle : IsIdle (g.W.World.history c.args.self.now.world.now) =
+    λ h is. g.met.W.World.told_children c.args.self.now.world.now h [] runs is in
+    looked_idle g.W.World.meaning c.of.result.value c.of-2.result.value
+    (g.W.World.history c.args.self.now.world.now) (g.W.World.history c.read.new.self) idle
+    (rw (c.of.ensures, ← c.bytes.ensures.value, c.of-2.ensures) c.in_ok-found.ensures.done))
     (λ runs. c.in_ok-found.ensures.children [] runs)
     (world-cause _ _ _ c.in_ok-found.ensures.cause))
     (λ answers by.
-      contents-noted answers c.args.self.now.state.now
-      (record c.args.self.now.state.now { notes = c.push.new.self })
-      c.args.self.now.order.now c.args.self.now.order.now note
-      c.args.path.now c.in_ok-found.found refl refl refl pushed
-      (rw (c.of.ensures, c.of-2.ensures) refl) by)
+    contents-noted answers c.args.self.now.state.now
+    (record c.args.self.now.state.now { notes = c.push.new.self })
+    c.args.self.now.order.now c.args.self.now.order.now note
+    c.args.path.now c.in_ok-found.found refl refl refl pushed
+    (rw (c.of.ensures, c.of-2.ensures) refl) by)

@@ -12,7 +12,7 @@ returns-in_err-add_command g c =
 pub returns : goal.returns
 returns g c =
     changed-given _ _ _ (record { world = refl; err = refl; state = refl; order = refl; same = refl }) _ _ refl refl _ (λ answers.
-      let white : is_only_white c.args.command.now ≡ false =
-      sym c.is_only_white.ensures ∙ c.if-is_only_white.false in
-      let inside : c.args.self.now.state.now.in_group ≡ true = search rules in
-      rw (white, inside, ← c.in_ok-add_command.ensures.ok) refl)
+    let white : is_only_white c.args.command.now ≡ false =
+    sym c.is_only_white.ensures ∙ c.if-is_only_white.false in
+    let inside : c.args.self.now.state.now.in_group ≡ true = search rules in
+    rw (white, inside, ← c.in_ok-add_command.ensures.ok) refl)

@@ -17,11 +17,11 @@ returns-in_err-rule g c =
 pub returns-in_default : goal.returns-in_default
 returns-in_default g c =
     here-wrong _ _ _ _ _ (λ answers. ruled-none _ _ _
-      (rw (← c.cwd.ensures.value) (sym c.in_ok-rule.ensures ∙ c.in_default.is)))
+    (rw (← c.cwd.ensures.value) (sym c.in_ok-rule.ensures ∙ c.in_default.is)))
 
 pub returns : goal.returns
 returns g c =
     changed-given _ _ _ (record { world = refl; err = refl; state = refl; order = refl; same = refl }) _ _ refl refl _ (λ answers.
-      ruled-first _ (rule_on c.args.self.now.state.now.made.scopes.cwd c.args.line.now) _
-      c.in-Some.rule (sym c.is_some.ensures ∙ c.if-is_some.false)
-      (rw (← c.cwd.ensures.value) (sym c.in_ok-rule.ensures ∙ c.in-Some.is)))
+    ruled-first _ (rule_on c.args.self.now.state.now.made.scopes.cwd c.args.line.now) _
+    c.in-Some.rule (sym c.is_some.ensures ∙ c.if-is_some.false)
+    (rw (← c.cwd.ensures.value) (sym c.in_ok-rule.ensures ∙ c.in-Some.is)))

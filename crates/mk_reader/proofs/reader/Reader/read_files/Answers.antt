@@ -1,4 +1,6 @@
-use Rattle.std.proofs.Common.{◌+◌, drop, refl, ap}
+use Rattle.std.proofs.Common.{◌+◌, ◌≤◌, length, drop, refl, ap, arith}
+use Rattle.std.proofs.Math.ListN.{drop_of_length-le}
+use Rattle.std.proofs.lemmas.Grind.{common_steps}
 use Rattle.std.proofs.lemmas.Result.{err_from_is_err_and}
 use Rattle.mk_blocks.specs.Runs.{run_at}
 use Rattle.mk_reader.specs.ReadFaults.{sorted}
@@ -40,4 +42,10 @@ loop-file-preserved g c =
     c.in_ok-read_makefile.ensures (still-given _ sorted _ _ tt (λ answers. refl))))
 
 pub returns : goal.returns
-returns g c = does-as _ sorted _ _ _ _ (λ answers. ?) ?
+returns g c =
+    let files = c.args.files.now in
+    let end : length files ≤ c.loop-file.file-index = grind (arith, common_steps) in
+    left-then _ sorted c.loop-file.invariant
+    (still-given _ sorted _ _ tt (λ answers.
+    ap (λ l. files_read answers l (run_at (standing c.loop-file.self) c.loop-file.count))
+    (drop_of_length-le files end)))

@@ -30,9 +30,9 @@ returns-in_err-ended g c =
     (record { world = refl; err = refl; state = refl; order = refl; same = refl }) _ _ _
     c.reserve.ensures.items
     (unanswered-ran _ _ _ _ _ (λ runs.
-      let idle : IsIdle (g.W.World.history c.args.self.now.world.now) =
-      λ h is. g.met.W.World.told_children c.args.self.now.world.now h [] runs is in
-      unanswered_idle g.W.World.meaning _ _ _ idle c.in_err-ended.ensures.refused))
+    let idle : IsIdle (g.W.World.history c.args.self.now.world.now) =
+    λ h is. g.met.W.World.told_children c.args.self.now.world.now h [] runs is in
+    unanswered_idle g.W.World.meaning _ _ _ idle c.in_err-ended.ensures.refused))
     (λ runs. c.in_err-ended.ensures.children [] runs)
     c.in_err-ended.ensures.cause)
 
@@ -45,17 +45,22 @@ returns g c =
     (leads-noted _ _ _
     (record { world = refl; err = refl; state = refl; order = refl; same = refl }) note pushed
     (λ runs.
-      let idle : IsIdle (g.W.World.history c.args.self.now.world.now) =
-      λ h is. g.met.W.World.told_children c.args.self.now.world.now h [] runs is in
-      asked_idle g.W.World.meaning c.of.result.value c.of-2.result.value
-      (g.W.World.history c.args.self.now.world.now) (g.W.World.history c.ask.new.self) idle
-      (rw (c.of.ensures, c.of-2.ensures) c.in_ok-ended.ensures.done))
+    let idle : IsIdle (g.W.World.history c.args.self.now.world.now) =
+    λ h is. g.met.W.World.told_children c.args.self.now.world.now h [] runs is in
+    asked_idle g.W.World.meaning c.of.result.value c.of-2.result.value
+    (g.W.World.history c.args.self.now.world.now) (g.W.World.history c.ask.new.self) idle
+    (rw (c.of.ensures, c.of-2.ensures) c.in_ok-ended.ensures.done))
     (λ runs. c.in_ok-ended.ensures.children [] runs)
     (world-cause _ _ _ c.in_ok-ended.ensures.cause))
     (λ answers by.
-      output-noted answers c.args.self.now.state.now
-      (record c.args.self.now.state.now { notes = c.push.new.self })
-      c.args.self.now.order.now c.args.self.now.order.now note
-      c.args.text c.in_ok-ended.ended refl refl refl pushed
-      (rw (c.of.ensures, c.of-2.ensures, c.in_ok-cwd.ensures, c.cwd.ensures.value,
-      c.in_ok-exports.ensures.empty) refl) by)
+    output-noted answers c.args.self.now.state.now
+    (record c.args.self.now.state.now { notes = c.push.new.self })
+    c.args.self.now.order.now c.args.self.now.order.now note
+    c.args.text c.in_ok-ended.ended refl refl refl pushed
+    (rw (
+      c.of.ensures,
+      c.of-2.ensures,
+      c.in_ok-cwd.ensures,
+      c.cwd.ensures.value,
+      c.in_ok-exports.ensures.empty,
+    ) refl) by)

@@ -20,12 +20,12 @@ pub returns-in-Ok : goal.returns-in-Ok
 returns-in-Ok g c =
     then-given _ (λ answers shown. divided c.args.names (words_of shown.0) shown.1) c.in_ok-text.ensures
     (here-given _ _ _ _ _ (λ answers.
-      rw (← c.bytes.ensures.value, ← c.in_ok-words.ensures)
-      (divided-ok c.args.names c.in_ok-words.words c.in-Ok.turns _ c.in-Ok.ensures)))
+    rw (← c.bytes.ensures.value, ← c.in_ok-words.ensures)
+    (divided-ok c.args.names c.in_ok-words.words c.in-Ok.turns _ c.in-Ok.ensures)))
 
 pub returns : goal.returns
 returns g c =
     then-given _ (λ answers shown. divided c.args.names (words_of shown.0) shown.1) c.in_ok-text.ensures
     (here-wrong _ _ _ _ _ (λ answers.
-      rw (← c.bytes.ensures.value, ← c.in_ok-words.ensures)
-      (divided-err c.args.names c.in_ok-words.words c.in-Err.what _ c.in-Err.ensures)))
+    rw (← c.bytes.ensures.value, ← c.in_ok-words.ensures)
+    (divided-err c.args.names c.in_ok-words.words c.in-Err.what _ c.in-Err.ensures)))

@@ -11,9 +11,9 @@ returns-in_err-heading g c =
 pub returns-in_default : goal.returns-in_default
 returns-in_default g c =
     here-wrong _ _ _ _ _ (λ answers.
-      rw (← c.argument_on.ensures, ← c.in_ok-heading.ensures, c.in_default.is) refl)
+    rw (← c.argument_on.ensures, ← c.in_ok-heading.ensures, c.in_default.is) refl)
 
 pub returns : goal.returns
 returns g c =
     given-as _ _ _ _ _ _ (λ answers.
-      rw (← c.argument_on.ensures, ← c.in_ok-heading.ensures, c.in-Some.is) refl) c.turns_of.ensures
+    rw (← c.argument_on.ensures, ← c.in_ok-heading.ensures, c.in-Some.is) refl) c.turns_of.ensures

@@ -14,10 +14,10 @@ pub returns-then-is_empty : goal.returns-then-is_empty
 returns-then-is_empty g c =
     then-given _ (λ answers name. not_empty name.0 name.1) c.in_ok-name.ensures
     (here-wrong _ _ _ _ _ (λ answers.
-      let none : c.in_ok-name.name ≡ [] = search rules in rw none refl))
+    let none : c.in_ok-name.name ≡ [] = search rules in rw none refl))
 
 pub returns : goal.returns
 returns g c =
     then-given _ (λ answers name. not_empty name.0 name.1) c.in_ok-name.ensures
     (here-given _ _ _ _ _ (λ answers.
-      not_empty-some c.in_ok-name.name _ (λ none. absurd (search rules))))
+    not_empty-some c.in_ok-name.name _ (λ none. absurd (search rules))))

@@ -11,5 +11,5 @@ returns-in_err-line g c =
 pub returns : goal.returns
 returns g c =
     given-as _ _ _ _ _ _ (λ answers.
-      rw (c.without_spaces.ensures, c.as_slice.ensures.value, c.in_ok-line.ensures) refl)
+    rw (c.without_spaces.ensures, c.as_slice.ensures.value, c.in_ok-line.ensures) refl)
     c.file_on.ensures

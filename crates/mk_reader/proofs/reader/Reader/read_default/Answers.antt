@@ -1,0 +1,24 @@
+use Rattle.std.proofs.Common.{refl}
+use Rattle.std.proofs.lemmas.Result.{err_from_is_err_and}
+use Rattle.mk_reader.specs.ReadFaults.{sorted}
+use Rattle.mk_reader.specs.Reading.{first_or_second}
+use Rattle.mk_reader.proofs.TieLemmas.{does-as, first-refused, first-then}
+use Rattle.mk_reader.proofs.reader.Reader.read_default.Goals as goal
+
+pub returns-in_err-text : goal.returns-in_err-text
+returns-in_err-text g c =
+    let p = err_from_is_err_and c.from_residual.result c.from_residual.ensures.1 in
+    rw (p.1, p.2)
+    (first-refused _ sorted (λ answers. first_or_second answers c.args.count.now)
+    c.in_err-text.ensures)
+
+pub returns-in-Some : goal.returns-in-Some
+returns-in-Some g c =
+    first-then _ sorted (λ answers. first_or_second answers c.args.count.now) c.in_ok-text.ensures
+    (does-as _ sorted _ _ _ _ (λ answers. rw (c.in-Some.is, ← c.bytes.ensures.value) refl)
+    c.read_whole.ensures)
+
+pub returns-in-None : goal.returns-in-None
+returns-in-None g c =
+    first-then _ sorted (λ answers. first_or_second answers c.args.count.now) c.in_ok-text.ensures
+    (does-as _ sorted _ _ _ _ (λ answers. rw c.in-None.is refl) c.read_makefile.ensures)
