@@ -69,5 +69,5 @@ wanted_by [] = None
 wanted_by (byte ∷ rest) =
     if byte == bytes.quote_mark then option_map (λ name. (false, name)) (ended bytes.quote_mark rest)
     else (if byte == bytes.less_than
-      then option_map (λ name. (true, name)) (ended bytes.greater_than rest)
+    then option_map (λ name. (true, name)) (ended bytes.greater_than rest)
     else None)

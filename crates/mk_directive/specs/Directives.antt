@@ -46,7 +46,7 @@ abbrev pub inclusion : List ℕ → Option Directive
 inclusion word =
     if bytes_eq word (codes "include") then Some Include
     else (if bytes_eq word (codes "-include") || bytes_eq word (codes "sinclude")
-      || bytes_eq word (codes "dinclude") then Some TryInclude
+    || bytes_eq word (codes "dinclude") then Some TryInclude
     else None)
 
 abbrev pub other : List ℕ → Option Directive

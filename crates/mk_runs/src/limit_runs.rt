@@ -80,21 +80,10 @@ fn makefile(alloc: Global, shape: Shape) -> Result<Text, NoMemory> {
 // What a row shows, the makefile, the words, the length of standard output, and standard error.
 type Row = (&'static str, Shape, Words, usize, &'static str);
 
-const ROWS: [Row; 12] = [
+const BLOCKS: [Row; 2] = [
     (
         "100000 nested branches",
         Shape::Nested(b".if 1\n", 100_000, b".endif\n"),
-        &["-V", "X"],
-        1,
-        "",
-    ),
-    (
-        "4192257 lines and turns",
-        Shape::Nested(
-            b".for a in ${:U:range=2048}\n.for b in ${:U:range=2045}\n.endfor\n.endfor\n",
-            1,
-            b"",
-        ),
         &["-V", "X"],
         1,
         "",
@@ -110,6 +99,9 @@ const ROWS: [Row; 12] = [
         0,
         "bmake: limit of lines 4194304\n",
     ),
+];
+
+const VALUES: [Row; 9] = [
     (
         "256 open references",
         Shape::Chain(b"pp=x\n"),
@@ -169,10 +161,19 @@ fn keeps_limit(rt: &impl Abort, alloc: Global, row: &Row) -> Result<bool, NoMemo
     Ok(ran.out.bytes().len() == length && ran.err.bytes() == err.as_bytes())
 }
 
-#[test]
-fn runs_have_limits(rt: HostRuntime) -> Result<(), Fail> {
-    for row in &ROWS {
-        assert!(rt; keeps_limit(&rt, rt.alloc(), row)?, "{}", row.0);
+fn keep_limits(rt: &impl Abort, alloc: Global, rows: &[Row]) -> Result<(), Fail> {
+    for row in rows {
+        assert!(rt; keeps_limit(rt, alloc, row)?, "{}", row.0);
     }
     Ok(())
+}
+
+#[test]
+fn blocks_have_limits(rt: HostRuntime) -> Result<(), Fail> {
+    keep_limits(&rt, rt.alloc(), &BLOCKS)
+}
+
+#[test]
+fn values_have_limits(rt: HostRuntime) -> Result<(), Fail> {
+    keep_limits(&rt, rt.alloc(), &VALUES)
 }

@@ -1,7 +1,8 @@
 -- The meaning of a run, by its first steps.
 use Rattle.std.proofs.Common.{◌≡◌, ◌⊎◌, ◌<◌, ◌≤◌, ℕ, List, [], Option, Some, None, Ok, Err}
-use Rattle.std.proofs.Common.{inl, inr, refl, sym, ap, subst, arith}
+use Rattle.std.proofs.Common.{◌∙◌, inl, inr, refl, sym, ap, subst, arith}
 use Rattle.std.proofs.Math.Nat.{lt_irrefl}
+use Rattle.std.proofs.lemmas.Bool.{cases_lt}
 use Rattle.mk_plan.specs.Asking.{LooksAll, answers_by}
 use Rattle.mk_plan.specs.Plans.{planned}
 use Rattle.mk_plan.specs.Tasks.{setting_of}
@@ -10,7 +11,7 @@ use Rattle.mk_plan.specs.declared.fault.PlanFault.{PlanFault}
 use Rattle.mk_plan.specs.declared.fault.PlanFault.TheVariants as plan
 use Rattle.mk_reader.specs.declared.fault.ReadFault.{ReadFault}
 use Rattle.mk_reader.specs.declared.fault.ReadFault.TheVariants as read
-use Rattle.mk_world.specs.Causes.{HasCause, Rose}
+use Rattle.mk_world.specs.Causes.{HasCause, Rose, last_count}
 use Rattle.mk_world.specs.Runs.{Same}
 use Rattle.mk_world.specs.Talks.{Meaning}
 use Rattle.mk_world.specs.Told.{Told}
@@ -86,19 +87,19 @@ EndCause-never failed end n never = record {
   rose = λ is. absurd (never is);
 }
 
--- what ends a run behind a call that went well
-pub EndCause-behind : {A E : Type 0} (other : E) (failed end : End) (before mid after : ℕ)
-    (given : A) → HasCause other before mid (Ok given) → EndCause failed mid after end
-    → EndCause failed before after end
-EndCause-behind other failed end before mid after given cause behind =
-    subst (λ n. EndCause failed n after end) (HasCause-same other before mid given cause) behind
-
 -- a count that a call does not fail by stands still
 pub HasCause-same : {A E : Type 0} (failed : E) (before after : ℕ) (given : A)
     → HasCause failed before after (Ok given) → after ≡ before
 HasCause-same failed before after given cause =
     let none : before < after → ⊥ = λ rose. let is = cause.answered rose in absurd cc in
     let kept : before ≤ after = cause.kept in omega (arith, none)
+
+-- what ends a run behind a call that went well
+pub EndCause-behind : {A E : Type 0} (other : E) (failed end : End) (before mid after : ℕ)
+    (given : A) → HasCause other before mid (Ok given) → EndCause failed mid after end
+    → EndCause failed before after end
+EndCause-behind other failed end before mid after given cause behind =
+    subst (λ n. EndCause failed n after end) (HasCause-same other before mid given cause) behind
 
 -- the sinks' counts where the makefiles were read, and output was written behind
 pub SinkCause-behind : {A : Type 0} (out later before after : ℕ) (given : A) (end : End)
@@ -114,3 +115,55 @@ SinkCause-behind out later before after given end cause behind = record {
     answered : (out < later) ⊎ (before < after) → end ≡ SinkFault
     answered (inl rose) = behind.answered rose
     answered (inr rose) = let is = cause.answered rose in absurd cc
+
+-- a rise of a part of the way is one of all of it
+rose_at_first : (before mid after : ℕ) → mid ≤ after → Rose before mid → Rose before after
+rose_at_first before mid after more (inl rose) = inl (omega (arith, rose, more))
+rose_at_first before mid after more (inr full) = inr full
+
+rose_at_last : (before mid after : ℕ) → before ≤ mid → mid ≤ after → Rose mid after
+    → Rose before after
+rose_at_last before mid after first last (inl rose) = inl (omega (arith, rose, first))
+rose_at_last before mid after first last (inr full) = whole (cases_lt before after)
+  where
+    whole : (before < after) ⊎ (after ≤ before) → Rose before after
+    whole (inl rose) = inl rose
+    whole (inr same) =
+        let equal : before ≡ mid = omega (arith, first, last, same) in
+        inr (subst (λ n. last_count ≤ n) (sym equal) full)
+
+-- the sinks' counts of all of a run, with the line of its end
+pub SinkCause-closed : (out later before mid after : ℕ) (went end : End)
+    → SinkCause out later before mid went → LineCause mid after went end
+    → SinkCause out later before after end
+SinkCause-closed out later before mid after went end carried line =
+    let first : before ≤ mid = carried.kept_err in
+    let last : mid ≤ after = line.kept in
+    record {
+      kept_out = carried.kept_out;
+      kept_err = omega (arith, first, last);
+      rose = λ is. rose is line.same;
+      answered = answered;
+    }
+  where
+    earlier : Rose out later ⊎ Rose before mid → Rose out later ⊎ Rose before after
+    earlier (inl a) = inl a
+    earlier (inr b) = inr (rose_at_first before mid after line.kept b)
+
+    rose : end ≡ SinkFault → (end ≡ went) ⊎ ((end ≡ SinkFault) × Rose mid after)
+        → Rose out later ⊎ Rose before after
+    rose is (inl same) = earlier (carried.rose (sym same ∙ is))
+    rose is (inr own) = inr (rose_at_last before mid after carried.kept_err line.kept own.1)
+
+    by_line : went ≡ SinkFault → (end ≡ went) ⊎ ((end ≡ SinkFault) × Rose mid after)
+        → end ≡ SinkFault
+    by_line is (inl same) = same ∙ is
+    by_line is (inr own) = own.0
+
+    by_rise : before < after → (before < mid) ⊎ (mid ≤ before) → end ≡ SinkFault
+    by_rise all (inl rose) = by_line (carried.answered (inr rose)) line.same
+    by_rise all (inr still) = line.answered (omega (arith, all, still))
+
+    answered : (out < later) ⊎ (before < after) → end ≡ SinkFault
+    answered (inl a) = by_line (carried.answered (inl a)) line.same
+    answered (inr b) = by_rise b (cases_lt before mid)

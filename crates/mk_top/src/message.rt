@@ -170,23 +170,10 @@ fn write_place<'t, S: Sink>(
         (spec.as_line (spec.place_text file.now number.now (spec.what_text what.now)))) }
     ensures cause { HasCause Failed (S.faults sink.old) (S.faults sink.new) result }
 {
-    let [first, second, third, fourth, fifth] = what_text(what, at, names);
-    write_all(
-        sink,
-        &[
-            b"bmake: \"",
-            file,
-            b"\" line ",
-            number,
-            b": ",
-            first,
-            second,
-            third,
-            fourth,
-            fifth,
-            b"\n",
-        ],
-    )
+    let wrong = what_text(what, at, names);
+    write_all(sink, &[b"bmake: \"", file, b"\" line ", number, b": "])?;
+    write_all(sink, &wrong)?;
+    write_all(sink, &[b"\n"])
 }
 
 fn write_bad<S: Sink>(sink: &mut S, file: &[u8], line: u32, what: &What) -> Result<(), SinkFault>

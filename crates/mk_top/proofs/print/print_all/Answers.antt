@@ -2,8 +2,8 @@ use Rattle.std.proofs.Common.{◌≡◌, ◌∷◌, ◌+◌, ◌∙◌, ◌≤�
 use Rattle.std.proofs.lemmas.Result.{err_from_is_err_and}
 use Rattle.mk_expand.proofs.FactLemmas.{earlier}
 use Rattle.mk_plan.specs.Tasks.{setting_of}
-use Rattle.mk_reader.proofs.FaultLemmas.{HasCause-same}
 use Rattle.mk_top.specs.declared.report.End.TheVariants.{Done, SinkFault, WorldFault}
+use Rattle.mk_top.proofs.MeaningLemmas.{HasCause-same}
 use Rattle.mk_top.proofs.PrintLemmas.{Printed-at, Printed-behind, Printed-over}
 use Rattle.mk_top.proofs.PrintLemmas.{drop-item, drop-all, questions-none, questions-then}
 use Rattle.mk_top.proofs.print.print_all.Goals as goal
