@@ -80,10 +80,21 @@ fn makefile(alloc: Global, shape: Shape) -> Result<Text, NoMemory> {
 // What a row shows, the makefile, the words, the length of standard output, and standard error.
 type Row = (&'static str, Shape, Words, usize, &'static str);
 
-const BLOCKS: [Row; 2] = [
+const BLOCKS: [Row; 3] = [
     (
         "100000 nested branches",
         Shape::Nested(b".if 1\n", 100_000, b".endif\n"),
+        &["-V", "X"],
+        1,
+        "",
+    ),
+    (
+        "4192257 lines and turns",
+        Shape::Nested(
+            b".for a in ${:U:range=2048}\n.for b in ${:U:range=2045}\n.endfor\n.endfor\n",
+            1,
+            b"",
+        ),
         &["-V", "X"],
         1,
         "",
