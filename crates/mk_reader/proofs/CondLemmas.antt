@@ -1,11 +1,10 @@
 -- Faults of conditions' grammar.
-use Rattle.std.proofs.Common.{◌≡◌, ◌⊎◌, ℕ, Bool, inl, inr, Result, Ok, Err, refl, sym, subst}
+use Rattle.std.proofs.Common.{◌≡◌, ◌⊎◌, Bool, inl, inr, Result, Err, sym, subst}
 use Rattle.mk_bytes.specs.Agrees.{AgreesErr}
 use Rattle.mk_cond.specs.Cond.{Cond}
 use Rattle.mk_cond.specs.declared.fault.CondFault.{CondFault}
 use Rattle.mk_cond.specs.declared.fault.CondFault.TheVariants as cond
 use Rattle.mk_reader.specs.Blocks.{cond_what, judged}
-use Rattle.mk_reader.specs.Questions.{Answers}
 use Rattle.mk_reader.specs.Refusals.{of_cond}
 use Rattle.mk_reader.specs.Ties.{Outer}
 use Rattle.mk_reader.specs.declared.fault.Refusal.{Refusal}

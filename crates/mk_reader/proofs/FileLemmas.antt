@@ -5,7 +5,6 @@ use Rattle.mk_blocks.specs.Outcomes.{done, refused}
 use Rattle.mk_blocks.specs.declared.language.IncludedFile.{IncludedFile}
 use Rattle.mk_reader.specs.Inclusions.{IsRequired, required}
 use Rattle.mk_reader.specs.Moments.{Moment}
-use Rattle.mk_reader.specs.Questions.{Answers}
 use Rattle.mk_reader.specs.Ties.{Outer}
 use Rattle.mk_reader.specs.declared.fault.Refusal.{Refusal}
 use Rattle.mk_reader.specs.declared.fault.Refusal.TheVariants.{NoMemory, Wrong}

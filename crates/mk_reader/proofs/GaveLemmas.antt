@@ -1,9 +1,9 @@
 -- Calls of a reader.
-use Rattle.std.proofs.Common.{◌≡◌, ◌⊎◌, ℕ, ◌<◌, ◌≤◌, List, [], ◌∷◌, ◌++◌, Option, Some, None, Result, Ok, Err}
+use Rattle.std.proofs.Common.{◌≡◌, ◌⊎◌, ℕ, List, [], ◌∷◌, ◌++◌, Option, Some, None, Result, Ok, Err}
 use Rattle.std.proofs.Common.{refl, sym, ap, subst, ◌∙◌, inl, inr, arith}
 use Rattle.std.proofs.lemmas.List.{append-nil}
-use Rattle.mk_blocks.specs.Outcomes.{Outcome, done, refused, silent}
-use Rattle.mk_blocks.specs.Ties.{Does, Goes}
+use Rattle.mk_blocks.specs.Outcomes.{done, refused}
+use Rattle.mk_blocks.specs.Ties.{Does}
 use Rattle.mk_expand.specs.Facts as expand
 use Rattle.mk_expand.specs.declared.facts.Asked.{Asked}
 use Rattle.mk_expand.specs.declared.fault.ExpandFault.{ExpandFault}
@@ -25,7 +25,7 @@ use Rattle.mk_reader.specs.Moments.{Doing, Moment, moment_of}
 use Rattle.mk_reader.specs.Notes.{question_of, questions_in}
 use Rattle.mk_reader.specs.Questions.{Answers, AreAsked, IsAsked, Question}
 use Rattle.mk_reader.specs.Refusals.{of_expand, of_world, sorted}
-use Rattle.mk_reader.specs.Ties.{Asks, Cut, Evaluated, Gave, GainsPart-whole, Leads, Outer, all_bytes, asks_nothing, ended, idle}
+use Rattle.mk_reader.specs.Ties.{Asks, Cut, Evaluated, GainsPart-whole, Leads, Outer, all_bytes, asks_nothing, ended, idle}
 use Rattle.mk_reader.specs.Ties.{has_answered, no_cause, reader_ties, writes, writes_part}
 use Rattle.mk_reader.specs.declared.fault.Outside.{Outside}
 use Rattle.mk_reader.specs.declared.fault.Outside.TheVariants as outside

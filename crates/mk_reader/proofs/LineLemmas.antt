@@ -1,12 +1,10 @@
 -- What single lines do, by cases.
-use Rattle.std.proofs.Common.{◌≡◌, ◌⊎◌, ℕ, ◌==◌, ◌%◌, length, Bool, true, false, is_some, List, [], ◌∷◌, Option, Some, None}
-use Rattle.std.proofs.Common.{Result, Ok, Err, inl, inr, refl, sym, ap, ◌∙◌, arith}
+use Rattle.std.proofs.Common.{◌≡◌, ◌⊎◌, ℕ, ◌==◌, ◌%◌, length, true, false, is_some, List, [], ◌∷◌, Option, Some, None}
+use Rattle.std.proofs.Common.{Result, Ok, Err, inl, inr, refl, arith}
 use Rattle.std.proofs.lemmas.Bool.Decides.{nat_tests}
 use Rattle.mk_blocks.specs.Outcomes.{done, refused}
 use Rattle.mk_blocks.specs.Turns.{loop_turns}
 use Rattle.mk_blocks.specs.declared.language.Loop.{Loop}
-use Rattle.mk_bytes.specs.Agrees.{AgreesErr}
-use Rattle.mk_bytes.specs.Bytes.{tab}
 use Rattle.mk_cond.specs.Cond.{Cond}
 use Rattle.mk_cond.specs.declared.fault.CondFault.{CondFault}
 use Rattle.mk_cond.specs.declared.fault.CondFault.TheVariants as cond
@@ -14,12 +12,10 @@ use Rattle.mk_ast.specs.declared.fault.AstFault.TheVariants as ast
 use Rattle.mk_directive.specs.Directives.{directive_on}
 use Rattle.mk_graph.specs.declared.Rule.{Rule}
 use Rattle.mk_reader.specs.Blocks.{IsDivided, cond_what, divided, judged}
-use Rattle.mk_reader.specs.Kinds.{plain_text}
 use Rattle.mk_reader.specs.Moments.{Moment, stands}
 use Rattle.mk_reader.specs.Questions.{Answers}
 use Rattle.mk_reader.specs.Refusals.{of_cond}
-use Rattle.mk_reader.specs.Steps.{by_directive, command_read, line_read, plain_read, ruled, with_rule}
-use Rattle.mk_reader.specs.declared.fault.Refusal.{Refusal}
+use Rattle.mk_reader.specs.Steps.{by_directive, plain_read, ruled, with_rule}
 use Rattle.mk_reader.specs.declared.fault.Refusal.TheVariants.{Wrong, NoMemory}
 use Rattle.mk_reader.specs.declared.fault.What.{What}
 use Rattle.mk_reader.specs.declared.fault.What.TheVariants.{Unbuilt}

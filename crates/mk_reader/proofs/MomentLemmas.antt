@@ -4,8 +4,6 @@ use Rattle.std.proofs.lemmas.Grind.{common_steps}
 use Rattle.std.proofs.lemmas.List.{append-nil, map-append}
 use Rattle.mk_blocks.specs.Outcomes.{done}
 use Rattle.mk_cli.specs.declared.order.Order.{Order}
-use Rattle.mk_expand.specs.declared.facts.Asked.{Asked}
-use Rattle.mk_world.specs.declared.command.Cmd.{Cmd}
 use Rattle.mk_world.specs.declared.step.Ended.{Ended}
 use Rattle.mk_reader.specs.Moments.{Moment, moment_of}
 use Rattle.mk_reader.specs.Notes.{asked_by, question_of, questions_in}

@@ -1,5 +1,5 @@
 -- What a whole reading gives, by what its calls did.
-use Rattle.std.proofs.Common.{◌≡◌, ℕ, ◌<◌, List, [], ◌∷◌, ◌++◌, Option, Some, None, Result, Ok, Err}
+use Rattle.std.proofs.Common.{◌≡◌, ℕ, List, [], ◌++◌, Option, Some, None, Result, Ok, Err}
 use Rattle.std.proofs.Common.{inl, refl, sym, ap, subst, ◌∙◌}
 use Rattle.std.proofs.lemmas.List.{append-nil}
 use Rattle.mk_blocks.specs.Outcomes.{Outcome, behind, done, silent}
@@ -7,7 +7,7 @@ use Rattle.mk_blocks.specs.Ties.{Does, Goes}
 use Rattle.mk_blocks.specs.Ties as verdict
 use Rattle.mk_world.specs.Causes.{HasCause}
 use Rattle.mk_world.specs.Runs.{Same}
-use Rattle.mk_world.specs.Sinks.{Gains, GainsPart}
+use Rattle.mk_world.specs.Sinks.{Gains}
 use Rattle.mk_world.specs.Talks.{Meaning}
 use Rattle.mk_world.specs.Told.{Told}
 use Rattle.mk_world.specs.declared.command.Cmd.{Cmd}
@@ -15,10 +15,9 @@ use Rattle.mk_world.specs.declared.history.History.{History}
 use Rattle.mk_world.proofs.SinkLemmas.{Gains-nothing, GainsPart-more}
 use Rattle.mk_reader.specs.Notes.{questions_in}
 use Rattle.mk_reader.specs.Questions.{Answered, Answers, Question}
-use Rattle.mk_reader.specs.ReadFaults.{Reads, of_fault, of_stop, sorted}
-use Rattle.mk_reader.specs.Results.{Gave, ReadBy, failure_by, failure_in}
+use Rattle.mk_reader.specs.ReadFaults.{Reads, of_stop, sorted}
+use Rattle.mk_reader.specs.Results.{ReadBy}
 use Rattle.mk_reader.specs.Ties.{Asks, GainsPart-whole, Leads, Outer, all_bytes, asks_nothing, ended, has_answered, idle, reader_ties}
-use Rattle.mk_reader.specs.declared.fault.Fault.{Fault}
 use Rattle.mk_reader.specs.declared.fault.Fault.TheVariants as fault
 use Rattle.mk_reader.specs.declared.fault.Outside.{Outside}
 use Rattle.mk_reader.specs.declared.fault.Outside.TheVariants as outside

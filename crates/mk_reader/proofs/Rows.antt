@@ -1,11 +1,10 @@
 -- Makefiles, read by the definitions.
-use Rattle.std.proofs.Common.{◌≡◌, ℕ, ◌++◌, List, [], ◌∷◌, true, false, Option, Some, None, Result, Ok, Err}
+use Rattle.std.proofs.Common.{◌≡◌, ℕ, ◌++◌, List, [], ◌∷◌, false, Option, Some, None, Result, Ok, Err}
 use Rattle.std.proofs.Common.{refl}
 use Rattle.std.specs.Prelude.{codes, if◌then◌else◌, is_some}
 use Rattle.std.specs.Fmt.{digits}
-use Rattle.std.specs.Option.{option_map}
 use Rattle.std.specs.Str.{bytes_eq}
-use Rattle.mk_bytes.specs.declared.kind.Kind.TheVariants.{Lines, Includes}
+use Rattle.mk_bytes.specs.declared.kind.Kind.TheVariants.{Includes}
 use Rattle.mk_cli.specs.declared.order.Order.{Order}
 use Rattle.mk_ast.specs.Text.{text_at}
 use Rattle.mk_ast.specs.Rows.{is_word, is_left_out_word}
@@ -26,7 +25,6 @@ use Rattle.mk_blocks.specs.Blocks.{parse, closed, branches}
 use Rattle.mk_blocks.specs.Meaning.{file_at, meaning, chosen}
 use Rattle.mk_blocks.specs.Runs.{all_turns}
 use Rattle.mk_blocks.specs.OpenBlocks.{blocks_checked}
-use Rattle.mk_blocks.specs.Outcomes.{Outcome}
 use Rattle.mk_blocks.specs.Turns.{turns_from}
 use Rattle.mk_scopes.specs.declared.scopes.Env.{Env}
 use Rattle.mk_scopes.specs.Scopes.{raw_value}

@@ -1,5 +1,5 @@
 -- The lines that begin branches and loops.
-use Rattle.std.specs.Prelude.{◌≡◌, ℕ, ◌%◌, ◌==◌, Bool, false, List, [], ◌∷◌, length, Option, Some, None}
+use Rattle.std.specs.Prelude.{◌≡◌, ℕ, ◌%◌, ◌==◌, Bool, false, List, length, Option, Some, None}
 use Rattle.std.specs.Prelude.{Result, Ok, Err, if◌then◌else◌}
 use Rattle.mk_blocks.specs.Outcomes.{refused, ◌>>=◌}
 use Rattle.mk_blocks.specs.Turns.{Turn, loop_turns}

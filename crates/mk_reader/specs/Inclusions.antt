@@ -10,7 +10,6 @@ use Rattle.mk_bytes.specs.Paths.{clean, is_absolute, is_slash}
 use Rattle.mk_cli.specs.declared.order.Order.{Order}
 use Rattle.mk_directive.specs.Arguments.{Wanted, wanted_by}
 use Rattle.mk_directive.specs.Directives.{Directed, directive_on}
-use Rattle.mk_directive.specs.declared.directive.Directive.{Directive}
 use Rattle.mk_directive.specs.declared.directive.Directive.TheVariants.{TryInclude}
 use Rattle.mk_reader.specs.Blocks.{argument_on}
 use Rattle.mk_reader.specs.Dependencies.{cleaned}

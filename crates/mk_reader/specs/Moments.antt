@@ -1,6 +1,6 @@
 -- Where reading stands, and what a step does there.
-use Rattle.std.specs.Prelude.{ℕ, Bool, false, List, [], length, Result, Ok, Err}
-use Rattle.mk_blocks.specs.Outcomes.{Outcome, done, refused}
+use Rattle.std.specs.Prelude.{ℕ, Bool, false, List, length}
+use Rattle.mk_blocks.specs.Outcomes.{Outcome, done}
 use Rattle.mk_cli.specs.declared.order.Order.{Order}
 use Rattle.mk_expand.specs.declared.facts.Asked.{Asked}
 use Rattle.mk_graph.specs.declared.Made.{Made}

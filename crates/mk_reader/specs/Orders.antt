@@ -1,5 +1,5 @@
 -- What the words of a command line set before any makefile is read.
-use Rattle.std.specs.Prelude.{ℕ, false, List, [], ◌∷◌, None, codes}
+use Rattle.std.specs.Prelude.{false, List, [], ◌∷◌, None, codes}
 use Rattle.mk_blocks.specs.Outcomes.{◌>>=◌}
 use Rattle.mk_cli.specs.declared.order.Order.{Order}
 use Rattle.mk_cli.specs.declared.order.Set.{Set}

@@ -1,5 +1,5 @@
 -- Why makefiles are not read to their end.
-use Rattle.std.specs.Prelude.{List, [], Result, Ok, Err}
+use Rattle.std.specs.Prelude.{[], Result, Ok, Err}
 use Rattle.mk_blocks.specs.Runs.{max_files, max_lines}
 use Rattle.mk_blocks.specs.Outcomes.{Outcome}
 use Rattle.mk_blocks.specs.declared.fault.FileFault.{FileFault}

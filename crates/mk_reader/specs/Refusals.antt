@@ -1,5 +1,4 @@
 -- Why lines are refused.
-use Rattle.std.specs.Prelude.{ℕ}
 use Rattle.mk_blocks.specs.declared.fault.LanguageFault.{LanguageFault}
 use Rattle.mk_blocks.specs.declared.fault.LanguageFault.TheVariants as language
 use Rattle.mk_cond.specs.declared.fault.CondFault.{CondFault}

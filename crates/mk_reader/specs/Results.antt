@@ -1,6 +1,6 @@
 -- What reading gives.
-use Rattle.std.specs.Prelude.{◌≡◌, ◌⊎◌, ℕ, List, [], ◌∷◌, Option, Some, None, Result, Ok, Err}
-use Rattle.mk_blocks.specs.Outcomes.{Outcome, done}
+use Rattle.std.specs.Prelude.{◌≡◌, ℕ, List, Option, Some, None, Result, Ok, Err}
+use Rattle.mk_blocks.specs.Outcomes.{done}
 use Rattle.mk_blocks.specs.Runs.{Run, run_at}
 use Rattle.mk_blocks.specs.Ties.{Does}
 use Rattle.mk_world.specs.Sinks.{Gains, GainsPart}
@@ -14,7 +14,7 @@ use Rattle.mk_reader.specs.Ties.{Asks, Outer, all_bytes, reader_ties}
 use Rattle.mk_reader.specs.declared.fault.Outside.{Outside}
 use Rattle.mk_reader.specs.declared.fault.Outside.TheVariants as outside
 use Rattle.mk_reader.specs.declared.fault.ReadFault.{ReadFault}
-use Rattle.mk_reader.specs.declared.fault.ReadFault.TheVariants.{NoFile, Bad, Limit, World, Sink, NoMemory}
+use Rattle.mk_reader.specs.declared.fault.ReadFault.TheVariants.{World, Sink, NoMemory}
 use Rattle.mk_reader.specs.declared.fault.Stop.{Stop}
 use Rattle.mk_reader.specs.declared.reader.Reader.{Reader}
 

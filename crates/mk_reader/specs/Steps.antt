@@ -1,5 +1,5 @@
 -- What one logical line of a makefile does that is none of the blocks'.
-use Rattle.std.specs.Prelude.{ℕ, true, false, List, [], ◌∷◌, ◌++◌, Option, Some, None, codes}
+use Rattle.std.specs.Prelude.{ℕ, true, List, [], ◌∷◌, ◌++◌, Option, Some, None, codes}
 use Rattle.std.specs.Prelude.{if◌then◌else◌}
 use Rattle.mk_blocks.specs.Outcomes.{refused}
 use Rattle.mk_directive.specs.Directives.{Directed, directive_on}

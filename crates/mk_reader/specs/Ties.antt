@@ -1,9 +1,8 @@
 -- How the calls of a reader are tied to the meaning of lines.
 use Rattle.std.specs.Prelude.{◌≡◌, ℕ, ◌<◌, ◌≤◌, List, [], ◌∷◌, ◌++◌, Option, Some, None, Result, Ok, Err, slice_get}
-use Rattle.std.specs.Prelude.{zero, suc, length, map}
+use Rattle.std.specs.Prelude.{zero, suc}
 use Rattle.std.proofs.Common.{refl, sym, ap, subst, ◌∙◌, append_assoc, arith}
 use Rattle.std.proofs.lemmas.List.{append-nil, map-append}
-use Rattle.mk_blocks.specs.Languages.{LineMeaning}
 use Rattle.mk_blocks.specs.Outcomes.{done}
 use Rattle.mk_blocks.specs.Ties.{Does, Ties}
 use Rattle.mk_expand.specs.Facts.{Means}
@@ -12,7 +11,7 @@ use Rattle.mk_expand.specs.declared.facts.Asked.{Asked}
 use Rattle.mk_expand.specs.declared.fault.ExpandFault.{ExpandFault}
 use Rattle.mk_world.specs.Causes.{HasCause}
 use Rattle.mk_world.specs.Runs.{RanAtMost}
-use Rattle.mk_world.specs.Sinks.{Begins, Gains, GainsPart}
+use Rattle.mk_world.specs.Sinks.{Gains, GainsPart}
 use Rattle.mk_world.specs.Talks.{Meaning}
 use Rattle.mk_world.specs.Told.{Told}
 use Rattle.mk_world.proofs.SinkLemmas.{Gains-nothing, Gains-then, GainsPart-more, GainsPart-then}
@@ -23,7 +22,7 @@ use Rattle.mk_reader.specs.Languages.{meaning}
 use Rattle.mk_reader.specs.Leads.{AreAsked-both, Led}
 use Rattle.mk_reader.specs.Moments.{Doing, Moment, moment_of}
 use Rattle.mk_reader.specs.Notes.{asked_by, question_of, questions_in}
-use Rattle.mk_reader.specs.Questions.{Answered, Answers, AreAsked, Question, Reading, Running}
+use Rattle.mk_reader.specs.Questions.{Answered, Answers, AreAsked, Question}
 use Rattle.mk_reader.specs.Questions.{readings_in, runnings_in, times_in}
 use Rattle.mk_reader.specs.Questions.{readings_in-append, runnings_in-append, times_in-append}
 use Rattle.mk_reader.specs.declared.fault.Outside.{Outside}

@@ -1,6 +1,6 @@
 -- What reading asks of the outside.
-use Rattle.std.specs.Prelude.{ℕ, ◌+◌, Bool, List, [], ◌∷◌, Option, Result, Ok, Err}
-use Rattle.mk_blocks.specs.Outcomes.{Outcome, refused}
+use Rattle.std.specs.Prelude.{ℕ, ◌+◌, Bool, List, [], Option, Result, Ok, Err}
+use Rattle.mk_blocks.specs.Outcomes.{refused}
 use Rattle.mk_cond.specs.Cond.{Cond}
 use Rattle.mk_expand.specs.Facts.{Lists}
 use Rattle.mk_expand.specs.Locals.{no_locals}

@@ -1,5 +1,5 @@
 -- How assignments change variables (make(1), "VARIABLE ASSIGNMENTS").
-use Rattle.std.specs.Prelude.{ℕ, ◌-◌, ◌==◌, Bool, true, false, is_some, nat_eq, List, [], ◌∷◌, length, map, take}
+use Rattle.std.specs.Prelude.{ℕ, ◌-◌, ◌==◌, true, false, is_some, nat_eq, List, [], ◌∷◌, length, map, take}
 use Rattle.std.specs.Prelude.{if◌then◌else◌}
 use Rattle.std.specs.List.{ends_with}
 use Rattle.mk_blocks.specs.Outcomes.{refused, ◌>>=◌}

@@ -1,6 +1,5 @@
-use Rattle.std.proofs.Common.{[], ◌≡◌, ◌∷◌, ◌++◌, refl, sym, ap, ◌∙◌}
+use Rattle.std.proofs.Common.{[], ◌∷◌, ◌++◌, refl, ap, ◌∙◌}
 use Rattle.mk_world.proofs.IdleLemmas.{IsIdle}
-use Rattle.mk_reader.specs.Questions.{is_there}
 use Rattle.mk_reader.specs.declared.note.Note.TheVariants.{Time}
 use Rattle.mk_reader.proofs.QuestionLemmas.{asked_by-push, led_once, led_refused, timed_idle}
 use Rattle.mk_reader.proofs.facts.ReadFacts.exists.Goals as goal

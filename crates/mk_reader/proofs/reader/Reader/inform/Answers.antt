@@ -1,4 +1,3 @@
-use Rattle.std.proofs.Common.{refl, sym, ap, ◌∙◌}
 use Rattle.std.proofs.lemmas.Result.{err_from_is_err_and}
 use Rattle.mk_reader.specs.Messages.{message_line, said}
 use Rattle.mk_reader.proofs.StepLemmas.{then-fault, then-given}

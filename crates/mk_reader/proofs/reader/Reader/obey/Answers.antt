@@ -1,5 +1,4 @@
-use Rattle.std.proofs.Common.{refl, sym, ap, ◌∙◌}
-use Rattle.std.proofs.lemmas.Result.{err_from_is_err_and}
+use Rattle.std.proofs.Common.{refl}
 use Rattle.mk_reader.proofs.StepLemmas.{here-given}
 use Rattle.mk_reader.proofs.reader.Reader.obey.Goals as goal
 

@@ -1,5 +1,4 @@
-use Rattle.std.proofs.Common.{refl, sym, ap, ◌∙◌}
-use Rattle.std.proofs.lemmas.Result.{err_from_is_err_and}
+use Rattle.std.proofs.Common.{refl}
 use Rattle.mk_scopes.specs.declared.scopes.Class.TheVariants.{Global}
 use Rattle.mk_reader.specs.Moments.{closed, moment_of, stands}
 use Rattle.mk_reader.specs.Variables.{assigned_by}

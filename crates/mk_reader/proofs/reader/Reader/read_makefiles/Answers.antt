@@ -1,4 +1,4 @@
-use Rattle.std.proofs.Common.{◌≡◌, [], refl}
+use Rattle.std.proofs.Common.{◌≡◌, []}
 use Rattle.mk_reader.specs.ReadFaults.{sorted}
 use Rattle.mk_reader.proofs.ReadLemmas.{makefiles-none, makefiles-some}
 use Rattle.mk_reader.proofs.TieLemmas.{does-as}

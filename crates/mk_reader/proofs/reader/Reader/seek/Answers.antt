@@ -1,4 +1,4 @@
-use Rattle.std.proofs.Common.{◌≡◌, ◌∷◌, ◌+◌, drop, refl, ap}
+use Rattle.std.proofs.Common.{◌+◌, drop, refl, ap}
 use Rattle.std.proofs.lemmas.Result.{err_from_is_err_and}
 use Rattle.mk_reader.specs.Inclusions.{or_next, sought}
 use Rattle.mk_reader.specs.Moments.{moment_of}

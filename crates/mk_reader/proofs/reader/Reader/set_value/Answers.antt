@@ -1,4 +1,3 @@
-use Rattle.std.proofs.Common.{refl, sym, ap, ◌∙◌}
 use Rattle.std.proofs.lemmas.Result.{err_from_is_err_and}
 use Rattle.mk_reader.specs.Moments.{stands}
 use Rattle.mk_reader.specs.Variables.{assigned_at}

@@ -1,4 +1,4 @@
-use Rattle.std.proofs.Common.{refl, sym, ap, ◌∙◌}
+use Rattle.std.proofs.Common.{refl}
 use Rattle.std.proofs.lemmas.Result.{err_from_is_err_and}
 use Rattle.mk_reader.proofs.StepLemmas.{changed-given, changed-want}
 use Rattle.mk_reader.proofs.reader.Reader.undefine.Goals as goal
