@@ -1,5 +1,5 @@
 -- The meaning of a run, by its first steps.
-use Rattle.std.proofs.Common.{◌≡◌, ◌⊎◌, ◌<◌, ◌≤◌, ℕ, List, [], Option, Some, None, Ok, Err}
+use Rattle.std.proofs.Common.{◌≡◌, ◌⊎◌, ◌<◌, ◌≤◌, ℕ, List, [], Option, Some, None, Ok}
 use Rattle.std.proofs.Common.{◌∙◌, inl, inr, refl, sym, ap, subst, arith}
 use Rattle.std.proofs.Math.Nat.{lt_irrefl}
 use Rattle.std.proofs.lemmas.Bool.{cases_lt}
@@ -9,7 +9,6 @@ use Rattle.mk_plan.specs.Tasks.{setting_of}
 use Rattle.mk_plan.specs.Refusals.{IsRefusedBy}
 use Rattle.mk_plan.specs.declared.fault.PlanFault.{PlanFault}
 use Rattle.mk_plan.specs.declared.fault.PlanFault.TheVariants as plan
-use Rattle.mk_reader.specs.declared.fault.ReadFault.{ReadFault}
 use Rattle.mk_reader.specs.declared.fault.ReadFault.TheVariants as read
 use Rattle.mk_world.specs.Causes.{HasCause, Rose, last_count}
 use Rattle.mk_world.specs.Runs.{Same}
@@ -20,7 +19,7 @@ use Rattle.mk_plan.proofs.LookLemmas.{OnLooks-none}
 use Rattle.mk_world.proofs.SinkLemmas.{Gains-nothing}
 use Rattle.mk_top.specs.Building.{point, unbuilt}
 use Rattle.mk_top.specs.Causes.{EndCause, LineCause, SinkCause}
-use Rattle.mk_top.specs.Ends.{IsOutside, of_plan, of_read}
+use Rattle.mk_top.specs.Ends.{IsOutside, of_plan}
 use Rattle.mk_top.specs.Meaning.{Outcome, Meant, only, prints, builds, printed, ended}
 use Rattle.mk_top.specs.Runs.{Printed, Goes}
 use Rattle.mk_top.specs.declared.report.End.{End}
