@@ -139,7 +139,7 @@ pub const CONDITIONS: [Printed; 18] = [
     (
         "a directive is a whole word behind a point and blanks",
         &[("makefile", ". if 1\nR=1\n. endif\n.info=2\n")],
-        &["-V", "R${.info}"],
+        &["-V", "${R}${.info}"],
         "12\n",
         "",
         0,
