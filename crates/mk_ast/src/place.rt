@@ -111,6 +111,7 @@ fn ends_piece(piece: Piece, byte: u8) -> bool
     }
 }
 
+#[inline(always)]
 fn ends(place: Place, byte: u8) -> bool
     ensures { result ≡ spec.ends place byte }
 {
@@ -133,6 +134,7 @@ fn ends(place: Place, byte: u8) -> bool
 }
 
 /// Whether nothing of the text at this place is left.
+#[inline(always)]
 pub fn is_over(place: Place, text: &[u8]) -> bool
     ensures same { result ≡ spec.is_over place text.now }
     ensures some { result ≡ false → 0 < length text.now }
@@ -155,6 +157,7 @@ fn in_subst(delim: u8, byte: u8) -> bool
     byte == delim || byte == b'\\' || byte == b'$' || byte == b'&'
 }
 
+#[inline(always)]
 fn escapes(place: Place, byte: u8) -> bool
     ensures { result ≡ spec.escapes place byte }
 {
@@ -180,6 +183,7 @@ fn escapes(place: Place, byte: u8) -> bool
 }
 
 /// Whether a byte before a text is the backslash of an escape.
+#[inline(always)]
 pub fn is_escape(place: Place, byte: u8, text: &[u8]) -> bool
     ensures same { result ≡ spec.is_escape place byte text.now }
     ensures some { result ≡ true → 0 < length text.now }
@@ -201,6 +205,7 @@ pub fn is_anchor(place: Place, byte: u8) -> bool
 }
 
 /// The place after a byte.
+#[inline(always)]
 pub fn after(place: Place, byte: u8) -> Place
     requires { spec.nesting place + 1 < 2 ^ 64 }
     ensures same { result ≡ spec.after place byte }

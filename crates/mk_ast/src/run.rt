@@ -14,6 +14,7 @@ use crate::tree::Part;
 use mk_bytes::Text;
 use std::alloc::Global;
 
+#[inline(always)]
 fn begins_plain(place: Place, text: &[u8]) -> bool
     ensures same { result ≡ spec.begins_plain place text.now }
     ensures some { result ≡ true → 0 < length text.now }
@@ -67,7 +68,7 @@ pub fn plain_at<'t>(
         nesting x.1 + length x.2.now ≤ nesting place + length text.now + 1) }
 {
     let (len, next) = plain_run(after(place, first), text);
-    let mut plain = Text::from_bytes(alloc, &[first])?;
-    plain.push(&text[..len])?;
+    let mut plain = Text::new(alloc);
+    plain.push_both(&[first], &text[..len])?;
     Ok((Part::Plain(plain), next, &text[len..]))
 }

@@ -69,97 +69,62 @@ fn begins_with_name_byte(text: &[u8]) -> bool
 fn conditional(word: &[u8]) -> Option<Directive>
     ensures { result ≡ spec.conditional word.now }
 {
-    if word == b"if".as_slice() {
-        return Some(Directive::If(Form::If));
+    match word {
+        b"if" => Some(Directive::If(Form::If)),
+        b"ifdef" => Some(Directive::If(Form::Def)),
+        b"ifndef" => Some(Directive::If(Form::Ndef)),
+        b"ifmake" => Some(Directive::If(Form::Make)),
+        b"ifnmake" => Some(Directive::If(Form::Nmake)),
+        _ => None,
     }
-    if word == b"ifdef".as_slice() {
-        return Some(Directive::If(Form::Def));
-    }
-    if word == b"ifndef".as_slice() {
-        return Some(Directive::If(Form::Ndef));
-    }
-    if word == b"ifmake".as_slice() {
-        return Some(Directive::If(Form::Make));
-    }
-    if word == b"ifnmake".as_slice() {
-        return Some(Directive::If(Form::Nmake));
-    }
-    None
 }
 
 fn further_branch(word: &[u8]) -> Option<Directive>
     ensures { result ≡ spec.further_branch word.now }
 {
-    if word == b"elif".as_slice() {
-        return Some(Directive::ElseIf(Form::If));
+    match word {
+        b"elif" => Some(Directive::ElseIf(Form::If)),
+        b"elifdef" => Some(Directive::ElseIf(Form::Def)),
+        b"elifndef" => Some(Directive::ElseIf(Form::Ndef)),
+        b"elifmake" => Some(Directive::ElseIf(Form::Make)),
+        b"elifnmake" => Some(Directive::ElseIf(Form::Nmake)),
+        _ => None,
     }
-    if word == b"elifdef".as_slice() {
-        return Some(Directive::ElseIf(Form::Def));
-    }
-    if word == b"elifndef".as_slice() {
-        return Some(Directive::ElseIf(Form::Ndef));
-    }
-    if word == b"elifmake".as_slice() {
-        return Some(Directive::ElseIf(Form::Make));
-    }
-    if word == b"elifnmake".as_slice() {
-        return Some(Directive::ElseIf(Form::Nmake));
-    }
-    None
 }
 
 fn of_block(word: &[u8]) -> Option<Directive>
     ensures { result ≡ spec.of_block word.now }
 {
-    if word == b"else".as_slice() {
-        return Some(Directive::Else);
+    match word {
+        b"else" => Some(Directive::Else),
+        b"endif" => Some(Directive::EndIf),
+        b"for" => Some(Directive::For),
+        b"endfor" => Some(Directive::EndFor),
+        b"break" => Some(Directive::Break),
+        _ => None,
     }
-    if word == b"endif".as_slice() {
-        return Some(Directive::EndIf);
-    }
-    if word == b"for".as_slice() {
-        return Some(Directive::For);
-    }
-    if word == b"endfor".as_slice() {
-        return Some(Directive::EndFor);
-    }
-    if word == b"break".as_slice() {
-        return Some(Directive::Break);
-    }
-    None
 }
 
 fn inclusion(word: &[u8]) -> Option<Directive>
     ensures { result ≡ spec.inclusion word.now }
 {
-    if word == b"include".as_slice() {
-        return Some(Directive::Include);
+    match word {
+        b"include" => Some(Directive::Include),
+        b"-include" | b"sinclude" | b"dinclude" => Some(Directive::TryInclude),
+        _ => None,
     }
-    if word == b"-include".as_slice()
-        || word == b"sinclude".as_slice()
-        || word == b"dinclude".as_slice()
-    {
-        return Some(Directive::TryInclude);
-    }
-    None
 }
 
 fn other(word: &[u8]) -> Option<Directive>
     ensures { result ≡ spec.other word.now }
 {
-    if word == b"undef".as_slice() {
-        return Some(Directive::Undef);
+    match word {
+        b"undef" => Some(Directive::Undef),
+        b"error" => Some(Directive::Error),
+        b"warning" => Some(Directive::Warning),
+        b"info" => Some(Directive::Info),
+        _ => None,
     }
-    if word == b"error".as_slice() {
-        return Some(Directive::Error);
-    }
-    if word == b"warning".as_slice() {
-        return Some(Directive::Warning);
-    }
-    if word == b"info".as_slice() {
-        return Some(Directive::Info);
-    }
-    None
 }
 
 // The directive of a word.

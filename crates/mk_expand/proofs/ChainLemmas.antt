@@ -1,8 +1,8 @@
 -- One step through a chain of modifiers, and through the words of `:@`.
-use Rattle.std.proofs.Common.{◌≡◌, ℕ, ◌+◌, ◌<◌, ◌≤◌, List, [], ◌∷◌, Ok, length, drop, get_or, refl, Err, Result}
+use Rattle.std.proofs.Common.{◌≡◌, ℕ, ◌+◌, ◌<◌, ◌≤◌, false, List, [], ◌∷◌, Ok, length, drop, get_or, refl, Err, Result}
 use Rattle.std.proofs.Common.{sym, ap, ◌∙◌, rules}
 use Rattle.std.proofs.lemmas.List.{drop_more, at_drop_all, append-nil}
-use Rattle.mk_ast.specs.Tree.{Tree, no_mods}
+use Rattle.mk_ast.specs.Tree.{Tree, no_mods, mod_then, if_undefined}
 use Rattle.mk_ast.specs.View.{mod_view, mods_view}
 use Rattle.mk_ast.specs.declared.tree.ModTree.{ModTree, IfUndefined, IfDefined, NameOf, Choose}
 use Rattle.mk_ast.specs.declared.tree.ModTree.{Each, the_lemmas}
@@ -12,7 +12,7 @@ use Rattle.mk_bytes.specs.Agrees.{AgreesBut, ◌>>=◌}
 use Rattle.mk_mods.specs.Results.{with_result}
 use Rattle.mk_mods.specs.State.{State, plain, text_of}
 use Rattle.mk_expand.specs.Chains.{Chain, modified, given_modified, word_modified, all_modified}
-use Rattle.mk_expand.specs.Chains.{chained, each_behind, with_fault}
+use Rattle.mk_expand.specs.Chains.{chained, chain_of, each_behind, found_as, given, with_fault}
 use Rattle.mk_expand.specs.Facts.{IsOutside}
 use Rattle.mk_expand.specs.declared.fault.ExpandFault.{ExpandFault}
 use Rattle.mk_expand.specs.Evaluators.{Counted, Finder, Progress}
@@ -52,6 +52,25 @@ pub chained_none : (find : Finder) (c : Context) (p : Progress) (name : List ℕ
     → chained find c p name found no_mods ≡ Ok (found, p)
 unfolding all_modified
 chained_none find c p name found = rw (text_of-plain found.value) refl
+
+-- a text in place of a value without one, with no other modifier
+given-found : (find : Finder) (c : Context) (name : List ℕ) (found : Found)
+    (value : Counted (List ℕ))
+    → ((given (chain_of found) value >>= λ more. all_modified find c more.1 name more.0 no_mods)
+    >>= λ s. Ok (record { value = text_of s.0.state; defined = s.0.defined }, s.1))
+    ≡ found_as value
+unfolding all_modified
+given-found find c name found (Ok v) = rw (text_of-plain v.0) refl
+given-found find c name found (Err fault) = refl
+
+pub chained-default : (find : Finder) (c : Context) (p : Progress) (name : List ℕ)
+    (found : Found) (text : Tree)
+    → found.defined ≡ false
+    → chained find c p name found (mod_then (if_undefined text) no_mods)
+    ≡ found_as (tree_value find c p text)
+unfolding all_modified
+chained-default find c p name found text undefined =
+    rw undefined (given-found find c name found (tree_value find c p text))
 
 -- a value without modifiers is what is found
 pub unmodified : (find : Finder) (c : Context) (name : List ℕ) (found : Counted Found)

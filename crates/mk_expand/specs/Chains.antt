@@ -41,6 +41,10 @@ undefined = record { value = []; defined = false }
 abbrev pub defined_as : List ℕ → Found
 defined_as value = record { value = value; defined = true }
 
+-- a text that is the value
+abbrev pub found_as : Counted (List ℕ) → Counted Found
+found_as text = text >>= λ v. Ok (defined_as v.0, v.1)
+
 -- a raw value without any `$`, which is its own value
 abbrev pub plain_found : List ℕ → Result Found ExpandFault
 plain_found raw = appended [] raw >>= λ value. Ok (defined_as value)

@@ -1,5 +1,6 @@
 //! The modifiers of a reference, of which only what is chosen is evaluated.
-ghost use Rattle.std.specs.Prelude.{◌≡◌, ◌≤◌, length, false, IfOk, OnOk};
+ghost use Rattle.std.specs.Prelude.{◌≡◌, ◌≤◌, length, false, IfOk, IfSome, OnOk};
+ghost use Rattle.mk_ast.specs.Tree.{if_undefined, mod_then, no_mods};
 ghost use Rattle.mk_ast.specs.View.{mod_view, mods_view, tree_view};
 ghost use Rattle.mk_expand.specs.Calls.{Asks, Extends, Keeps, at, behind, here};
 ghost use Rattle.mk_expand.specs.Chains as spec;
@@ -22,7 +23,44 @@ use mk_bytes::{Pair, Text};
 use mk_cond::{Form, parse_cond};
 use mk_mods::{Results, Val, apply, text, with_results, words_of};
 
-/// A value behind its modifiers. What they place in the region is taken away again.
+// The text of a `:U`, where that is the one modifier.
+#[tactic(auto, using(mk_ast::proofs::Views::views))]
+fn lone_default<'t>(mods: &'t [ModTree]) -> Option<&'t Tree>
+    ensures { IfSome result (λ text.
+        mods_view mods.now ≡ mod_then (if_undefined (tree_view text.now)) no_mods) }
+{
+    match mods {
+        [ModTree::IfUndefined(text)] => Some(text),
+        _ => None,
+    }
+}
+
+// A text that stands for a value.
+#[cycle(value)]
+fn default_found<F: Facts>(
+    names: &Names<'_>,
+    run: &mut Run,
+    facts: &mut F,
+    room: usize,
+    text: &Tree,
+) -> Result<Found, ExpandFault>
+    ensures value { Means (F.asked facts.new) (behind run.new (F.asked facts.new)) result
+        (λ answers. spec.found_as (tree_value (found_at room)
+        (here names.now.scopes.now names.now.locals.now (F.lists facts.old) run.old false answers)
+        (at run.old (F.asked facts.old)) (tree_view text.now))) }
+    ensures run { OnOk result (Keeps run.old run.new) }
+    ensures facts { Asks (F.leads facts.old facts.new) (F.lists facts.old) (F.lists facts.new) (F.asked facts.old)
+        (F.asked facts.new) (F.faults facts.old) (F.faults facts.new) result }
+{
+    let value = tree_value(names, run, facts, room, false, text)?;
+    Ok(Found {
+        value,
+        defined: true,
+    })
+}
+
+/// A value behind its modifiers. What they place in the region is taken away again. A `:U` alone,
+/// as loops write each of their words, needs no region.
 #[cycle(value)]
 #[tactic(auto, using(crate::proofs::ChainLemmas::chained_none))]
 pub fn chained<F: Facts>(
@@ -44,6 +82,11 @@ pub fn chained<F: Facts>(
 {
     if mods.is_empty() {
         return Ok(found);
+    }
+    if !found.defined
+        && let Some(text) = lone_default(mods.as_slice())
+    {
+        return default_found(names, run, facts, room, text);
     }
     let len = run.region.len();
     let chain = Chain {

@@ -14,7 +14,7 @@ use std::alloc::Global;
 pub fn has_dollar(text: &[u8]) -> bool
     ensures { result ≡ has_dollar text.now }
 {
-    text.iter().any(|byte| *byte == b'$')
+    text.contains(&b'$')
 }
 
 /// The value of a text without any `$`.

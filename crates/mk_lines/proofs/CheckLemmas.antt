@@ -1,11 +1,13 @@
 -- A logical line that is checked one physical line at a time.
-use Rattle.std.proofs.Common.{◌≡◌, ℕ, ◌+◌, ◌-◌, true, false, List, [], ◌∷◌, ◌++◌, length, Result}
+use Rattle.std.proofs.Common.{◌≡◌, ℕ, ◌+◌, ◌-◌, ◌==◌, true, false, if◌then◌else◌, List, [], ◌∷◌, ◌++◌, length, Result}
 use Rattle.std.proofs.Common.{Ok, Err, refl, arith, length-append, length-take, add-zero, zero-add}
 use Rattle.mk_bytes.specs.Bytes.{space}
+use Rattle.std.specs.List.{list_any, onto_first}
 use Rattle.std.specs.Result.{result_and}
+use Rattle.std.proofs.lemmas.Bool.{or_parts}
 use Rattle.mk_lines.specs.declared.fault.LineFault.{LineFault}
-use Rattle.mk_lines.specs.Lines.{is_continued, without_last, without_indent, line_groups, joined}
-use Rattle.mk_lines.specs.Faults.{zero_checked, zeros_checked, len_checked, groups_checked}
+use Rattle.mk_lines.specs.Lines.{is_continued, is_newline, physical_lines, without_last, without_indent, line_groups, joined}
+use Rattle.mk_lines.specs.Faults.{HoldNoZero, holds_zero, zero_checked, zeros_checked, len_checked, groups_checked}
 use Rattle.mk_lines.proofs.GroupLemmas.{continuing, behind, line_groups-first, continuing-closed}
 use Rattle.mk_lines.proofs.GroupLemmas.{behind-closed, is_continued-without_indent}
 
@@ -75,3 +77,23 @@ pub checking-stops : (number len : ℕ) (piece : List ℕ) (done : ℕ) (rest : 
 unfolding checking joined
 checking-stops number len piece done rest stops =
     rw (stops, continuing-closed rest, behind-closed rest, stops, add-zero) refl
+
+-- a line's first byte is no zero byte, and none of the others is
+HoldNoZero-onto : (byte : ℕ) (lines : List (List ℕ)) → (byte == 0) ≡ false → HoldNoZero lines
+    → HoldNoZero (onto_first byte lines)
+HoldNoZero-onto byte [] some none = rw some refl
+HoldNoZero-onto byte (line ∷ lines) some none =
+    let parts = or_parts (holds_zero line) (list_any holds_zero lines) none in
+    rw (some, parts.0, parts.1) refl
+
+-- the lines of a text without a zero byte
+pub HoldNoZero-lines : (text : List ℕ) → holds_zero text ≡ false
+    → HoldNoZero (physical_lines text)
+unfolding physical_lines
+HoldNoZero-lines [] none = refl
+HoldNoZero-lines (byte ∷ bytes) none =
+    let parts = or_parts (byte == 0) (holds_zero bytes) none in
+    let rest = HoldNoZero-lines bytes parts.1 in
+    elim (is_newline byte) as (λ t.
+    HoldNoZero (if t then [] ∷ physical_lines bytes else onto_first byte (physical_lines bytes)))
+    [ true ↦ rest | false ↦ HoldNoZero-onto byte (physical_lines bytes) parts.0 rest ]

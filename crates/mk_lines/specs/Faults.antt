@@ -1,5 +1,5 @@
 -- The faults of a text: zero bytes, and logical lines that are too long.
-use Rattle.std.specs.Prelude.{ℕ, ◌+◌, ◌==◌, nat_lt, Bool, List, [], ◌∷◌, length, if◌then◌else◌}
+use Rattle.std.specs.Prelude.{◌≡◌, ℕ, ◌+◌, ◌==◌, nat_lt, Bool, false, List, [], ◌∷◌, length, if◌then◌else◌}
 use Rattle.std.specs.Prelude.{Result, Ok, Err}
 use Rattle.std.specs.List.{list_any}
 use Rattle.std.specs.Result.{result_and}
@@ -15,6 +15,10 @@ max_len = 1048576
 -- one of the bytes is zero
 abbrev pub holds_zero : List ℕ → Bool
 holds_zero line = list_any (λ byte. byte == 0) line
+
+-- None of these lines holds a zero byte.
+abbrev pub HoldNoZero : List (List ℕ) → Type 0
+HoldNoZero lines = list_any holds_zero lines ≡ false
 
 -- The physical line with this number may hold no zero byte.
 abbrev pub zero_checked : ℕ → List ℕ → Result (Unit {0}) LineFault

@@ -1,5 +1,5 @@
 //! The faults of a text: a logical line that is too long, and a zero byte.
-ghost use Rattle.std.specs.Prelude.{◌≡◌, ◌+◌, ◌^◌, ◌<◌, ◌≤◌, ◌∷◌, length};
+ghost use Rattle.std.specs.Prelude.{◌≡◌, ◌+◌, ◌^◌, ◌<◌, ◌≤◌, ◌∷◌, false, length};
 ghost use Rattle.std.specs.Result.{result_and};
 ghost use Rattle.mk_lines.specs.Lines.{physical_lines, line_groups};
 ghost use Rattle.mk_lines.specs.Faults as spec;
@@ -40,28 +40,38 @@ pub fn check(text: &[u8]) -> Result<(), LineFault>
     requires { length text.now < 2 ^ 32 }
     ensures { result ≡ spec.checked text.now }
 {
+    // One search of the whole text spares one of each line.
+    let zeros = holds_zero(text);
     let mut lines = PhysicalLines {
         rest: text,
         done: 0,
     };
     while let Some(line) = lines.take_line() {
-        check_line(&mut lines, line)?;
+        check_line(&mut lines, zeros, line)?;
     }
     Ok(())
 }
 
-// Checks the logical line that begins with the physical line just taken, and passes over it.
-fn check_line<'t>(lines: &mut PhysicalLines<'t>, first: &'t [u8]) -> Result<(), LineFault>
-    requires { length first.now + length lines.old.rest.now < 2 ^ 32 }
+// Checks the logical line that begins with the physical line just taken, and passes over it. Without
+// `zeros` no line holds a zero byte.
+fn check_line<'t>(
+    lines: &mut PhysicalLines<'t>,
+    zeros: bool,
+    first: &'t [u8],
+) -> Result<(), LineFault>
+    requires short { length first.now + length lines.old.rest.now < 2 ^ 32 }
+    requires zeros { zeros ≡ false
+        → spec.HoldNoZero (first.now ∷ physical_lines lines.old.rest.now) }
     ensures fault { spec.groups_checked lines.old.done
         (line_groups (first.now ∷ physical_lines lines.old.rest.now))
         ≡ result_and result
         (spec.groups_checked (lines.new.done + 1)
         (line_groups (physical_lines lines.new.rest.now))) }
+    ensures zeros { zeros ≡ false → spec.HoldNoZero (physical_lines lines.new.rest.now) }
     ensures shorter { length lines.new.rest.now ≤ length lines.old.rest.now }
 {
     let number = lines.done;
-    check_zero(number, first)?;
+    check_zero(zeros, number, first)?;
     let mut piece = first;
     let mut len = 0;
     while is_continued(piece) {
@@ -69,17 +79,18 @@ fn check_line<'t>(lines: &mut PhysicalLines<'t>, first: &'t [u8]) -> Result<(), 
         let Some(next) = lines.take_line() else {
             return check_len(number, len);
         };
-        check_zero(lines.done, next)?;
+        check_zero(zeros, lines.done, next)?;
         len += 1;
         piece = without_indent(next);
     }
     check_len(number, len + piece.len())
 }
 
-fn check_zero(number: u32, line: &[u8]) -> Result<(), LineFault>
+fn check_zero(zeros: bool, number: u32, line: &[u8]) -> Result<(), LineFault>
+    requires { zeros ≡ false → spec.holds_zero line.now ≡ false }
     ensures { result ≡ spec.zero_checked number line.now }
 {
-    if holds_zero(line) {
+    if zeros && holds_zero(line) {
         return Err(LineFault::Zero(number));
     }
     Ok(())

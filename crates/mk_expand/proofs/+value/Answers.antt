@@ -15,6 +15,7 @@ use Rattle.mk_expand.specs.View.{chain_view}
 use Rattle.mk_expand.specs.declared.fault.ExpandFault.TheVariants.{NoMemory as no_memory}
 use Rattle.mk_expand.proofs.ChainLemmas.{all_modified-mod, all_modified-end, each_behind-word}
 use Rattle.mk_expand.proofs.ChainLemmas.{agrees_unmodified, each_behind-end, modified-words, modified-given}
+use Rattle.mk_expand.proofs.ChainLemmas.{chained-default}
 use Rattle.mk_expand.proofs.ConditionLemmas.{any_truth-cond, any_truth-end, all_truth-cond}
 use Rattle.mk_expand.proofs.ConditionLemmas.{all_truth-end}
 use Rattle.mk_expand.proofs.FactLemmas.{earlier, never_fails, ok_never, Asks-none, Asks-err, Asks-ok, Asks-then}
@@ -785,3 +786,18 @@ words::old_text-returns-in_ok-append-in-Some-clause-value g t c =
     (tree_view c.in-Some.rest.now) c.in-Some.bytes.now ends c.in-Some.ensures.1 in
     let start = rw c.new-text.ensures at c.in_ok-append-in-Some.ensures in
     rw (goes, start) (c.joined.ensures.value answers by)
+
+pub modifiers::chained-returns-clause-value : goal.modifiers::chained-returns-clause-value
+modifiers::chained-returns-clause-value g t c =
+    let text = c.in-Some.text in
+    let mods = rw c.as_slice.ensures.value at c.in-Some.ensures in
+    λ answers by.
+    rw (
+      mods,
+      chained-default (found_at c.args.room)
+          (here c.args.names.now.scopes.now c.args.names.now.locals.now
+          (g.F.Facts.lists c.args.facts.now) c.args.run.now false answers)
+          (at c.args.run.now (g.F.Facts.asked c.args.facts.now)) c.args.name.now c.args.found
+          (tree_view text.now) c.if-not-found.true,
+    )
+    (c.default_found.ensures.value answers by)

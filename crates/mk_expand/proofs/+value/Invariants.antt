@@ -96,6 +96,9 @@ decreases-modifiers::modified g l = 4096 * l.room + 2062
 abbrev pub decreases-modifiers::all_modified : goal.decreases-modifiers::all_modified
 decreases-modifiers::all_modified g l = 4096 * l.room + 2063
 
+abbrev pub decreases-modifiers::default_found : goal.decreases-modifiers::default_found
+decreases-modifiers::default_found g l = 4096 * l.room + 5
+
 abbrev pub decreases-modifiers::chained : goal.decreases-modifiers::chained
 decreases-modifiers::chained g l = 4096 * l.room + 2064
 

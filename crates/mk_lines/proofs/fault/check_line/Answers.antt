@@ -1,4 +1,5 @@
 use Rattle.std.proofs.Common.{◌≡◌, ◌+◌, ◌≤◌, length, Ok, Err, sym, ap, ◌∙◌, arith, length-drop}
+use Rattle.std.proofs.lemmas.Bool.{or_parts}
 use Rattle.std.proofs.lemmas.Result.{err_from_is_err_and}
 use Rattle.mk_lines.specs.Lines.{physical_lines, without_indent, line_groups}
 use Rattle.mk_lines.specs.Faults.{zero_checked}
@@ -24,6 +25,7 @@ loop-piece-init c =
           (physical_lines lines.rest.now) clean);
       room = omega arith;
       shorter = omega arith;
+      zeros = λ none. (or_parts _ _ (c.requires.zeros none)).1;
     }
 
 pub returns-in_default-clause-fault : goal.returns-in_default-clause-fault
@@ -79,6 +81,7 @@ loop-piece-preserved c =
           ∙ l.invariant.same);
       room = rw c.without_indent-piece.ensures (omega (arith, c.in-Some.ensures.room));
       shorter = omega (arith, c.in-Some.ensures.shorter);
+      zeros = λ none. (or_parts _ _ (rw c.in-Some.ensures.first at l.invariant.zeros none)).1;
     }
 
 pub returns-clause-fault : goal.returns-clause-fault
