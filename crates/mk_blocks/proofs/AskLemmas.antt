@@ -5,6 +5,7 @@ use Rattle.mk_blocks.specs.Languages.{LineMeaning, Question}
 use Rattle.mk_blocks.specs.Meaning.{asked, with_state}
 use Rattle.mk_blocks.specs.FileFaults.{in_place}
 use Rattle.mk_blocks.specs.Runs.{Reads, Run, run_at}
+use Rattle.mk_blocks.specs.Acts.{Act}
 use Rattle.mk_blocks.specs.Outcomes.{Outcome, silent, done}
 use Rattle.mk_blocks.specs.Ties.{Answers, Does, Goes, Placed, Refuses, Ties, failure_in, sorted}
 use Rattle.mk_blocks.specs.Turns.{Turn, in_turns}
@@ -17,17 +18,17 @@ module _ {X W F : Type 0} (ties : Ties X W F) (name : List ℕ) (number : ℕ) w
   Goes-in_place : {B : Type 0} {x y : X} {o p : Outcome B W}
       → Goes ties x y o p → Goes ties x y (in_place {F = F} name number o) (in_place name number p)
   Goes-in_place goes = record {
-    messages = goes.messages;
-    written = goes.written;
+    acts = goes.acts;
+    did = goes.did;
     is = ap (in_place name number) goes.is;
   }
 
-  -- all messages that are written before a fault are those of its line
-  written_whole : {B : Type 0} {x y : X} {what : W} {o : Outcome B W}
-      → Goes ties x y o (silent (Err what)) → ties.writes_part x y o.messages
-  written_whole {x = x} {y = y} goes =
-      subst (λ (ms : List (List ℕ)). ties.writes_part x y ms)
-      (sym (ap (λ p. p.messages) goes.is)) (ties.part_of_more [] (ties.part_of_whole goes.written))
+  -- all acts that are done before a fault are those of its line
+  did_whole : {B : Type 0} {x y : X} {what : W} {o : Outcome B W}
+      → Goes ties x y o (silent (Err what)) → ties.did_part x y o.acts
+  did_whole {x = x} {y = y} goes =
+      subst (λ (acts : List Act). ties.did_part x y acts)
+      (sym (ap (λ p. p.acts) goes.is)) (ties.part_of_more [] (ties.part_of_whole goes.did))
 
   placed_fault : {B : Type 0} (x y : X) (fault : LanguageFault W F) (found : FileFault W F)
       (o : Outcome B W)
@@ -35,7 +36,7 @@ module _ {X W F : Type 0} (ties : Ties X W F) (name : List ℕ) (number : ℕ) w
       → Refuses ties x y (sorted found) (in_place {F = F} name number o)
   placed_fault x y (Wrong what) found o goes (inl want) =
       subst (λ (f : FileFault W F). Refuses ties x y (sorted f) (in_place {F = F} name number o))
-      (sym want) (written_whole goes)
+      (sym want) (did_whole goes)
   placed_fault x y (Wrong what) found o goes (inr is) =
       subst (λ (f : FileFault W F). Refuses ties x y (sorted f) (in_place {F = F} name number o))
       (sym is) (Goes-in_place goes)

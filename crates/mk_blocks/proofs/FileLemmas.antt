@@ -68,8 +68,8 @@ pub Closes-does : {X W F : Type 0} (ties : Ties X W F) {x y : X} (count : ℕ) �
 Closes-does ties {y = y} count closes = record {
   leads = closes.leads;
   gives = λ answers agrees. record {
-    messages = [];
-    written = closes.written;
+    acts = [];
+    did = closes.did;
     is = ap (λ s. done (run_at s count)) (sym (closes.state answers agrees));
   };
 }

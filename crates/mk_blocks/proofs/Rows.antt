@@ -1,7 +1,8 @@
 -- Worked rows over a small language.
-use Rattle.std.proofs.Common.{◌≡◌, ℕ, List, [], ◌∷◌, ◌++◌, Ok, Err, refl, codes}
+use Rattle.std.proofs.Common.{◌≡◌, ℕ, List, [], ◌∷◌, ◌++◌, map, Ok, Err, refl, codes}
 use Rattle.mk_lines.specs.Lines.{physical_lines, line_groups, joined}
 use Rattle.mk_for.specs.Substitution.{replaced_behind}
+use Rattle.mk_blocks.specs.Acts.{wrote}
 use Rattle.mk_blocks.specs.Blocks.{parse, closed, branches}
 use Rattle.mk_blocks.specs.Meaning.{file_at, file_read, meaning, chosen}
 use Rattle.mk_blocks.specs.Runs.{Reads, Run, run_at, all_turns}
@@ -30,10 +31,10 @@ abbrev read : List (List ℕ) → Read
 read ls = read_from 0 [] ls
 
 abbrev gives : List (List ℕ) → State → ℕ → Read
-gives messages s counted = record { messages = messages; answer = Ok (run_at s counted) }
+gives messages s counted = record { acts = map wrote messages; answer = Ok (run_at s counted) }
 
 abbrev fails : List (List ℕ) → FileFault What (Unit {0}) → Read
-fails messages fault = record { messages = messages; answer = Err fault }
+fails messages fault = record { acts = map wrote messages; answer = Err fault }
 
 abbrev vars : Pairs → State
 vars pairs = record { vars = (codes "E", []) ∷ pairs; files = [] }

@@ -4,6 +4,7 @@ use Rattle.std.specs.Prelude.{◌++◌, length, drop, take, Option, Some, None, 
 use Rattle.std.specs.Prelude.{if◌then◌else◌, nat_eq}
 use Rattle.std.specs.List.{starts_with}
 use Rattle.std.specs.Str.{bytes_eq}
+use Rattle.mk_blocks.specs.Acts.{wrote}
 use Rattle.mk_blocks.specs.Languages.{LineMeaning}
 use Rattle.mk_blocks.specs.Outcomes.{Outcome, done, refused}
 use Rattle.mk_blocks.specs.Turns.{Turn, loop_turns}
@@ -139,7 +140,7 @@ abbrev step_of : List ℕ → ℕ → List ℕ → State → Outcome (Unit {0} �
 step_of name number text s =
     if begins (codes ".info ") text then
     record {
-      messages = (name ++ 58 ∷ (48 + number) ∷ drop 5 (expand 0 false text)) ∷ [];
+      acts = wrote (name ++ 58 ∷ (48 + number) ∷ drop 5 (expand 0 false text)) ∷ [];
       answer = Ok (tt, s);
     }
     else (if begins (codes ".error ") text then refused (stopped (drop 7 text))

@@ -1,8 +1,9 @@
 -- Calls of a language, one after the other.
 use Rattle.std.proofs.Common.{◌≡◌, ℕ, List, [], ◌++◌, Option, None, Result, Ok, Err, refl, sym, ap}
 use Rattle.std.proofs.Common.{subst, ◌∙◌}
+use Rattle.mk_blocks.specs.Acts.{Act}
 use Rattle.mk_blocks.specs.Outcomes.{Outcome, behind, silent, ◌>>=◌}
-use Rattle.mk_blocks.proofs.OutcomeLemmas.{added, behind-behind, bind-behind, followed-messages}
+use Rattle.mk_blocks.proofs.OutcomeLemmas.{added, behind-behind, bind-behind, followed-acts}
 use Rattle.mk_blocks.specs.Ties.{Does, Gives, Goes, Refuses, Ties, failure_in}
 use Rattle.mk_blocks.specs.declared.fault.LanguageFault.{LanguageFault}
 use Rattle.mk_blocks.specs.declared.fault.LanguageFault.TheVariants.{Wrong, Failed, NoMemory}
@@ -11,40 +12,40 @@ module _ {X W F : Type 0} (ties : Ties X W F) where
   pub Goes-here : {A E : Type 0} (x : X) (whole rest : Outcome A E)
       → whole ≡ rest → Goes ties x x whole rest
   Goes-here x whole rest is = record {
-    messages = [];
-    written = ties.writes_nothing x;
+    acts = [];
+    did = ties.did_nothing x;
     is = is;
   }
 
   pub Goes-then : {A E : Type 0} {x y z : X} {first second third : Outcome A E}
       → Goes ties x y first second → Goes ties y z second third → Goes ties x z first third
   Goes-then {third = third} goes then_goes = record {
-    messages = goes.messages ++ then_goes.messages;
-    written = ties.writes_both goes.written then_goes.written;
-    is = goes.is ∙ ap (behind goes.messages) then_goes.is
-        ∙ behind-behind goes.messages then_goes.messages third;
+    acts = goes.acts ++ then_goes.acts;
+    did = ties.did_both goes.did then_goes.did;
+    is = goes.is ∙ ap (behind goes.acts) then_goes.is
+        ∙ behind-behind goes.acts then_goes.acts third;
   }
 
   pub Goes-bind : {A B E : Type 0} {x y : X} {first second : Outcome A E} (next : A → Outcome B E)
       → Goes ties x y first second → Goes ties x y (first >>= next) (second >>= next)
   Goes-bind {second = second} next goes = record {
-    messages = goes.messages;
-    written = goes.written;
-    is = ap (λ o. o >>= next) goes.is ∙ bind-behind goes.messages second next;
+    acts = goes.acts;
+    did = goes.did;
+    is = ap (λ o. o >>= next) goes.is ∙ bind-behind goes.acts second next;
   }
 
   part_then : {A E : Type 0} {x y z : X} {first second : Outcome A E}
-      → Goes ties x y first second → ties.writes_part y z second.messages
-      → ties.writes_part x z first.messages
+      → Goes ties x y first second → ties.did_part y z second.acts
+      → ties.did_part x z first.acts
   part_then {x = x} {z = z} goes part =
-      subst (λ (ms : List (List ℕ)). ties.writes_part x z ms)
-      (sym (ap (λ o. o.messages) goes.is)) (ties.part_behind goes.written part)
+      subst (λ (acts : List Act). ties.did_part x z acts)
+      (sym (ap (λ o. o.acts) goes.is)) (ties.part_behind goes.did part)
 
   part_bind : {A B E : Type 0} {x y : X} (o : Outcome A E) (next : A → Outcome B E)
-      → ties.writes_part x y o.messages → ties.writes_part x y (o >>= next).messages
+      → ties.did_part x y o.acts → ties.did_part x y (o >>= next).acts
   part_bind {x = x} {y = y} o next part =
-      subst (λ (ms : List (List ℕ)). ties.writes_part x y ms)
-      (sym (followed-messages o.messages o.answer next))
+      subst (λ (acts : List Act). ties.did_part x y acts)
+      (sym (followed-acts o.acts o.answer next))
       (ties.part_of_more (added o.answer next) part)
 
   pub Refuses-then : {A E : Type 0} (x y z : X) {first second : Outcome A E}
@@ -61,9 +62,9 @@ module _ {X W F : Type 0} (ties : Ties X W F) where
   Refuses-bind x y (Failed failure) o next part = part_bind o next part
   Refuses-bind x y NoMemory o next part = part_bind o next part
 
-  -- a part of any messages was written where none was
-  pub Refuses-nothing : {A E : Type 0} (x : X) (o : Outcome A E) → ties.writes_part x x o.messages
-  Refuses-nothing x o = ties.part_of_more o.messages (ties.part_of_whole (ties.writes_nothing x))
+  -- a part of any acts was done where none was
+  pub Refuses-nothing : {A E : Type 0} (x : X) (o : Outcome A E) → ties.did_part x x o.acts
+  Refuses-nothing x o = ties.part_of_more o.acts (ties.part_of_whole (ties.did_nothing x))
 
   refused_here : {B E : Type 0} (x : X) (verdict : LanguageFault E F) (fault : E) (o : Outcome B E)
       → verdict ≡ Wrong fault → o ≡ silent (Err fault) → Refuses ties x x verdict o

@@ -20,7 +20,7 @@ located name number (Err what) = Err (Bad name number (wrong.Line what))
 
 abbrev pub in_place : {A W F : Type 0} → List ℕ → ℕ → Outcome A W → Outcome A (FileFault W F)
 in_place name number outcome = record {
-  messages = outcome.messages;
+  acts = outcome.acts;
   answer = located name number outcome.answer;
 }
 

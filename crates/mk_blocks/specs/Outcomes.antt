@@ -1,14 +1,15 @@
--- What a reading gives: the messages that it writes, and what it ends with.
-use Rattle.std.specs.Prelude.{ℕ, List, [], ◌++◌, Result, Ok, Err}
+-- What a reading gives: what it does outside, and what it ends with.
+use Rattle.std.specs.Prelude.{List, [], ◌++◌, Result, Ok, Err}
+use Rattle.mk_blocks.specs.Acts.{Act}
 
 pub record Outcome (A E : Type 0) : Type 0 where
-  -- each with its bytes, in the order in which they are written
-  pub messages : List (List ℕ)
+  -- the messages that it writes, and the files and commands that it asks for, in order
+  pub acts : List Act
   pub answer : Result A E
 
--- what is given without a message
+-- what is given without an act
 abbrev pub silent : {A E : Type 0} → Result A E → Outcome A E
-silent answer = record { messages = []; answer = answer }
+silent answer = record { acts = []; answer = answer }
 
 abbrev pub done : {A E : Type 0} → A → Outcome A E
 done given = silent (Ok given)
@@ -16,21 +17,17 @@ done given = silent (Ok given)
 abbrev pub refused : {A E : Type 0} → E → Outcome A E
 refused fault = silent (Err fault)
 
--- an outcome behind these messages
-abbrev pub behind : {A E : Type 0} → List (List ℕ) → Outcome A E → Outcome A E
-behind messages outcome = record {
-  messages = messages ++ outcome.messages;
-  answer = outcome.answer;
-}
+-- an outcome behind these acts
+abbrev pub behind : {A E : Type 0} → List Act → Outcome A E → Outcome A E
+behind acts outcome = record { acts = acts ++ outcome.acts; answer = outcome.answer }
 
 -- what follows an answer, or its fault
-abbrev pub followed : {A B E : Type 0} → List (List ℕ) → Result A E → (A → Outcome B E)
-    → Outcome B E
-followed messages (Ok given) next = behind messages (next given)
-followed messages (Err fault) next = record { messages = messages; answer = Err fault }
+abbrev pub followed : {A B E : Type 0} → List Act → Result A E → (A → Outcome B E) → Outcome B E
+followed acts (Ok given) next = behind acts (next given)
+followed acts (Err fault) next = record { acts = acts; answer = Err fault }
 
--- The second step on what the first one gives, with its messages behind those of the first, or the
--- first one's fault.
+-- The second step on what the first one gives, with its acts behind those of the first, or the first
+-- one's fault.
 infixl 10 ◌>>=◌
 abbrev pub ◌>>=◌ : {A B E : Type 0} → Outcome A E → (A → Outcome B E) → Outcome B E
-outcome >>= next = followed outcome.messages outcome.answer next
+outcome >>= next = followed outcome.acts outcome.answer next

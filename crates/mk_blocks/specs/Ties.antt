@@ -1,5 +1,6 @@
 -- How the calls of a language are tied to its meaning.
 use Rattle.std.specs.Prelude.{◌≡◌, ◌⊎◌, ℕ, List, [], ◌++◌, Option, Some, None, Result, Ok, Err}
+use Rattle.mk_blocks.specs.Acts.{Act}
 use Rattle.mk_blocks.specs.Outcomes.{Outcome, behind, silent}
 use Rattle.mk_blocks.specs.Languages.{LineMeaning, Question}
 use Rattle.mk_blocks.specs.declared.fault.FileFault.{FileFault}
@@ -23,39 +24,39 @@ pub record Ties (X W F : Type 0) : Type 1 where
   pub meaning : Answers → LineMeaning State W
   -- what holds of a value before and after calls, of which the last may have failed so
   pub leads : Option F → X → X → Type 0
-  -- exactly these messages were written between them, and a part of these from their beginning
-  pub writes : X → X → List (List ℕ) → Type 0
-  pub writes_part : X → X → List (List ℕ) → Type 0
+  -- exactly these acts were done between them, and a part of these from their beginning
+  pub did : X → X → List Act → Type 0
+  pub did_part : X → X → List Act → Type 0
   pub leads_nowhere : (x : X) → leads None x x
   pub leads_on : {x y z : X} {failure : Option F} → leads None x y → leads failure y z
       → leads failure x z
   -- answers are only added
   pub agreed : {x y : X} {failure : Option F} (answers : Answers) → leads failure x y
       → agrees answers y → agrees answers x
-  pub writes_nothing : (x : X) → writes x x []
-  pub writes_both : {x y z : X} {first second : List (List ℕ)}
-      → writes x y first → writes y z second → writes x z (first ++ second)
-  pub part_of_whole : {x y : X} {whole : List (List ℕ)} → writes x y whole → writes_part x y whole
-  pub part_of_more : {x y : X} {part : List (List ℕ)} (more : List (List ℕ))
-      → writes_part x y part → writes_part x y (part ++ more)
-  pub part_behind : {x y z : X} {first second : List (List ℕ)}
-      → writes x y first → writes_part y z second → writes_part x z (first ++ second)
+  pub did_nothing : (x : X) → did x x []
+  pub did_both : {x y z : X} {first second : List Act}
+      → did x y first → did y z second → did x z (first ++ second)
+  pub part_of_whole : {x y : X} {whole : List Act} → did x y whole → did_part x y whole
+  pub part_of_more : {x y : X} {part : List Act} (more : List Act)
+      → did_part x y part → did_part x y (part ++ more)
+  pub part_behind : {x y z : X} {first second : List Act}
+      → did x y first → did_part y z second → did_part x z (first ++ second)
 
--- The outcome of the whole is what was written between two values, and then that of the rest.
+-- The outcome of the whole is what was done between two values, and then that of the rest.
 pub record Goes {X W F A E : Type 0} (ties : Ties X W F) (x y : X) (whole rest : Outcome A E)
     : Type 0
   where
-    pub messages : List (List ℕ)
-    pub written : ties.writes x y messages
-    pub is : whole ≡ behind messages rest
+    pub acts : List Act
+    pub did : ties.did x y acts
+    pub is : whole ≡ behind acts rest
 
 -- A fault, sorted into the definition's own ones, those of the outside, and want of memory: all
--- messages were written before a fault of the definition, and before another one a part of them.
+-- acts were done before a fault of the definition, and before another one a part of them.
 abbrev pub Refuses : {X W F A E : Type 0} → Ties X W F → X → X → LanguageFault E F → Outcome A E
     → Type 0
 Refuses ties x y (Wrong fault) defined = Goes ties x y defined (silent (Err fault))
-Refuses ties x y (Failed failure) defined = ties.writes_part x y defined.messages
-Refuses ties x y NoMemory defined = ties.writes_part x y defined.messages
+Refuses ties x y (Failed failure) defined = ties.did_part x y defined.acts
+Refuses ties x y NoMemory defined = ties.did_part x y defined.acts
 
 -- Behind an answer there is this rest of what is defined, and a fault may end it.
 abbrev pub Gives : {X W F A B D E : Type 0} → Ties X W F → (D → LanguageFault E F) → X → X
@@ -98,7 +99,7 @@ Answers ties x y question view name number text answer =
 -- What a call of a language does at the end of a file.
 pub record Closes {X W F : Type 0} (ties : Ties X W F) (x y : X) : Type 0 where
   pub leads : ties.leads None x y
-  pub written : ties.writes x y []
+  pub did : ties.did x y []
   pub state : (answers : ties.Answers) → ties.agrees answers y
       → ties.state y ≡ (ties.meaning answers).closed (ties.state x)
 

@@ -41,8 +41,8 @@ pub trait Language {
     /// How the outside fails.
     type Failure: Drop;
 
-    /// What lines mean, and how the calls are tied to it: which answers agree, which messages were
-    /// written, and what else holds of a value before and after calls.
+    /// What lines mean, and how the calls are tied to it: which answers agree, what was
+    /// done outside, and what else holds of a value before and after calls.
     ghost ties: { Ties Self Self.What Self.Failure };
 
     /// What a line is for the blocks of its file. Names of loops have not been replaced in it.

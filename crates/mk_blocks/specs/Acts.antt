@@ -1,0 +1,11 @@
+-- What a reading does outside.
+use Rattle.std.specs.Prelude.{ℕ, List}
+use Rattle.mk_world.specs.declared.command.Cmd.{Cmd}
+
+pub data Act : Type 0 where
+  -- it writes a message, with these bytes
+  wrote : (message : List ℕ) → Act
+  -- it looks for the bytes of a path
+  looked : (path : List ℕ) → Act
+  -- it has a command run
+  ran : (cmd : Cmd) → Act
