@@ -9,6 +9,7 @@ use Rattle.std.proofs.lemmas.Map.Steps.{length-le_from_distinct_below}
 use Rattle.std.specs.Cmp.{nat_eq_equiv}
 use Rattle.std.specs.List.{IsDistinct}
 use Rattle.mk_graph.specs.Numbers.{AreBelow, EachBelow}
+use Rattle.mk_graph.specs.Orders.{AreAmong}
 use Rattle.mk_graph.specs.Walks.{is_among, preds_of}
 
 -- a node is among those that begin with it
@@ -18,11 +19,6 @@ head_among n more = or_left (nat_eq n n) (is_among more n) (eq-eqb n n refl)
 -- and those of the rest are among all
 pub tail_among : (n m : ℕ) (more : List ℕ) → is_among more m ≡ true → is_among (n ∷ more) m ≡ true
 tail_among n m more among = or_right (nat_eq m n) (is_among more m) among
-
--- each of these nodes is among those
-abbrev pub AreAmong : List ℕ → List ℕ → Type 0
-AreAmong done [] = Unit {0}
-AreAmong done (n ∷ more) = (is_among done n ≡ true) × AreAmong done more
 
 -- they stay among more
 AreAmong-keeps : (done later nodes : List ℕ)

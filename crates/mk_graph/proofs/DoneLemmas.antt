@@ -1,14 +1,17 @@
 -- What a depth-first walk is done with, and that no closed walk is there where none is met.
 use Rattle.std.proofs.Common.{◌≡◌, ℕ, zero, suc, ◌+◌, ◌<◌, inl, inr, true, nat_eq, cond}
-use Rattle.std.proofs.Common.{List, [], ◌∷◌, ◌++◌, length, Ok, Err, None, refl, sym}
-use Rattle.std.proofs.Common.{subst, arith, length-append}
+use Rattle.std.proofs.Common.{List, [], ◌∷◌, ◌++◌, length, Ok, Err, None, Some, refl, sym, ap}
+use Rattle.std.proofs.Common.{subst, arith, length-append, append_assoc, reverse}
+use Rattle.std.proofs.lemmas.List.{append-nil, reverse-append}
 use Rattle.std.proofs.lemmas.Bool.{cond_both, or_cases, eqb-true, false≢true}
 use Rattle.mk_bytes.specs.Agrees.{◌>>=◌}
 use Rattle.mk_graph.specs.Closed.{IsWalk, Reaches, given, behind, NoneCloses}
 use Rattle.mk_graph.specs.Numbers.{AreBelow, EachBelow}
+use Rattle.mk_graph.specs.Orders.{AreAmong, AreBehind, IsOrder}
 use Rattle.mk_graph.specs.Walks.{is_among, preds_of, closed, Walked, Visit, all_visited, visited}
-use Rattle.mk_graph.specs.Walks.{walk_met, walked, first_cycle}
-use Rattle.mk_graph.proofs.AmongLemmas.{head_among, tail_among, AreAmong, AreAmong-at, IsPath}
+use Rattle.mk_graph.specs.Walks.{walk_met, walked, first_cycle, ordered_by, depth_first}
+use Rattle.mk_graph.specs.declared.walk.Ordered.TheVariants.{Order, Cycle}
+use Rattle.mk_graph.proofs.AmongLemmas.{head_among, tail_among, AreAmong-at, IsPath}
 use Rattle.mk_graph.proofs.AmongLemmas.{IsPath-none, IsPath-append, path_length, preds-below}
 
 -- nodes are done where both steps are
@@ -18,10 +21,11 @@ after_done : (first : Walked) (next : List ℕ → Walked) (later : List ℕ) (P
 after_done (Ok done) next later P is goes = goes done refl is
 after_done (Err met) next later P is goes = absurd cc
 
--- the predecessors of each node that is done were done before it
+-- nodes alone are done, the predecessors of each before it
 abbrev AreSettled : List (List ℕ) → List ℕ → Type 0
 AreSettled preds [] = Unit {0}
-AreSettled preds (n ∷ done) = AreAmong done (preds_of preds n) × AreSettled preds done
+AreSettled preds (n ∷ done) =
+    (n < length preds) × AreAmong done (preds_of preds n) × AreSettled preds done
 
 record Grows (preds : List (List ℕ)) (done later : List ℕ) : Type 0 where
   settled : AreSettled preds later
@@ -87,7 +91,7 @@ visited-done (suc room) preds path done n later rooms whole below within is sett
     (preds-below bound preds n below) here settled in
     subst (λ other. Grows preds done other × (is_among other n ≡ true)) same (
       record {
-        settled = (got.1, got.0.settled);
+        settled = (within, got.1, got.0.settled);
         keeps = λ m among. tail_among n m inside (got.0.keeps m among);
       },
       head_among n inside,
@@ -103,8 +107,8 @@ settled-next preds (one ∷ done) n next settled among step =
       | inl same ↦
           let is = eqb-true n one same in
           let here = subst (λ m. is_among (preds_of preds m) next ≡ true) is step in
-          tail_among one next done (AreAmong-at done (preds_of preds one) next settled.0 here)
-      | inr later ↦ tail_among one next done (settled-next preds done n next settled.1 later step)
+          tail_among one next done (AreAmong-at done (preds_of preds one) next settled.1 here)
+      | inr later ↦ tail_among one next done (settled-next preds done n next settled.2 later step)
     ]
 
 -- and by a whole walk too
@@ -135,10 +139,10 @@ settled-open preds (one ∷ done) n inner settled among walks =
     elim (or_cases (nat_eq n one) (is_among done n) among) [
       | inl same ↦
           let is = eqb-true n one same in
-          let all = subst (λ m. AreAmong done (preds_of preds m)) (sym is) settled.0 in
-          settled-open preds done n inner settled.1
-          (last-end preds done n n inner all settled.1 walks) walks
-      | inr later ↦ settled-open preds done n inner settled.1 later walks
+          let all = subst (λ m. AreAmong done (preds_of preds m)) (sym is) settled.1 in
+          settled-open preds done n inner settled.2
+          (last-end preds done n n inner all settled.2 walks) walks
+      | inr later ↦ settled-open preds done n inner settled.2 later walks
     ]
 
 -- all that are reached are done
@@ -154,17 +158,69 @@ none_met : (r : Walked) → walk_met r ≡ None → (done : List ℕ) × (r ≡ 
 none_met (Ok done) is = (done, refl)
 none_met (Err met) is = absurd cc
 
+-- so is a whole walk that went to its end
+walked-done : (preds : List (List ℕ)) (from done : List ℕ) → EachBelow (length preds) preds
+    → AreBelow (length preds) from → walked preds from ≡ Ok done
+    → AreSettled preds done × AreAmong done from
+walked-done preds from done below within is =
+    let bound = length preds in
+    let got = all-done preds bound (visited (suc bound) preds []) from [] done
+    (λ n before later less is_later settled.
+    visited-done (suc bound) preds [] before n later (omega arith) (IsPath-none bound) below less
+    is_later settled)
+    within is tt in
+    (got.0.settled, got.1)
+
+-- the nodes that are done, the first of them first
+below-turned : (preds : List (List ℕ)) (done more : List ℕ) → AreSettled preds done
+    → AreBelow (length preds) more → AreBelow (length preds) (reverse done ++ more)
+below-turned preds [] more settled below = below
+below-turned preds (n ∷ done) more settled below =
+    rw (reverse-append (n ∷ []) done, append_assoc)
+    (below-turned preds done (n ∷ more) settled.2 (settled.0, below))
+
+behind-turned : (preds : List (List ℕ)) (done more : List ℕ) → AreSettled preds done
+    → AreBehind preds done more → AreBehind preds [] (reverse done ++ more)
+behind-turned preds [] more settled holds = holds
+behind-turned preds (n ∷ done) more settled holds =
+    rw (reverse-append (n ∷ []) done, append_assoc)
+    (behind-turned preds done (n ∷ more) settled.2 (settled.1, holds))
+
+-- each node is done behind its predecessors
+pub walked-order : (preds : List (List ℕ)) (from done : List ℕ) → EachBelow (length preds) preds
+    → AreBelow (length preds) from → walked preds from ≡ Ok done → IsOrder preds (reverse done)
+walked-order preds from done below within is =
+    let got = walked-done preds from done below within is in
+    record {
+      within = subst (AreBelow (length preds)) (append-nil (reverse done))
+          (below-turned preds done [] got.0 tt);
+      behind = subst (AreBehind preds []) (append-nil (reverse done))
+          (behind-turned preds done [] got.0 tt);
+    }
+
 -- where none is met, there is none
 pub first_cycle-none : (preds : List (List ℕ)) (from : List ℕ) → EachBelow (length preds) preds
     → AreBelow (length preds) from → first_cycle preds from ≡ None → NoneCloses preds from
 first_cycle-none preds from below within is =
     let over = none_met (walked preds from) is in
-    let bound = length preds in
-    let got = all-done preds bound (visited (suc bound) preds []) from [] over.0
-    (λ n done later less is_later settled.
-    visited-done (suc bound) preds [] done n later (omega arith) (IsPath-none bound) below less
-    is_later settled)
-    within over.1 tt in
+    let got = walked-done preds from over.0 below within over.1 in
     λ n inner reached walks.
-    settled-open preds over.0 n inner got.0.settled
-    (reached-done preds from over.0 n got.0.settled got.1 reached) walks
+    settled-open preds over.0 n inner got.0
+    (reached-done preds from over.0 n got.0 got.1 reached) walks
+
+-- an order is no closed walk, and a closed walk no order
+ordered-none : (r : Walked) (order : List ℕ) → ordered_by r ≡ Order order → walk_met r ≡ None
+ordered-none (Ok done) order is = refl
+ordered-none (Err walk) order is = absurd cc
+
+ordered-some : (r : Walked) (walk : List ℕ) → ordered_by r ≡ Cycle walk → walk_met r ≡ Some walk
+ordered-some (Ok done) walk is = absurd cc
+ordered-some (Err met) walk is = let same : met ≡ walk = cc in ap (λ w. Some w) same
+
+pub cycle-order : (preds : List (List ℕ)) (from order : List ℕ)
+    → depth_first preds from ≡ Order order → first_cycle preds from ≡ None
+cycle-order preds from order is = ordered-none (walked preds from) order is
+
+pub cycle-cycle : (preds : List (List ℕ)) (from walk : List ℕ)
+    → depth_first preds from ≡ Cycle walk → first_cycle preds from ≡ Some walk
+cycle-cycle preds from walk is = ordered-some (walked preds from) walk is

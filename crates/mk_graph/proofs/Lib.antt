@@ -18,3 +18,4 @@ pub mod StepLemmas
 pub mod StepViewLemmas
 pub mod UseLemmas
 pub mod ViewLemmas
+pub mod WhereLemmas

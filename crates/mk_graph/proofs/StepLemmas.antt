@@ -16,20 +16,19 @@ use Rattle.mk_graph.proofs.MarkLemmas.{on_path, is_over, is_new, left-over, left
 use Rattle.mk_graph.proofs.MarkLemmas.{has_room, marks-entered, marks-back}
 
 -- a node that is done is passed over
-pub Leads-over : (preds : List (List ℕ)) (marks : List Mark) (path : List Frame) (n : ℕ)
-    (more : List ℕ) (whole : Walked) → n < length preds → get_or marks n New ≡ Done
-    → Leads preds (record { marks = marks; path = path; rest = n ∷ more }) whole
-    → Leads preds (record { marks = marks; path = path; rest = more }) whole
-Leads-over preds marks path n more whole within mark leads =
-    let over = is_over (is_among (path_of path) n) (is_among leads.done n)
+pub Leads-over : (preds : List (List ℕ)) (done : List ℕ) (marks : List Mark) (path : List Frame)
+    (n : ℕ) (more : List ℕ) (whole : Walked) → n < length preds → get_or marks n New ≡ Done
+    → Leads preds done (record { marks = marks; path = path; rest = n ∷ more }) whole
+    → Leads preds done (record { marks = marks; path = path; rest = more }) whole
+Leads-over preds done marks path n more whole within mark leads =
+    let over = is_over (is_among (path_of path) n) (is_among done n)
     (sym (leads.marks_are n within) ∙ mark) in
     record {
-      done = leads.done;
       room = leads.room;
       rooms = leads.rooms;
       apart = leads.apart;
       marks_are = leads.marks_are;
-      same = sym (left-over preds marks path n more leads.done leads.room over.0 over.1)
+      same = sym (left-over preds marks path n more done leads.room over.0 over.1)
           ∙ leads.same;
     }
 
@@ -44,15 +43,15 @@ closes preds marks path n more done whole (suc room) rooms enough on same =
     sym same ∙ left-on preds marks path n more done room on
 
 -- a node on the path closes it
-pub Leads-closed : (preds : List (List ℕ)) (marks : List Mark) (path : List Frame) (n : ℕ)
-    (more : List ℕ) (whole : Walked) → n < length preds → AreWithin (length preds) path
+pub Leads-closed : (preds : List (List ℕ)) (done : List ℕ) (marks : List Mark)
+    (path : List Frame) (n : ℕ) (more : List ℕ) (whole : Walked) → n < length preds → AreWithin (length preds) path
     → get_or marks n New ≡ OnPath
-    → Leads preds (record { marks = marks; path = path; rest = n ∷ more }) whole
+    → Leads preds done (record { marks = marks; path = path; rest = n ∷ more }) whole
     → whole ≡ Err (closed (path_of path) n)
-Leads-closed preds marks path n more whole less within mark leads =
-    closes preds marks path n more leads.done whole leads.room leads.rooms
+Leads-closed preds done marks path n more whole less within mark leads =
+    closes preds marks path n more done whole leads.room leads.rooms
     (has_room (length preds) path within leads.apart)
-    (on_path (is_among (path_of path) n) (is_among leads.done n)
+    (on_path (is_among (path_of path) n) (is_among done n)
     (sym (leads.marks_are n less) ∙ mark))
     leads.same
 
@@ -64,12 +63,11 @@ enters : (preds : List (List ℕ)) (marks : List Mark) (path : List Frame) (n : 
     → ((q : ℕ) → q < length preds → get_or marks q New ≡ mark_of (path_of path) done q)
     → (is_among (path_of path) n ≡ false) × (is_among done n ≡ false)
     → left preds room (record { marks = marks; path = path; rest = n ∷ more }) done ≡ whole
-    → Leads preds (entered preds (record { marks = marks; path = path; rest = more }) n) whole
+    → Leads preds done (entered preds (record { marks = marks; path = path; rest = more }) n) whole
 enters preds marks path n more done whole zero rooms enough as_many less apart are new same =
     absurd (omega arith)
 enters preds marks path n more done whole (suc room) rooms enough as_many less apart are new same =
     record {
-      done = done;
       room = room;
       rooms = omega arith;
       apart = (new.0, apart);
@@ -78,15 +76,15 @@ enters preds marks path n more done whole (suc room) rooms enough as_many less a
     }
 
 -- a new node is gone into
-pub Leads-entered : (preds : List (List ℕ)) (marks : List Mark) (path : List Frame) (n : ℕ)
-    (more : List ℕ) (whole : Walked) → n < length preds → length marks ≡ length preds
+pub Leads-entered : (preds : List (List ℕ)) (done : List ℕ) (marks : List Mark)
+    (path : List Frame) (n : ℕ) (more : List ℕ) (whole : Walked) → n < length preds → length marks ≡ length preds
     → AreWithin (length preds) path → get_or marks n New ≡ New
-    → Leads preds (record { marks = marks; path = path; rest = n ∷ more }) whole
-    → Leads preds (entered preds (record { marks = marks; path = path; rest = more }) n) whole
-Leads-entered preds marks path n more whole less as_many within mark leads =
-    enters preds marks path n more leads.done whole leads.room leads.rooms
+    → Leads preds done (record { marks = marks; path = path; rest = n ∷ more }) whole
+    → Leads preds done (entered preds (record { marks = marks; path = path; rest = more }) n) whole
+Leads-entered preds done marks path n more whole less as_many within mark leads =
+    enters preds marks path n more done whole leads.room leads.rooms
     (has_room (length preds) path within leads.apart) as_many less leads.apart leads.marks_are
-    (is_new (is_among (path_of path) n) (is_among leads.done n)
+    (is_new (is_among (path_of path) n) (is_among done n)
     (sym (leads.marks_are n less) ∙ mark))
     leads.same
 
@@ -107,33 +105,32 @@ unfolding all_visited outer_left
 left-nothing preds marks done room = refl
 
 -- where the list is over, the walk goes back, or it is over
-Leads-back : (preds : List (List ℕ)) (marks : List Mark) (path : List Frame) (whole : Walked)
-    → length marks ≡ length preds → AreWithin (length preds) path
-    → Leads preds (record { marks = marks; path = path; rest = [] }) whole
-    → Turned preds (back_to (record { marks = marks; path = path; rest = [] }) path) whole
+Leads-back : (preds : List (List ℕ)) (done : List ℕ) (marks : List Mark) (path : List Frame)
+    (whole : Walked) → length marks ≡ length preds → AreWithin (length preds) path
+    → Leads preds done (record { marks = marks; path = path; rest = [] }) whole
+    → Turned preds done (back_to (record { marks = marks; path = path; rest = [] }) path) whole
     (turn_back path)
-Leads-back preds marks [] whole as_many within leads =
-    (leads.done, sym leads.same ∙ left-nothing preds marks leads.done leads.room)
-Leads-back preds marks (frame ∷ path) whole as_many within leads = record {
-  done = frame.node ∷ leads.done;
+Leads-back preds done marks [] whole as_many within leads =
+    sym leads.same ∙ left-nothing preds marks done leads.room
+Leads-back preds done marks (frame ∷ path) whole as_many within leads = record {
   room = suc leads.room;
   rooms = let before = leads.rooms in omega (arith, before);
   apart = leads.apart.1;
-  marks_are = marks-back preds marks (path_of path) leads.done frame.node as_many within.0
+  marks_are = marks-back preds marks (path_of path) done frame.node as_many within.0
       leads.apart.0 leads.marks_are;
-  same = sym (left-back preds marks frame path leads.done leads.room) ∙ leads.same;
+  same = sym (left-back preds marks frame path done leads.room) ∙ leads.same;
 }
 
 -- the same for states that are equal to these
-pub Leads-gone : (preds : List (List ℕ)) (marks : List Mark) (path : List Frame)
+pub Leads-gone : (preds : List (List ℕ)) (done : List ℕ) (marks : List Mark) (path : List Frame)
     (state new : State) (turn : Turn) (whole : Walked)
     → state ≡ record { marks = marks; path = path; rest = [] } → new ≡ gone_back state
-    → turn ≡ turn_back state.path → IsFit (length preds) state → Leads preds state whole
-    → Turned preds new whole turn
-Leads-gone preds marks path state new turn whole is gone turns fit leads =
+    → turn ≡ turn_back state.path → IsFit (length preds) state → Leads preds done state whole
+    → Turned preds done new whole turn
+Leads-gone preds done marks path state new turn whole is gone turns fit leads =
     let fits = rw is at fit in
     let leading = rw is at leads in
-    rw (turns, gone, is) (Leads-back preds marks path whole fits.as_many fits.within leading)
+    rw (turns, gone, is) (Leads-back preds done marks path whole fits.as_many fits.within leading)
 
 -- a step that adds nothing
 last_step : (r : Walked) → (r >>= λ later. Ok later) ≡ r
@@ -142,10 +139,9 @@ last_step (Err walk) = refl
 
 -- before the first step all is left
 pub Leads-first : (preds : List (List ℕ)) (from : List ℕ)
-    → Leads preds (first_state (length preds) from) (walked preds from)
+    → Leads preds [] (first_state (length preds) from) (walked preds from)
 unfolding outer_left
 Leads-first preds from = record {
-  done = [];
   room = suc (length preds);
   rooms = omega arith;
   apart = tt;

@@ -3,6 +3,7 @@ pub mod Macros
 pub mod Marks
 pub mod Nodes
 pub mod Numbers
+pub mod Orders
 pub mod PartView
 pub mod Parts
 pub mod StepCounts
@@ -10,3 +11,4 @@ pub mod StepView
 pub mod Steps
 pub mod View
 pub mod Walks
+pub mod Where

@@ -4,7 +4,7 @@ use Rattle.mk_graph.specs.Steps.{Frame, State}
 use Rattle.mk_graph.specs.declared.walk.Mark.{Mark}
 use Rattle.mk_graph.specs.declared.walk.Mark.TheVariants.{New, OnPath, Done}
 use Rattle.mk_graph.specs.declared.walk.Turn.{Turn}
-use Rattle.mk_graph.specs.declared.walk.Turn.TheVariants.{On, Closed, Over}
+use Rattle.mk_graph.specs.declared.walk.Turn.TheVariants.{On, Left, Closed, Over}
 
 -- the steps that new nodes and their lists may take
 abbrev pub waiting : List Mark → List (List ℕ) → ℕ
@@ -26,5 +26,6 @@ steps_left preds state =
 
 abbrev pub IsLess : ℕ → ℕ → Turn → Type 0
 IsLess new old On = new < old
+IsLess new old (Left n) = new < old
 IsLess new old (Closed n) = Unit {0}
 IsLess new old Over = Unit {0}

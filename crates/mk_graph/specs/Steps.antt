@@ -7,7 +7,7 @@ use Rattle.mk_graph.specs.Walks.{is_among, preds_of, closed, Walked, all_visited
 use Rattle.mk_graph.specs.declared.walk.Mark.{Mark}
 use Rattle.mk_graph.specs.declared.walk.Mark.TheVariants.{New, OnPath, Done}
 use Rattle.mk_graph.specs.declared.walk.Turn.{Turn}
-use Rattle.mk_graph.specs.declared.walk.Turn.TheVariants.{On, Closed, Over}
+use Rattle.mk_graph.specs.declared.walk.Turn.TheVariants.{On, Left, Closed, Over}
 
 -- a node on the path, and what is left of the list in which it was met
 pub record Frame : Type 0 where
@@ -40,7 +40,7 @@ gone_back state = back_to state state.path
 
 abbrev pub turn_back : List Frame → Turn
 turn_back [] = Over
-turn_back (frame ∷ path) = On
+turn_back (frame ∷ path) = Left frame.node
 
 abbrev pub AreWithin : ℕ → List Frame → Type 0
 AreWithin bound [] = Unit {0}
@@ -81,9 +81,8 @@ pub record IsFit (count : ℕ) (state : State) : Type 0 where
   pub within : AreWithin count state.path
   pub below : AreBelow count state.rest
 
--- what is left of a walk comes to the same as the whole walk
-pub record Leads (preds : List (List ℕ)) (state : State) (whole : Walked) : Type 0 where
-  pub done : List ℕ
+-- what is left of a walk, where these nodes are done, comes to the same as the whole walk
+pub record Leads (preds : List (List ℕ)) (done : List ℕ) (state : State) (whole : Walked) : Type 0 where
   pub room : ℕ
   pub rooms : room + length state.path ≡ suc (length preds)
   pub apart : AreApart state.path
@@ -91,8 +90,9 @@ pub record Leads (preds : List (List ℕ)) (state : State) (whole : Walked) : Ty
       → get_or state.marks n New ≡ mark_of (path_of state.path) done n
   pub same : left preds room state done ≡ whole
 
--- what a step says of the whole walk
-abbrev pub Turned : List (List ℕ) → State → Walked → Turn → Type 0
-Turned preds state whole On = Leads preds state whole
-Turned preds state whole (Closed n) = whole ≡ Err (closed (path_of state.path) n)
-Turned preds state whole Over = (done : List ℕ) × (whole ≡ Ok done)
+-- what a step says of the whole walk, where these nodes were done before it
+abbrev pub Turned : List (List ℕ) → List ℕ → State → Walked → Turn → Type 0
+Turned preds done state whole On = Leads preds done state whole
+Turned preds done state whole (Left n) = Leads preds (n ∷ done) state whole
+Turned preds done state whole (Closed n) = whole ≡ Err (closed (path_of state.path) n)
+Turned preds done state whole Over = whole ≡ Ok done

@@ -1,8 +1,10 @@
 -- A depth-first walk from nodes to their predecessors, and the first closed walk that it meets.
-use Rattle.std.specs.Prelude.{ℕ, zero, suc, Bool, List, [], ◌∷◌, ◌++◌, length, get_or, nat_eq}
+use Rattle.std.specs.Prelude.{ℕ, zero, suc, Bool, List, [], ◌∷◌, ◌++◌, length, get_or, nat_eq, reverse}
 use Rattle.std.specs.Prelude.{Option, Some, None, Result, Ok, Err, if◌then◌else◌}
 use Rattle.std.specs.List.{list_any}
 use Rattle.mk_bytes.specs.Agrees.{◌>>=◌}
+use Rattle.mk_graph.specs.declared.walk.Ordered.{Ordered}
+use Rattle.mk_graph.specs.declared.walk.Ordered.TheVariants.{Order, Cycle}
 
 abbrev pub is_among : List ℕ → ℕ → Bool
 is_among nodes n = list_any (nat_eq n) nodes
@@ -54,3 +56,11 @@ walked preds from = all_visited (visited (suc (length preds)) preds []) [] from
 -- the end.
 abbrev pub first_cycle : List (List ℕ) → List ℕ → Option (List ℕ)
 first_cycle preds from = walk_met (walked preds from)
+
+abbrev pub ordered_by : Walked → Ordered
+ordered_by (Ok done) = Order (reverse done)
+ordered_by (Err walk) = Cycle walk
+
+-- The nodes that are reached, in the order in which they are done, or the first closed walk.
+abbrev pub depth_first : List (List ℕ) → List ℕ → Ordered
+depth_first preds from = ordered_by (walked preds from)

@@ -4,7 +4,7 @@ ghost use Rattle.mk_graph.specs.Marks.{has};
 ghost use Rattle.mk_graph.specs.Nodes as spec;
 ghost use Rattle.mk_graph.specs.Numbers.{AreBelow};
 
-use crate::attr::Attr;
+use crate::attr::{Attr, Marks};
 use crate::links::Links;
 use crate::lists::Nodes;
 use crate::macros::use_all;
@@ -190,6 +190,14 @@ impl Graph {
         ensures { result ≡ has (spec.node_at self.now n).marks attr }
     {
         self.nodes[n as usize].marks.has(attr)
+    }
+
+    /// All attributes of a node. Takes no memory.
+    pub fn marks(&self, n: u32) -> Marks
+        requires { n < length self.now }
+        ensures { result ≡ (spec.node_at self.now n).marks }
+    {
+        self.nodes[n as usize].marks
     }
 
     /// Applies the macros. Each target that is no macro goes through its sources in order and drops

@@ -1,11 +1,12 @@
 //! Walks from nodes to their predecessors.
-ghost use Rattle.std.specs.Prelude.{◌≡◌, ◌<◌, length, IfOk, IfSome, IfNone, OnOk};
+ghost use Rattle.std.specs.Prelude.{◌≡◌, ◌<◌, ℕ, List, length, IfOk, IfSome, IfNone, OnOk};
 ghost use Rattle.mk_graph.specs.Closed.{IsClosed, NoneCloses};
 ghost use Rattle.mk_graph.specs.Numbers.{AreBelow, EachBelow};
+ghost use Rattle.mk_graph.specs.Orders.{IsOrdered};
 ghost use Rattle.mk_graph.specs.Steps as spec;
 ghost use Rattle.mk_graph.specs.StepCounts.{IsLess, steps_left};
 ghost use Rattle.mk_graph.specs.StepView.{nodes_on};
-ghost use Rattle.mk_graph.specs.Walks.{Walked, closed, first_cycle, from_node};
+ghost use Rattle.mk_graph.specs.Walks.{Walked, closed, depth_first, first_cycle, from_node};
 
 use crate::lists::{Nodes, Preds};
 use mk_bytes::{Items, NoMemory};
@@ -24,6 +25,8 @@ enum Mark {
 #[derive(Clone, Copy, Debug)]
 enum Turn {
     On,
+    /// This node is done.
+    Left(u32),
     /// The path came to this node of it again.
     Closed(u32),
     /// No node is left.
@@ -98,7 +101,7 @@ impl<'t> Walk<'t> {
         };
         self.marks[step.node as usize] = Mark::Done;
         self.rest = step.rest;
-        Turn::On
+        Turn::Left(step.node)
     }
 
     // One step: to the next node of the list, or back where there is none.
@@ -106,8 +109,8 @@ impl<'t> Walk<'t> {
         requires preds { EachBelow (length preds.now) preds.now }
         requires fit { spec.IsFit (length preds.now) self.old }
         ensures fit { OnOk result (spec.IsFit (length preds.now) self.new) }
-        ensures turned { (whole : Walked) → spec.Leads preds.now self.old whole
-            → IfOk result (λ turn. spec.Turned preds.now self.new whole turn) }
+        ensures turned { (whole : Walked) (done : List ℕ) → spec.Leads preds.now done self.old whole
+            → IfOk result (λ turn. spec.Turned preds.now done self.new whole turn) }
         ensures fewer { IfOk result (λ turn.
             IsLess (steps_left preds.now self.new) (steps_left preds.now self.old) turn) }
     {
@@ -150,6 +153,36 @@ fn from_node<'v, 't>(path: &'v [Step<'t>], n: u32) -> &'v [Step<'t>]
     &path[path.len()..]
 }
 
+/// What a depth-first walk comes to.
+#[derive(Debug, Drop)]
+pub enum Ordered {
+    /// The nodes that it reached, each behind its predecessors.
+    Order(Nodes),
+    /// The first closed walk that it met, its first node repeated at the end.
+    Cycle(Nodes),
+}
+
+/// The nodes that are reached from those of `from`, each behind its predecessors: in the order in
+/// which a walk from the nodes of `from`, in order, is done with them, where it goes through the
+/// predecessors of each node in order. Where it meets a closed walk, the first of them.
+pub fn depth_first(alloc: Global, preds: &Preds, from: &Nodes) -> Result<Ordered, NoMemory>
+    requires preds { EachBelow (length preds.now) preds.now }
+    requires from { AreBelow (length preds.now) from.now }
+    ensures value { IfOk result (λ ordered. ordered ≡ depth_first preds.now from.now) }
+    ensures order { IfOk result (IsOrdered preds.now) }
+{
+    let mut order = Items::new(alloc, 0)?;
+    let mut walk = Walk::new(alloc, preds.len(), from)?;
+    'steps: loop {
+        match walk.step(preds)? {
+            Turn::On => {}
+            Turn::Left(n) => order.push(n)?,
+            Turn::Closed(n) => return Ok(Ordered::Cycle(walk.closed(alloc, n)?)),
+            Turn::Over => return Ok(Ordered::Order(order)),
+        }
+    }
+}
+
 /// The first closed walk from a node to its predecessors that a depth-first walk from the nodes of
 /// `from`, in order, meets: it goes through the predecessors of each node in order, and its first
 /// node is repeated at the end. `None` exactly where no node on any walk from these nodes lies on a
@@ -161,12 +194,8 @@ pub fn cycle(alloc: Global, preds: &Preds, from: &Nodes) -> Result<Option<Nodes>
     ensures closed { IfOk result (λ found. IfSome found (IsClosed preds.now from.now)) }
     ensures none { IfOk result (λ found. IfNone found (NoneCloses preds.now from.now)) }
 {
-    let mut walk = Walk::new(alloc, preds.len(), from)?;
-    'steps: loop {
-        match walk.step(preds)? {
-            Turn::On => {}
-            Turn::Closed(n) => return Ok(Some(walk.closed(alloc, n)?)),
-            Turn::Over => return Ok(None),
-        }
+    match depth_first(alloc, preds, from)? {
+        Ordered::Order(_) => Ok(None),
+        Ordered::Cycle(nodes) => Ok(Some(nodes)),
     }
 }

@@ -12,5 +12,6 @@ mod step;
 
 pub use chain::Chain;
 pub use fault::SuffixFault;
+pub use found::is_found;
 pub use name::prefix_of;
 pub use search::resolve;

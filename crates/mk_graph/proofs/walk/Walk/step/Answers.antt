@@ -1,4 +1,4 @@
-use Rattle.std.proofs.Common.{◌≡◌, ◌∷◌, [], length, get_or, sym, ap, ◌∙◌, subst, arith}
+use Rattle.std.proofs.Common.{◌≡◌, ℕ, List, ◌∷◌, [], length, get_or, sym, ap, ◌∙◌, subst, arith}
 use Rattle.mk_graph.proofs.StepViewLemmas.{mark_is}
 use Rattle.mk_graph.proofs.StepLemmas.{Leads-over, Leads-closed, Leads-entered, Leads-gone}
 use Rattle.mk_graph.proofs.StepLemmas.{IsFit-entered}
@@ -27,8 +27,8 @@ over c =
     }) (empty_list c.self.inside.rest.now c.in_default.ensures.cases)
 
 pub returns-in_default-clause-turned : goal.returns-in_default-clause-turned
-returns-in_default-clause-turned c = λ whole leads.
-    Leads-gone c.args.preds.now c.self.inside.marks.items (frames_of c.self.inside.path.items)
+returns-in_default-clause-turned c = λ whole done leads.
+    Leads-gone c.args.preds.now done c.self.inside.marks.items (frames_of c.self.inside.path.items)
     c.args.self.now c.back.new.self c.back.result whole (over c) c.back.ensures.state
     c.back.ensures.turn c.requires.fit leads
 
@@ -58,13 +58,14 @@ fit : (c : In-Some) → IsFit (length c.args.preds.now) (record {
 })
 fit c = subst (λ s. IsFit (length c.args.preds.now) s) (state c) c.requires.fit
 
-leads : (c : In-Some) (whole : Walked) → Leads c.args.preds.now c.args.self.now whole
-    → Leads c.args.preds.now (record {
+leads : (c : In-Some) (whole : Walked) (done : List ℕ)
+    → Leads c.args.preds.now done c.args.self.now whole
+    → Leads c.args.preds.now done (record {
       marks = c.self.inside.marks.items;
       path = frames_of c.self.inside.path.items;
       rest = c.in-Some.n.now ∷ c.in-Some.more.now;
     }) whole
-leads c whole from = subst (λ s. Leads c.args.preds.now s whole) (state c) from
+leads c whole done from = subst (λ s. Leads c.args.preds.now done s whole) (state c) from
 
 -- the mark of the node
 mark : (c : After-index) (is : Mark) → c.index.result.now ≡ is
@@ -83,14 +84,14 @@ returns-in_ok-enter-in-New-clause-fit c =
     (fit at))
 
 pub returns-in_ok-enter-in-New-clause-turned : goal.returns-in_ok-enter-in-New-clause-turned
-returns-in_ok-enter-in-New-clause-turned c = λ whole from.
+returns-in_ok-enter-in-New-clause-turned c = λ whole done from.
     let at = goal.at.returns-in_ok-enter-in-New-clause-turned c in
     let whole_fit = fit at.In-Some in
     rw c.in_ok-enter-in-New.ensures
-    (Leads-entered c.args.preds.now c.self.inside.marks.items
+    (Leads-entered c.args.preds.now done c.self.inside.marks.items
     (frames_of c.self.inside.path.items) c.in-Some.n.now c.in-Some.more.now whole
     whole_fit.below.0 whole_fit.as_many whole_fit.within
-    (mark at.After-index _ c.in-New.is) (leads at.In-Some whole from))
+    (mark at.After-index _ c.in-New.is) (leads at.In-Some whole done from))
 
 pub returns-in_ok-enter-in-New-clause-fewer : goal.returns-in_ok-enter-in-New-clause-fewer
 returns-in_ok-enter-in-New-clause-fewer c =
@@ -103,18 +104,18 @@ returns-in_ok-enter-in-New-clause-fewer c =
     (mark at.After-index _ c.in-New.is))
 
 pub returns-in-OnPath-clause-turned : goal.returns-in-OnPath-clause-turned
-returns-in-OnPath-clause-turned c = λ whole from.
+returns-in-OnPath-clause-turned c = λ whole done from.
     let at = goal.at.returns-in-OnPath-clause-turned c in
     let whole_fit = fit at.In-Some in
-    Leads-closed c.args.preds.now c.self.inside.marks.items
+    Leads-closed c.args.preds.now done c.self.inside.marks.items
     (frames_of c.self.inside.path.items) c.in-Some.n.now c.in-Some.more.now whole
     whole_fit.below.0 whole_fit.within (mark at.After-index _ c.in-OnPath.is)
-    (leads at.In-Some whole from)
+    (leads at.In-Some whole done from)
 
 pub returns-in-Done-clause-turned : goal.returns-in-Done-clause-turned
-returns-in-Done-clause-turned c = λ whole from.
+returns-in-Done-clause-turned c = λ whole done from.
     let at = goal.at.returns-in-Done-clause-turned c in
     let whole_fit = fit at.In-Some in
-    Leads-over c.args.preds.now c.self.inside.marks.items
+    Leads-over c.args.preds.now done c.self.inside.marks.items
     (frames_of c.self.inside.path.items) c.in-Some.n.now c.in-Some.more.now whole
-    whole_fit.below.0 (mark at.After-index _ c.in-Done.is) (leads at.In-Some whole from)
+    whole_fit.below.0 (mark at.After-index _ c.in-Done.is) (leads at.In-Some whole done from)

@@ -1,14 +1,14 @@
-use Rattle.std.proofs.Common.{length}
+use Rattle.std.proofs.Common.{length, reverse}
 use Rattle.mk_graph.specs.Steps.{IsFit, Leads}
 use Rattle.mk_graph.specs.StepCounts.{steps_left}
 use Rattle.mk_graph.specs.Walks.{walked}
-use Rattle.mk_graph.proofs.walk.cycle.Given as goal
+use Rattle.mk_graph.proofs.walk.depth_first.Given as goal
 
 -- what is left of the walk comes to the same as all of it
 abbrev pub invariant-steps : goal.invariant-steps
 invariant-steps l = record {
   fit : IsFit (length l.preds) l.walk;
-  leads : Leads l.preds l.walk (walked l.preds l.from);
+  leads : Leads l.preds (reverse l.order) l.walk (walked l.preds l.from);
 }
 
 abbrev pub decreases-steps : goal.decreases-steps

@@ -1,0 +1,5 @@
+pub mod LinkLemmas
+pub mod MeansLemmas
+pub mod MemberLemmas
+pub mod PartLemmas
+pub mod WalkLemmas

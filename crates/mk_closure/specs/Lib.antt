@@ -1,0 +1,9 @@
+pub mod Deciding
+pub mod Faults
+pub mod Made
+pub mod Means
+pub mod Members
+pub mod Names
+pub mod Parts
+pub mod Steps
+pub mod Walks

@@ -1,0 +1,92 @@
+//! What there is to make a node with.
+ghost use Rattle.std.specs.Prelude.{◌≡◌, [], IfOk, IfErr, IfSome, OnErr};
+ghost use Rattle.mk_closure.specs.Faults.{IsOutside};
+ghost use Rattle.mk_closure.specs.Made.{HasChain};
+ghost use Rattle.mk_closure.specs.Means as spec;
+ghost use Rattle.mk_closure.specs.declared.fault.CloseFault.TheVariants.{Failed as failed};
+ghost use Rattle.mk_suffix.specs.Looks.{OnLooks, OnlyLooked};
+ghost use Rattle.mk_suffix.specs.Made.{IsFor};
+ghost use Rattle.mk_suffix.specs.declared.fault.SuffixFault.TheVariants.{Failed as suffix_failed};
+ghost use Rattle.mk_world.specs.Causes.{HasCause};
+
+use crate::fault::CloseFault;
+use mk_bytes::Texts;
+use mk_graph::{Attr, Graph};
+use mk_suffix::{Chain, SuffixFault, is_found, resolve};
+use mk_world::World;
+use std::alloc::Global;
+
+/// What there is to make a node with.
+#[derive(Debug, Drop)]
+pub enum Means {
+    /// What the makefiles say, or a file that is there.
+    Own,
+    /// A chain of suffix rules.
+    Chained(Chain),
+    /// Nothing.
+    Missing,
+}
+
+fn has_commands(graph: &Graph, n: u32) -> bool
+    ensures { result ≡ spec.has_commands graph.now n }
+{
+    (n as usize) < graph.len() && !graph.commands(n).is_empty()
+}
+
+fn is_phony(graph: &Graph, n: u32) -> bool
+    ensures { result ≡ spec.is_phony graph.now n }
+{
+    (n as usize) < graph.len() && graph.has(n, Attr::Phony)
+}
+
+fn chain_for<W: World>(
+    alloc: Global,
+    graph: &Graph,
+    suffixes: &Texts,
+    name: &[u8],
+    n: u32,
+    world: &mut W,
+) -> Result<Option<Chain>, SuffixFault>
+    requires idle { W.runs world.old [] }
+    ensures told { IfOk result (λ chain. OnLooks (W.history world.old) (W.history world.new)
+        (λ files. spec.chain_for files graph.now suffixes.now name.now n ≡ chain)) }
+    ensures made { IfOk result (λ chain. IfSome chain (IsFor graph.now)) }
+    ensures refused { OnErr result (OnlyLooked (W.history world.old) (W.history world.new)) }
+    ensures cause { HasCause suffix_failed (W.faults world.old) (W.faults world.new) result }
+    ensures idle { W.runs world.new [] }
+{
+    if is_phony(graph, n) {
+        return Ok(None);
+    }
+    resolve(alloc, graph, suffixes, name, world)
+}
+
+/// What there is to make a node of this name with.
+pub fn means_of<W: World>(
+    alloc: Global,
+    graph: &Graph,
+    suffixes: &Texts,
+    name: &[u8],
+    n: u32,
+    world: &mut W,
+) -> Result<Means, CloseFault>
+    requires idle { W.runs world.old [] }
+    ensures told { IfOk result (λ means. OnLooks (W.history world.old) (W.history world.new)
+        (λ files. spec.means_of files graph.now suffixes.now name.now n ≡ means)) }
+    ensures made { IfOk result (HasChain graph.now) }
+    ensures refused { OnErr result (OnlyLooked (W.history world.old) (W.history world.new)) }
+    ensures outside { IfErr result IsOutside }
+    ensures cause { HasCause failed (W.faults world.old) (W.faults world.new) result }
+    ensures idle { W.runs world.new [] }
+{
+    if has_commands(graph, n) {
+        return Ok(Means::Own);
+    }
+    if let Some(chain) = chain_for(alloc, graph, suffixes, name, n, world)? {
+        return Ok(Means::Chained(chain));
+    }
+    if is_found(alloc, graph, name, world)? {
+        return Ok(Means::Own);
+    }
+    Ok(Means::Missing)
+}

@@ -1,0 +1,210 @@
+//! The nodes of a closure, and what belongs to each.
+ghost use Rattle.std.specs.Prelude.{◌≡◌, ◌<◌, [], ◌∷◌, ◌++◌, length, IfOk, OnOk};
+ghost use Rattle.mk_closure.specs.Members as spec;
+ghost use Rattle.mk_closure.specs.Names.{number_in};
+ghost use Rattle.mk_graph.specs.Nodes.{node_at};
+ghost use Rattle.mk_graph.specs.Numbers.{AreBelow, EachBelow};
+
+use crate::closure::Closure;
+use crate::part::Way;
+use mk_bytes::{Items, NoMemory, Text};
+use mk_graph::{Graph, Marks, Nodes, Preds};
+use std::alloc::Global;
+
+fn copied(alloc: Global, nodes: &[u32]) -> Result<Nodes, NoMemory>
+    ensures { IfOk result (λ copies. copies ≡ nodes.now) }
+{
+    let mut copies = Items::new(alloc, nodes.len())?;
+    for n in nodes {
+        copies.push(*n)?;
+    }
+    Ok(copies)
+}
+
+fn default_of(graph: &Graph) -> u32
+    ensures { result ≡ spec.default_of graph.now }
+{
+    match graph.find(b".DEFAULT".as_slice()) {
+        Some(n) => n,
+        None => graph.len() as u32,
+    }
+}
+
+impl<'g> Closure<'g> {
+    // The sources that the makefiles give a node.
+    fn own_sources(&self, alloc: Global, n: u32) -> Result<Nodes, NoMemory>
+        requires { n < length self.now.parts }
+        ensures value { IfOk result (λ nodes. nodes ≡ (node_at self.now.nodes n).sources) }
+        ensures below { IfOk result (AreBelow (length self.now.parts)) }
+    {
+        if (n as usize) < self.graph().len() {
+            return copied(alloc, self.graph().sources(n).as_slice());
+        }
+        Items::new(alloc, 0)
+    }
+
+    /// The sources of a node, in their order.
+    pub(crate) fn sources(&self, alloc: Global, n: u32) -> Result<Nodes, NoMemory>
+        requires { n < length self.now.parts }
+        ensures value { IfOk result (λ nodes. nodes ≡ spec.sources_in self.now n) }
+        ensures below { IfOk result (AreBelow (length self.now.parts)) }
+    {
+        match self.part(n).way {
+            Way::Open | Way::Own | Way::Default => self.own_sources(alloc, n),
+            Way::Rule(_, source) => {
+                let mut sources = self.own_sources(alloc, n)?;
+                sources.push(source)?;
+                Ok(sources)
+            }
+            Way::Dropped => Items::new(alloc, 0),
+        }
+    }
+
+    /// Whether a node is planned: it was met, and is not dropped.
+    pub(crate) fn is_planned(&self, n: u32) -> bool
+        ensures { result ≡ spec.is_planned self.now n }
+    {
+        if (n as usize) >= self.len() {
+            return false;
+        }
+        let part = self.part(n);
+        part.met && !part.way.is_dropped()
+    }
+
+    // Adds a node if it is planned.
+    fn add_if_planned(&self, planned: &mut Nodes, n: u32) -> Result<(), NoMemory>
+        ensures { OnOk result (planned.new ≡ planned.old ++ spec.planned_of self.now (n ∷ [])) }
+    {
+        if self.is_planned(n) {
+            planned.push(n)?;
+        }
+        Ok(())
+    }
+
+    // Adds those of several nodes that are planned.
+    fn add_planned(&self, planned: &mut Nodes, nodes: &[u32]) -> Result<(), NoMemory>
+        ensures { OnOk result (planned.new ≡ planned.old ++ spec.planned_of self.now nodes.now) }
+    {
+        for n in nodes {
+            self.add_if_planned(planned, *n)?;
+        }
+        Ok(())
+    }
+
+    /// Those of a node's sources that are planned.
+    pub fn planned_sources(&self, alloc: Global, n: u32) -> Result<Nodes, NoMemory>
+        requires { n < length self.now.parts }
+        ensures { IfOk result (λ nodes. nodes
+            ≡ spec.planned_of self.now (spec.sources_in self.now n)) }
+    {
+        let mut planned = Items::new(alloc, 0)?;
+        self.add_planned(&mut planned, self.sources(alloc, n)?.as_slice())?;
+        Ok(planned)
+    }
+
+    // Adds the nodes that are ordered before one.
+    fn add_ordered(&self, planned: &mut Nodes, n: u32) -> Result<(), NoMemory>
+        ensures { OnOk result (planned.new
+            ≡ planned.old ++ spec.planned_of self.now (node_at self.now.nodes n).ordered) }
+    {
+        if (n as usize) < self.graph().len() {
+            self.add_planned(planned, self.graph().ordered(n).as_slice())?;
+        }
+        Ok(())
+    }
+
+    /// The predecessors of a node: its sources that are planned, and then the planned nodes that are
+    /// ordered before it.
+    pub fn preds(&self, alloc: Global, n: u32) -> Result<Nodes, NoMemory>
+        requires { n < length self.now.parts }
+        ensures { IfOk result (λ nodes. nodes ≡ spec.preds_in self.now n) }
+    {
+        let mut preds = self.planned_sources(alloc, n)?;
+        self.add_ordered(&mut preds, n)?;
+        Ok(preds)
+    }
+
+    /// The predecessors of each node.
+    pub fn all_preds(&self, alloc: Global) -> Result<Preds, NoMemory>
+        ensures value { IfOk result (λ preds. preds ≡ spec.all_preds self.now) }
+        ensures many { IfOk result (λ preds. length preds ≡ length self.now.parts) }
+        ensures below { IfOk result (EachBelow (length self.now.parts)) }
+    {
+        let mut preds = Items::new(alloc, self.len())?;
+        for n in 0..self.len() {
+            preds.push(self.preds(alloc, n as u32)?)?;
+        }
+        Ok(preds)
+    }
+
+    // Adds the number of a name, if it has one.
+    fn add_number(&self, numbers: &mut Nodes, name: &[u8]) -> Result<(), NoMemory>
+        ensures { OnOk result (numbers.new
+            ≡ numbers.old ++ spec.number_onto (number_in self.now name.now) []) }
+    {
+        if let Some(n) = self.find(name) {
+            numbers.push(n)?;
+        }
+        Ok(())
+    }
+
+    // The numbers of names.
+    fn numbers(&self, alloc: Global, names: &[Text]) -> Result<Nodes, NoMemory>
+        ensures { IfOk result (λ numbers. numbers ≡ spec.numbers_in self.now names.now) }
+    {
+        let mut numbers = Items::new(alloc, names.len())?;
+        for name in names {
+            self.add_number(&mut numbers, name.bytes())?;
+        }
+        Ok(numbers)
+    }
+
+    /// Those of the wanted names that are planned.
+    pub fn roots(&self, alloc: Global, wanted: &[Text]) -> Result<Nodes, NoMemory>
+        ensures value { IfOk result (λ nodes. nodes ≡ spec.roots self.now wanted.now) }
+        ensures below { IfOk result (AreBelow (length self.now.parts)) }
+    {
+        let mut planned = Items::new(alloc, 0)?;
+        self.add_planned(&mut planned, self.numbers(alloc, wanted)?.as_slice())?;
+        Ok(planned)
+    }
+
+    /// The commands of a node as they are written.
+    pub fn commands(&self, n: u32) -> &[Text]
+        requires { n < length self.now.parts }
+        ensures { result.now ≡ spec.commands_in self.now n }
+    {
+        let maker = match self.part(n).way {
+            Way::Open | Way::Own | Way::Dropped => n,
+            Way::Rule(rule, _) => rule,
+            Way::Default => default_of(self.graph()),
+        };
+        if (maker as usize) < self.graph().len() {
+            return self.graph().commands(maker).as_slice();
+        }
+        &[]
+    }
+
+    /// The implied source of a node, or nothing where it has none.
+    pub fn implied(&self, n: u32) -> &[u8]
+        requires { n < length self.now.parts }
+        ensures { result.now ≡ spec.implied_in self.now n }
+    {
+        match self.part(n).way {
+            Way::Open | Way::Own | Way::Dropped => b"",
+            Way::Rule(_, source) => self.name(source),
+            Way::Default => self.name(n),
+        }
+    }
+
+    /// The attributes of a node.
+    pub fn marks(&self, n: u32) -> Marks
+        requires { n < length self.now.parts }
+        ensures { result ≡ spec.marks_in self.now n }
+    {
+        if (n as usize) < self.graph().len() {
+            return self.graph().marks(n);
+        }
+        Marks::none()
+    }
+}

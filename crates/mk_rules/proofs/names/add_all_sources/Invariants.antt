@@ -1,0 +1,13 @@
+use Rattle.std.proofs.Common.{◌≡◌, ◌≤◌, ◌<◌, length, drop, take, [], Ok}
+use Rattle.mk_graph.specs.Numbers.{AreBelow}
+use Rattle.mk_rules.specs.Names as spec
+use Rattle.mk_rules.proofs.names.add_all_sources.Given as goal
+
+-- what is left takes the sources like all
+abbrev pub invariant-loop-n : goal.invariant-loop-n
+invariant-loop-n l = record {
+  below : AreBelow (length l.graph) (drop l.n-index l.nodes);
+  added : spec.all_sourced l.sources l.fn.graph l.nodes
+      ≡ spec.all_sourced l.sources l.graph (drop l.n-index l.nodes);
+  same : length l.graph ≡ length l.fn.graph;
+}

@@ -1,0 +1,9 @@
+pub mod Attributes
+pub mod Ends
+pub mod Lines
+pub mod Modes
+pub mod Names
+pub mod Rules
+pub mod SourceView
+pub mod Sources
+pub mod View

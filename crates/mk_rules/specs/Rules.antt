@@ -1,0 +1,94 @@
+-- What dependency lines leave.
+use denote.Ref.{Bor}
+use Rattle.std.specs.Prelude.{◌≡◌, ℕ, ◌==◌, ◌&&◌, ◌||◌, Bool, true, false, not, List, [], ◌∷◌, ◌++◌, length, Option, Some, None}
+use Rattle.std.specs.Prelude.{Result, Ok, Err, if◌then◌else◌, nat_eq}
+use Rattle.std.specs.List.{list_any}
+use Rattle.mk_depline.specs.Names.{is_among, is_attribute}
+use Rattle.mk_graph.specs.Marks.{has}
+use Rattle.mk_graph.specs.Nodes.{Node, node_at, with_command, with_mark}
+use Rattle.mk_graph.specs.Numbers.{AreBelow}
+use Rattle.mk_graph.specs.declared.attr.Attr.TheVariants as attr
+use Rattle.mk_graph.specs.declared.attr.Marks.{Marks}
+use Rattle.mk_rules.specs.declared.rules.Everywhere.{Everywhere}
+use Rattle.indexmap.specs.IndexSet.{insert_key}
+
+-- The nodes, the known suffixes and the sources of `.MAIN` so far; the nodes that stood as targets, in
+-- order; which marks go to every target in the end; how a build goes; and the nodes that take the
+-- command lines behind the last line.
+pub record Ruled : Type 0 where
+  pub nodes : List Node
+  pub suffixes : List (List ℕ)
+  pub main : List (List ℕ)
+  pub targets : List ℕ
+  pub everywhere : Everywhere
+  pub one_job : Bool
+  pub delete_on_error : Bool
+  pub group : List ℕ
+
+abbrev pub no_rules : Ruled
+no_rules = record {
+  nodes = [];
+  suffixes = [];
+  main = [];
+  targets = [];
+  everywhere = record { precious = false; silent = false; ignore = false };
+  one_job = false;
+  delete_on_error = false;
+  group = [];
+}
+
+-- what is referred to is there
+pub record IsRuled (r : Ruled) : Type 0 where
+  pub targets : AreBelow (length r.nodes) r.targets
+  pub group : AreBelow (length r.nodes) r.group
+
+-- Command lines
+
+abbrev pub has_commands : List Node → ℕ → Bool
+has_commands nodes n = not (length (node_at nodes n).commands == 0)
+
+-- a target takes the commands of a group once, where it has none yet
+abbrev pub takers_with : List Node → List ℕ → ℕ → List ℕ
+takers_with nodes takers n = if has_commands nodes n then takers else insert_key nat_eq takers n
+
+abbrev pub takers_among : List Node → List ℕ → List ℕ → List ℕ
+takers_among nodes takers [] = takers
+takers_among nodes takers (n ∷ more) = takers_among nodes (takers_with nodes takers n) more
+
+abbrev pub all_commanded : List ℕ → List Node → List ℕ → List Node
+all_commanded text nodes [] = nodes
+all_commanded text nodes (n ∷ more) = all_commanded text (with_command nodes n text) more
+
+-- A command line goes to the targets of its group.
+abbrev pub commanded : Ruled → List ℕ → Ruled
+commanded r text = record r { nodes = all_commanded text r.nodes r.group }
+
+-- Main targets
+
+-- a target that is neither a rule nor a macro, nor marked so
+abbrev pub may_be_main : Marks → Bool
+may_be_main marks =
+    not (marks.rule || (marks.macro_behind || (marks.macro_before || marks.not_main)))
+
+abbrev pub marks_at : List Node → ℕ → Marks
+marks_at nodes n = (node_at nodes n).marks
+
+-- the first of these nodes that may be a main target
+abbrev pub first_main : List Node → List ℕ → List (List ℕ)
+first_main nodes [] = []
+first_main nodes (n ∷ more) =
+    if may_be_main (marks_at nodes n) then (node_at nodes n).name ∷ []
+    else first_main nodes more
+
+-- a name, if there is one
+abbrev pub shown_main : Option (Bor (List ℕ)) → List (List ℕ)
+shown_main None = []
+shown_main (Some name) = name.now ∷ []
+
+abbrev pub main_by : List Node → List ℕ → List (List ℕ) → List (List ℕ)
+main_by nodes targets [] = first_main nodes targets
+main_by nodes targets (name ∷ more) = name ∷ more
+
+-- The main targets so far: the sources of `.MAIN`, or else the first target that may be one.
+abbrev pub main_targets : Ruled → List (List ℕ)
+main_targets r = main_by r.nodes r.targets r.main
