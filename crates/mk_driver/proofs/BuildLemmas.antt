@@ -1,26 +1,40 @@
 -- Whole builds.
-use Rattle.std.proofs.Common.{◌≡◌, ◌∙◌, ℕ, List, [], ◌∷◌, ◌++◌, length, map, get_or, Bool, true, false}
-use Rattle.std.proofs.Common.{refl, sym, ap, subst}
-use Rattle.std.proofs.Math.Seq.{take-length, drop-length}
+use Rattle.std.proofs.Common.{◌≡◌, ◌∙◌, ℕ, suc, ◌<◌, ◌≤◌, ◌^◌, List, [], ◌∷◌, ◌++◌, length, map, Option, Some, None, Bool, true, false, if◌then◌else◌, unwrap_or}
+use Rattle.std.proofs.Common.{refl, sym, ap, subst, arith}
 use Rattle.std.proofs.lemmas.List.{append-nil}
-use Rattle.mk_plan.specs.declared.plan.NodeState.TheVariants.{Undecided, Settled}
+use Rattle.std.specs.List.{list_any}
+use Rattle.mk_plan.specs.Deciding.{Rules, is_failed, may_decide, open_jobs}
+use Rattle.mk_plan.specs.declared.plan.NodeState.TheVariants.{Undecided}
+use Rattle.mk_plan.specs.declared.plan.NodeState.{NodeState}
 use Rattle.mk_plan.specs.declared.plan.PlanNode.{PlanNode}
+use Rattle.mk_sched.specs.Schedule.{Schedule, none_decided, predecessors}
+use Rattle.mk_sched.specs.Next.{next_of}
+use Rattle.mk_sched.specs.declared.sched.Next.TheVariants.{Over}
 use Rattle.mk_world.specs.Talks.{Meaning}
+use Rattle.mk_world.specs.declared.history.History.{History}
 use Rattle.mk_world.proofs.SinkLemmas.{Gains-nothing}
-use Rattle.mk_driver.specs.Builds.{Work, Build, Moment, Prints, Makes, IsBuild, build_after_all, first_build, rules_of, job_of}
+use Rattle.mk_world.proofs.IdleLemmas.{IsIdle}
+use Rattle.mk_driver.specs.Builds.{Work, Build, Moment, Prints, Makes, IsBuild, build_after_all, first_build, jobs_of, rules_of, job_of}
 use Rattle.mk_driver.specs.Calls.{AreStepItems, AreLeaveItems, Called}
-use Rattle.mk_driver.specs.Items.{Item, looks, keeps, refuses, starts, passes, waits, steps, ends, leaves, reported_all, outputs_of}
+use Rattle.mk_driver.specs.Ends.{of_halt, result_of}
+use Rattle.mk_driver.specs.Items.{Item, looks, keeps, refuses, starts, passes, waits, steps, ends, removes, leaves, reported_all, outputs_of}
+use Rattle.mk_driver.specs.Makers.{moment}
 use Rattle.mk_driver.specs.Output.{output}
-use Rattle.mk_driver.specs.Progress.{IsMade, Standing, IsReady, IsAllMade, EndedBy, ReadyAt, StandsBy, is_cut, printed_by}
+use Rattle.mk_driver.specs.Progress.{Known, IsMade, SoFar, Standing, IsGoing, IsOver, EndedAt, Fits, GoingAt, HaltedAt, IsFirstCourse, StandsBy, is_cut, printed_by}
 use Rattle.mk_driver.specs.Runs as run
+use Rattle.mk_driver.specs.declared.course.Course.{Course}
 use Rattle.mk_driver.specs.declared.event.Event.{Event}
+use Rattle.mk_driver.specs.declared.job.Job.{Job}
 use Rattle.mk_driver.specs.declared.result.BuildResult.{BuildResult}
 use Rattle.mk_driver.specs.declared.result.BuildResult.TheVariants as ended
-use Rattle.mk_driver.proofs.ItemLemmas.{reported_all-append, outputs_of-append, build_after_all-append, Makes-append, told-none, told-then, run-legal}
+use Rattle.mk_driver.specs.declared.result.Failure.{Failure}
+use Rattle.mk_driver.specs.declared.result.Failure.TheVariants.{JobFailed, Expand}
+use Rattle.mk_driver.specs.declared.result.Halt.{Halt}
+use Rattle.mk_driver.specs.declared.result.Halt.TheVariants as halts
+use Rattle.mk_driver.proofs.ItemLemmas.{reported_all-append, outputs_of-append, build_after_all-append, Makes-append, failure-events, told-none, told-then, run-legal}
 use Rattle.mk_driver.proofs.LineLemmas.{so_far-weaken}
 use Rattle.mk_driver.proofs.MakeLemmas.{reported-steps, outputs-steps, after-steps, makes-steps}
-use Rattle.mk_world.proofs.IdleLemmas.{IsIdle}
-use Rattle.mk_driver.proofs.NodeLemmas as nodes
+use Rattle.mk_driver.proofs.NodeLemmas.{length-predecessors, next-over}
 use Rattle.mk_driver.proofs.SettledLemmas.{told-settled}
 
 -- items that change nothing of a build: steps of children, and children that were given up
@@ -48,16 +62,17 @@ quiet-leaves work (leaves ticket owner ∷ items) are =
       reported = more.reported;
       outputs = more.outputs;
       after = more.after;
-      makes = λ tasks build. (tt, tt, more.makes tasks build);
+      makes = λ tasks build. (tt, tt, tt, more.makes tasks build);
     }
 quiet-leaves work (looks node path when ∷ items) are = absurd are
 quiet-leaves work (keeps node ∷ items) are = absurd are
-quiet-leaves work (refuses node number ∷ items) are = absurd are
+quiet-leaves work (refuses node number what ∷ items) are = absurd are
 quiet-leaves work (starts node number ticket owner cmd ∷ items) are = absurd are
 quiet-leaves work (passes node number ∷ items) are = absurd are
 quiet-leaves work (waits ∷ items) are = absurd are
 quiet-leaves work (steps ticket owner deed time ∷ items) are = absurd are
 quiet-leaves work (ends node number owner ended ∷ items) are = absurd are
+quiet-leaves work (removes node path time ∷ items) are = absurd are
 
 quiet-append : (work : Work) (items more : List Item) → AreQuiet work items → AreQuiet work more
     → AreQuiet work (items ++ more)
@@ -77,10 +92,10 @@ prints-out true first now next bytes same prints = rw same prints
 prints-out false first now next bytes same prints = rw same prints
 
 made-quiet : (work : Work) (tasks : run.Tasks) (cut : Bool) (first now next : Moment)
-    (items quiet : List Item) (P : Standing) → AreQuiet work quiet → next.out ≡ now.out
-    → IsMade work tasks cut first now items P
-    → IsMade work tasks cut first next (items ++ quiet) P
-made-quiet work tasks cut first now next items quiet P are same made =
+    (last : Option ℕ) (items quiet : List Item) (P : Standing) → AreQuiet work quiet
+    → next.out ≡ now.out → IsMade work tasks cut first now last items P
+    → IsMade work tasks cut first next last (items ++ quiet) P
+made-quiet work tasks cut first now next last items quiet P are same made =
     let reported : reported_all (items ++ quiet) ≡ reported_all items =
     reported_all-append items quiet ∙ rw are.reported (append-nil (reported_all items)) in
     let outputs : outputs_of (items ++ quiet) ≡ outputs_of items =
@@ -95,20 +110,22 @@ made-quiet work tasks cut first now next items quiet P are same made =
           (are.makes tasks build);
       printed = rw printed (prints-out cut first now next _ same made.printed);
       ended = rw (printed, outputs) made.ended;
-      stands = rw (after, reported) made.stands;
+      last_is = rw printed made.last_is;
+      stands = rw after made.stands;
     }
 
 -- a build at its end, behind which the children that still ran were given up
 pub ended-build : (meaning : Meaning) (work : Work) (result : BuildResult)
-    (first now next : Moment) → EndedBy meaning work result first now
+    (first now next : Moment) → EndedAt meaning work result first now
     → Called meaning now.history next.history AreLeaveItems
     → next.events ≡ now.events → next.out ≡ now.out
     → IsIdle first.history → IsIdle next.history
     → IsBuild meaning work (is_cut result) first next (StandsBy work result)
 ended-build meaning work result first now next ended call events out idle still =
     let known = ended.0 in
-    let so = ended.1 in
-    let tasks : run.Tasks = λ node. get_or known node [] in
+    let last = ended.1 in
+    let so = ended.2 in
+    let tasks : run.Tasks = λ node. unwrap_or (known node) [] in
     let quiet = call.early ++ (call.own ++ call.late) in
     let are = quiet-append work call.early (call.own ++ call.late)
     (quiet-steps work call.early call.early_steps)
@@ -120,8 +137,9 @@ ended-build meaning work result first now next ended call events out idle still 
     ∙ rw are.reported (append-nil (reported_all so.items)))) in
     let told = told-then meaning so.items quiet first.history now.history next.history so.told
     call.told in
-    let made = made-quiet work tasks (is_cut result) first now next so.items quiet
-    (StandsBy work result) are out (so.made tasks (λ node within. refl)) in
+    let made = made-quiet work tasks (is_cut result) first now next last so.items quiet
+    (λ tasks build. StandsBy work result build) are out
+    (so.made tasks (λ node lines is. ap (λ l. unwrap_or l []) is)) in
     record {
       tasks = tasks;
       items = items;
@@ -134,59 +152,161 @@ ended-build meaning work result first now next ended call events out idle still 
       printed = subst
           (λ (e : List Event). Prints (is_cut result) first next
           (output (job_of work tasks) (outputs_of items) e)) (sym reported) made.printed;
-      stands = subst
-          (λ (e : List Event). StandsBy work result tasks
-          (build_after_all work tasks (first_build work) items) (run.first_failure tasks e))
-          (sym reported) made.stands;
+      stands = made.stands;
+      failure = ap (run.first_failure tasks) reported
+          ∙ sym (failure-events work tasks (first_build work) items);
     }
 
-undecided-first : (plan : List PlanNode)
-    → map (λ (before : List ℕ). Undecided) (map (λ (node : PlanNode). node.before) plan)
-    ≡ map (λ (node : PlanNode). Undecided) plan
-undecided-first [] = refl
-undecided-first (node ∷ plan) = ap (λ l. Undecided ∷ l) (undecided-first plan)
+map-undecided : (plan : List PlanNode)
+    → map (λ (before : List ℕ). Undecided) (predecessors plan) ≡ none_decided plan
+map-undecided [] = refl
+map-undecided (node ∷ plan) = ap (λ l. Undecided ∷ l) (map-undecided plan)
 
--- before the first node
-pub ready-first : (meaning : Meaning) (work : Work) (first : Moment) → first.events ≡ []
-    → ReadyAt meaning work 0 first first
-ready-first meaning work first none = (
-  [],
-  refl,
+-- the beginning of a build
+pub going-first : (meaning : Meaning) (work : Work) (course : Course) (jobs : ℕ)
+    (keep_going : Bool) (history : Option History) (out : Option (List ℕ))
+    → IsFirstCourse work.plan jobs keep_going course
+    → GoingAt meaning work history course (moment history out []) out
+going-first meaning work course jobs keep_going history out is = (
+  (λ node. None),
+  (λ node undecided. refl),
   record {
     items = [];
-    reported = none;
-    told = told-none meaning first.history;
+    reported = is.events;
+    told = told-none meaning history;
     made = λ tasks has. record {
       makes = tt;
-      printed = Gains-nothing first.out;
+      printed = Gains-nothing out;
       ended = refl;
+      last_is = sym is.last;
       stands = record {
-        nodes = undecided-first work.plan;
-        due = refl;
-        unseen = λ node later. refl;
-        unfailed = refl;
+        nodes_are = map-undecided work.plan ∙ ap (λ (s : Schedule). s.nodes) (sym is.sched);
+        due_is = refl;
+        running = rw is.jobs_are tt;
+        failed = sym is.failure;
+        none_doomed = refl;
+        fresh = λ node undecided. refl;
       };
     };
   },
 )
 
--- behind the last node a build is done
-pub ended-done : (meaning : Meaning) (work : Work) (first now : Moment)
-    → ReadyAt meaning work (length work.plan) first now
-    → EndedBy meaning work ended.Done first now
-ended-done meaning work first now ready = (
-  ready.0,
-  so_far-weaken meaning work first now ready.0 ready.0 (IsReady work (length work.plan))
-      (IsAllMade work) ready.2 (λ tasks has. has)
-      (λ tasks build failure has is.
-      let all : build.run.nodes ≡ map (λ (node : PlanNode). Settled) work.plan ++ [] =
-      is.nodes ∙ rw (take-length work.plan, drop-length work.plan) refl in
-      record {
-        over = record {
-          due = is.due;
-          none_open = rw all (nodes.open_jobs-all work.plan);
-          none_ready = rw all (nodes.may_decide-all (rules_of work) work.plan refl);
-        };
-        unfailed = is.unfailed;
-      }),
+over-of : (work : Work) (failure : Option Failure) (build : Build) (tasks : run.Tasks)
+    (known : Known) (nodes : List NodeState) (jobs : List Job)
+    → may_decide (rules_of work) nodes ≡ None → open_jobs nodes ≡ 0
+    → IsGoing known nodes run.anything jobs failure tasks build → IsOver work failure build
+over-of work failure build tasks known nodes jobs none none_open is = record {
+  over = record {
+    due = is.due_is;
+    none_open = rw is.nodes_are none_open;
+    none_ready = rw is.nodes_are none;
+  };
+  failed = is.failed;
+  none_doomed = is.none_doomed;
+}
+
+stands-result : (work : Work) (failure : Option Failure) (build : Build)
+    → IsOver work failure build → StandsBy work (result_of failure) build
+stands-result work None build over = over
+stands-result work (Some (JobFailed n number status)) build over = over
+stands-result work (Some (Expand n number what)) build over = over
+
+uncut : (failure : Option Failure) → false ≡ is_cut (result_of failure)
+uncut None = refl
+uncut (Some (JobFailed n number status)) = refl
+uncut (Some (Expand n number what)) = refl
+
+-- a build that is over ends by its first failure
+pub ended-over : (meaning : Meaning) (work : Work) (course : Course) (history : Option History)
+    (first : Moment) (out : Option (List ℕ))
+    → course.sched.rules ≡ rules_of work → next_of course.sched ≡ Over
+    → GoingAt meaning work history course first out
+    → EndedAt meaning work (result_of course.failure) first (moment history out course.events)
+ended-over meaning work course history first out rules over going =
+    let is = next-over (may_decide course.sched.rules course.sched.nodes)
+    (open_jobs course.sched.nodes) over in
+    let none : may_decide (rules_of work) course.sched.nodes ≡ None =
+    subst (λ (r : Rules). may_decide r course.sched.nodes ≡ None) rules is.0 in (
+      going.0,
+      course.last_shown,
+      subst (λ b. SoFar meaning work b first (moment history out course.events) course.last_shown going.0
+          (λ tasks build. StandsBy work (result_of course.failure) build)) (uncut course.failure)
+          (so_far-weaken meaning work false first (moment history out course.events) course.last_shown
+          going.0 going.0 _ _ going.2 (λ tasks has. has)
+          (λ tasks build has is_going. stands-result work course.failure build
+          (over-of work course.failure build tasks going.0 course.sched.nodes course.jobs.items none is.1
+          is_going))),
+    )
+
+-- a build that did not begin
+pub ended-none : (meaning : Meaning) (work : Work) (history : Option History)
+    (out : Option (List ℕ))
+    → EndedAt meaning work ended.NoMemory (moment history out []) (moment history out [])
+ended-none meaning work history out = (
+  (λ node. None),
+  None,
+  record {
+    items = [];
+    reported = refl;
+    told = told-none meaning history;
+    made = λ tasks has. record {
+      makes = tt;
+      printed = Gains-nothing out;
+      ended = refl;
+      last_is = refl;
+      stands = tt;
+    };
+  },
 )
+
+-- a build that the outside has ended
+pub ended-halted : (meaning : Meaning) (work : Work) (halt : Halt) (history : Option History)
+    (events : List Event) (first : Moment) (out : Option (List ℕ))
+    → HaltedAt meaning work halt history events first out
+    → EndedAt meaning work (of_halt halt) first (moment history out events)
+ended-halted meaning work halts.World history events first out at = at
+ended-halted meaning work halts.Sink history events first out at = at
+ended-halted meaning work halts.NoMemory history events first out at = at
+
+none_open : (plan : List PlanNode) → open_jobs (none_decided plan) ≡ 0
+none_open [] = refl
+none_open (node ∷ plan) = none_open plan
+
+none_failed : (plan : List PlanNode) → list_any is_failed (none_decided plan) ≡ false
+none_failed [] = refl
+none_failed (node ∷ plan) = none_failed plan
+
+as_many : (plan : List PlanNode) → length (none_decided plan) ≡ length (predecessors plan)
+as_many [] = refl
+as_many (node ∷ plan) = ap suc (as_many plan)
+
+-- what the driver keeps fits together at the beginning
+pub fits-first : (work : Work) (course : Course) (jobs room : ℕ) → jobs ≡ jobs_of work
+    → IsFirstCourse work.plan jobs work.flags.keep_going course → length work.plan < 2 ^ 32
+    → jobs ≤ 256 → room ≡ jobs → Fits work course [] room 0
+fits-first work course jobs room jobs_are is short few room_is =
+    let long : length (predecessors work.plan) ≡ length work.plan = length-predecessors work.plan in
+    let some : 0 ≤ jobs_of work = omega arith in
+    rw (is.sched, is.jobs_are, is.failure, room_is, jobs_are) (record {
+      rules_are = refl;
+      told = record {
+        as_many = as_many work.plan;
+        short = rw long short;
+        tokens_are = sym (none_open work.plan);
+        failed_is = sym (none_failed work.plan);
+      };
+      jobs_are = tt;
+      tickets_are = λ ticket. refl;
+      as_long = refl;
+      room_is = omega arith;
+      few = rw (← jobs_are) few;
+      within = omega arith;
+    })
+
+-- there are no more jobs than may be
+pub jobs-few : (work : Work) → work.flags.jobs ≤ 256 → jobs_of work ≤ 256
+jobs-few work few = by work.one_job
+  where
+    by : (one : Bool) → (if one then 1 else work.flags.jobs) ≤ 256
+    by true = omega arith
+    by false = few

@@ -1,229 +1,155 @@
 -- A build so far, and the decision of a node.
-use Rattle.std.proofs.Common.{◌≡◌, ◌≢◌, ◌∙◌, ◌⊎◌, ℕ, ◌+◌, ◌<◌, ◌≤◌, List, [], ◌∷◌, ◌++◌, length, Option, false}
-use Rattle.std.proofs.Common.{inl, inr, refl, sym, ap, subst, length-append, arith}
-use Rattle.std.proofs.Math.Seq.{get_or-append_seam}
-use Rattle.std.proofs.lemmas.List.{append-nil, get_or_append_left}
-use Rattle.mk_expand.specs.declared.fault.ExpandFault.{ExpandFault}
+use Rattle.std.proofs.Common.{◌≡◌, ◌≢◌, ℕ, ◌<◌, List, [], ◌∷◌, ◌++◌, length, get_or, set, Option, Some, false}
+use Rattle.std.proofs.Common.{◌⊎◌, inl, inr, Result, Ok, Err, IfOk, refl}
 use Rattle.mk_expand.specs.declared.fault.ExpandFault.TheVariants as expand
+use Rattle.mk_expand.specs.declared.fault.ExpandFault.{ExpandFault}
+use Rattle.mk_plan.specs.Asking.{Seen}
+use Rattle.mk_plan.specs.Deciding.{may_decide}
+use Rattle.mk_plan.specs.declared.plan.NodeState.{NodeState}
+use Rattle.mk_plan.specs.declared.plan.NodeState.TheVariants.{Undecided, Open, Settled, Failed}
 use Rattle.mk_plan.specs.Refusals.{IsOwn, IsTaskFault}
 use Rattle.mk_plan.specs.declared.fault.TaskFault.{TaskFault}
-use Rattle.mk_plan.specs.declared.plan.NodeState.TheVariants.{Undecided}
 use Rattle.mk_world.specs.Talks.{Meaning}
-use Rattle.mk_world.specs.Told.{Told}
-use Rattle.mk_world.specs.declared.command.TaskLine.{TaskLine}
-use Rattle.mk_plan.specs.Asking.{Seen}
-use Rattle.mk_driver.specs.Builds.{Work, Build, Sight, Moment, HasFault, rules_of, source_names, task_by, IsKept, IsBegun}
-use Rattle.mk_driver.specs.Calls.{Called, NoItem, look_items}
-use Rattle.mk_driver.specs.Sights.{seen_of}
-use Rattle.mk_driver.specs.declared.result.BuildResult.{BuildResult}
+use Rattle.mk_world.specs.declared.history.History.{History}
+use Rattle.mk_world.specs.declared.fault.WorldFault.{WorldFault}
+use Rattle.mk_world.specs.declared.fault.WorldFault.TheVariants as world
 use Rattle.mk_world.specs.declared.time.When.{When}
-use Rattle.mk_driver.specs.Items.{keeps, refuses, reported_all, outputs_of, Happened}
-use Rattle.mk_driver.specs.Progress.{AtNode, HasTasks, SoFar, IsReady, IsSeen, IsPoised, IsBehind, IsUnexpanded, BegunAt, EndedBy, ReadyAt}
+use Rattle.mk_world.specs.declared.command.TaskLine.{TaskLine}
+use Rattle.mk_driver.specs.Builds.{Work, Moment, Sight, rules_of, or_next, task_by, IsKept, IsBegun, IsRefused}
+use Rattle.mk_driver.specs.Ages.{IsWalk}
+use Rattle.mk_driver.specs.Calls.{LooksAt}
+use Rattle.mk_driver.specs.Items.{keeps, refuses}
+use Rattle.mk_driver.specs.Jobs.{AreApart}
+use Rattle.mk_driver.specs.Progress.{Known, AreUnknown, SoFar, IsDecision, IsGoing, IsSeen, IsBehind}
 use Rattle.mk_driver.specs.Runs as run
-use Rattle.mk_driver.specs.declared.event.Event.{Event}
+use Rattle.mk_driver.specs.Sights.{seen_of}
+use Rattle.mk_driver.specs.declared.decision.Decision.{Decision}
+use Rattle.mk_driver.specs.declared.decision.Decision.TheVariants.{Refuse}
 use Rattle.mk_driver.specs.declared.event.Event.TheVariants as event
-use Rattle.mk_driver.specs.declared.result.BuildResult.TheVariants as ended
-use Rattle.mk_driver.proofs.LineLemmas.{silent, so_far-own, so_far-weaken, so_far-nothing, ended-outside}
-use Rattle.mk_driver.proofs.EventLemmas.{called-none}
-use Rattle.mk_driver.proofs.MakeLemmas.{so_far-called}
-use Rattle.mk_driver.proofs.StepLemmas.{seen-nothing, go_on-looks, go_on-keeps, go_on-refuses, decides}
-
--- tasks that begin with some, and one more
-has-known : (tasks : run.Tasks) (known : List (List TaskLine)) (lines : List TaskLine)
-    → HasTasks tasks (known ++ lines ∷ []) → HasTasks tasks known
-has-known tasks known lines has node within =
-    has node (rw (length-append known (lines ∷ [])) (omega arith))
-    ∙ get_or_append_left known (lines ∷ []) [] node within
-
-has-last : (tasks : run.Tasks) (known : List (List TaskLine)) (lines : List TaskLine) (n : ℕ)
-    → length known ≡ n → HasTasks tasks (known ++ lines ∷ []) → tasks n ≡ lines
-has-last tasks known lines n long has =
-    has n (rw (length-append known (lines ∷ [])) (omega arith))
-    ∙ rw (← long) (get_or-append_seam known lines [] [])
-
-long-more : (known : List (List TaskLine)) (lines : List TaskLine) (n : ℕ) → length known ≡ n
-    → length (known ++ lines ∷ []) ≡ n + 1
-long-more known lines n long = length-append known (lines ∷ []) ∙ rw long refl
-
-looks-report : (n : ℕ) (seen : List Seen) → reported_all (look_items n seen) ≡ []
-looks-report n [] = refl
-looks-report n (one ∷ seen) = looks-report n seen
-
-looks-output : (n : ℕ) (seen : List Seen) → outputs_of (look_items n seen) ≡ []
-looks-output n [] = refl
-looks-output n (one ∷ seen) = looks-output n seen
-
--- a node was looked at, behind earlier looks
-pub so_far-looks_more : (meaning : Meaning) (work : Work) (n : ℕ) (seen more : List Seen)
-    (known : List (List TaskLine)) (first now next : Moment) → AtNode work n
-    → SoFar meaning work false first now known (IsSeen work n seen)
-    → Told now.history next.history (Happened meaning (look_items n more))
-    → next.events ≡ now.events → next.out ≡ now.out
-    → SoFar meaning work false first next known (IsSeen work n (seen ++ more))
-so_far-looks_more meaning work n seen more known first now next at so told events out =
-    let call : Called meaning now.history next.history (λ own. own ≡ look_items n more) = record {
-      early = [];
-      own = look_items n more;
-      late = [];
-      early_steps = tt;
-      late_steps = tt;
-      is_own = refl;
-      told = subst (λ l. Told now.history next.history (Happened meaning l))
-          (sym (append-nil (look_items n more))) told;
-    } in
-    so_far-called meaning work false first now next known known (IsSeen work n seen)
-    (IsSeen work n (seen ++ more)) (λ own. own ≡ look_items n more) so call
-    (events ∙ (sym (append-nil now.events)
-    ∙ ap (λ l. now.events ++ l) (sym (looks-report n more))))
-    (λ tasks has. has)
-    (λ tasks build failure has is. go_on-looks work n tasks more at build failure seen is)
-    (λ tasks has. silent work tasks now next (look_items n more) out (looks-output n more)
-    (λ outputs p. rw (looks-report n more) refl))
-
--- a kept node
-pub ready-kept : (meaning : Meaning) (work : Work) (n : ℕ) (seen : List Seen)
-    (known : List (List TaskLine)) (first now next : Moment) → AtNode work n → length known ≡ n
-    → SoFar meaning work false first now known (IsSeen work n seen) → IsKept work n seen
-    → next.history ≡ now.history → next.events ≡ now.events ++ event.Kept n ∷ []
-    → next.out ≡ now.out → ReadyAt meaning work (n + 1) first next
-ready-kept meaning work n seen known first now next at long so kept history events out = (
-  known ++ [] ∷ [],
-  long-more known [] n long,
-  so_far-own meaning work first now next known (known ++ [] ∷ []) (IsSeen work n seen)
-      (IsReady work (n + 1)) (keeps n ∷ []) so refl (λ stand. (tt, tt)) refl history events out
-      (λ tasks has. has-known tasks known [] has)
-      (λ tasks build failure has is. go_on-keeps work n tasks at build failure seen is kept)
-      (λ tasks has outputs p. refl),
-)
-
--- a node without commands is not looked at
-pub seen-at_once : (meaning : Meaning) (work : Work) (n : ℕ) (known : List (List TaskLine))
-    (first now : Moment) → AtNode work n
-    → SoFar meaning work false first now known (IsReady work n)
-    → SoFar meaning work false first now known (IsSeen work n [])
-seen-at_once meaning work n known first now at so =
-    so_far-weaken meaning work first now known known (IsReady work n) (IsSeen work n []) so
-    (λ tasks has. has)
-    (λ tasks build failure has is. seen-nothing work n tasks build failure at.within is)
+use Rattle.mk_driver.specs.declared.job.Job.{Job}
+use Rattle.mk_driver.specs.declared.result.Failure.{Failure}
+use Rattle.mk_driver.specs.declared.result.Failure.TheVariants.{Expand}
+use Rattle.mk_driver.specs.declared.sight.Sighting.{Sighting}
+use Rattle.mk_driver.proofs.LineLemmas.{so_far-own, so_far-weaken}
+use Rattle.mk_driver.proofs.LookLemmas.{looks-output, looks-report}
+use Rattle.mk_driver.proofs.MakeLemmas.{so_far-items}
+use Rattle.mk_driver.proofs.NodeLemmas.{unknown-begun}
+use Rattle.mk_driver.proofs.StepLemmas.{behind-begun, go_on-keeps, go_on-looks, go_on-refuses, has-before, other_node, seen-nothing, waiting-at, with_task}
 
 -- a node was looked at
-pub so_far-looks : (meaning : Meaning) (work : Work) (n : ℕ) (seen : List Seen)
-    (known : List (List TaskLine)) (first now next : Moment) → AtNode work n
-    → SoFar meaning work false first now known (IsReady work n)
-    → Told now.history next.history (Happened meaning (look_items n seen))
-    → next.events ≡ now.events → next.out ≡ now.out
-    → SoFar meaning work false first next known (IsSeen work n seen)
-so_far-looks meaning work n seen known first now next at so told events out =
-    so_far-looks_more meaning work n [] seen known first now next at
-    (seen-at_once meaning work n known first now at so) told events out
+pub so_far-looks : (meaning : Meaning) (work : Work) (known : Known) (nodes : List NodeState)
+    (jobs : List Job) (failure : Option Failure) (n : ℕ) (seen : List Seen) (last : Option ℕ)
+    (first now next : Moment)
+    → SoFar meaning work false first now last known
+    (IsGoing known nodes run.anything jobs failure)
+    → get_or nodes n Failed ≡ Undecided → may_decide (rules_of work) nodes ≡ Some n
+    → LooksAt meaning now.history next.history n seen → next.events ≡ now.events
+    → next.out ≡ now.out
+    → SoFar meaning work false first next last known (IsSeen known nodes jobs failure n seen)
+so_far-looks meaning work known nodes jobs failure n seen last first now next so undecided may looked
+    events out =
+    so_far-items meaning work first now next last known
+    (IsGoing known nodes run.anything jobs failure) (IsSeen known nodes jobs failure n seen)
+    looked.items so looked.told events (looks-report n seen looked.items looked.are)
+    (looks-output n seen looked.items looked.are) out
+    (λ tasks build is. go_on-looks work known nodes jobs failure n tasks looked.items seen
+    (waiting-at work nodes n undecided may) looked.are build []
+    (seen-nothing known nodes jobs failure n tasks build undecided is))
 
-poised-first : (work : Work) (n : ℕ) (seen : List Seen) (lines : List TaskLine)
-    (tasks : run.Tasks) (build : Build) (failure : Option Event) → AtNode work n
-    → tasks n ≡ lines → 0 < length lines → IsBegun work n seen lines
-    → IsSeen work n seen tasks build failure → IsPoised work n lines 1 tasks build failure
-poised-first work n seen lines tasks build failure at task some begun is = record {
-  task = task;
-  may = subst (run.MayStart (rules_of work) tasks build.run n 1) (sym is.due)
-      (rw is.nodes (decides work n at), refl, rw task some);
-  reason = λ first. subst (λ l. IsBegun work n l lines) (sym is.now) begun;
-  stands = Undecided;
-  nodes = is.nodes;
-  unseen = is.unseen;
-  unfailed = is.unfailed;
-}
-
--- a node whose lines are to be started
-pub begun-at : (meaning : Meaning) (work : Work) (n : ℕ) (seen : List Seen)
-    (lines : List TaskLine) (known : List (List TaskLine)) (first now : Moment) → AtNode work n
-    → length known ≡ n → SoFar meaning work false first now known (IsSeen work n seen)
-    → 0 < length lines → IsBegun work n seen lines
-    → BegunAt meaning work n lines (known ++ lines ∷ []) first now
-begun-at meaning work n seen lines known first now at long so some begun = record {
-  so_far = so_far-weaken meaning work first now known (known ++ lines ∷ []) (IsSeen work n seen)
-      (IsBehind work n lines 0) so (λ tasks has. has-known tasks known lines has)
-      (λ tasks build failure has is. (
-        (λ more. poised-first work n seen lines tasks build failure at
-            (has-last tasks known lines n long has) some begun is),
-        (λ none. absurd (none_left (length lines) some none)),
-      ));
-  long = long-more known lines n long;
-  known_is = rw (← long) (get_or-append_seam known lines [] []);
-}
-  where
-    none_left : (k : ℕ) → 0 < k → k ≤ 0 → ⊥
-    none_left k some none = omega arith
-
--- behind the lines of a node the next one is ready
-pub ready-made : (meaning : Meaning) (work : Work) (n : ℕ) (lines : List TaskLine)
-    (known : List (List TaskLine)) (first next : Moment) → length known ≡ n
-    → SoFar meaning work false first next (known ++ lines ∷ []) (IsReady work (n + 1))
-    → ReadyAt meaning work (n + 1) first next
-ready-made meaning work n lines known first next long so =
-    (known ++ lines ∷ [], long-more known lines n long, so)
+-- a kept node
+pub so_far-keeps : (meaning : Meaning) (work : Work) (known : Known) (nodes : List NodeState)
+    (jobs : List Job) (failure : Option Failure) (n : ℕ) (seen : List Seen) (last : Option ℕ)
+    (first now next : Moment)
+    → SoFar meaning work false first now last known (IsSeen known nodes jobs failure n seen)
+    → n < length nodes → may_decide (rules_of work) nodes ≡ Some n → IsKept work n seen
+    → next.history ≡ now.history → next.events ≡ now.events ++ event.Kept n ∷ []
+    → next.out ≡ now.out
+    → SoFar meaning work false first next last known
+    (IsGoing known (set nodes n Settled) run.anything jobs failure)
+so_far-keeps meaning work known nodes jobs failure n seen last first now next so within may kept history
+    events out =
+    so_far-own meaning work first now next last known known (IsSeen known nodes jobs failure n seen)
+    (IsGoing known (set nodes n Settled) run.anything jobs failure) (keeps n ∷ []) so refl
+    (λ stand. (tt, tt)) refl history events out (λ tasks has. has)
+    (λ tasks build has is. go_on-keeps work known nodes jobs failure n tasks seen build within may is
+    kept)
+    (λ tasks build has is outputs p. refl)
 
 -- a refused node
-pub ended-refused : (meaning : Meaning) (work : Work) (n number : ℕ) (what : ExpandFault)
-    (seen : List Seen) (known : List (List TaskLine)) (first now next : Moment) → AtNode work n
-    → SoFar meaning work false first now known (IsSeen work n seen) → (sight : Sight work n seen)
-    → HasFault work n sight.target sight.sources sight.asked number what
+pub so_far-refuses : (meaning : Meaning) (work : Work) (known : Known) (nodes : List NodeState)
+    (jobs : List Job) (failure : Option Failure) (n number : ℕ) (what : ExpandFault)
+    (seen : List Seen) (last : Option ℕ) (first now next : Moment)
+    → SoFar meaning work false first now last known (IsSeen known nodes jobs failure n seen)
+    → n < length nodes → may_decide (rules_of work) nodes ≡ Some n
+    → IsRefused work n seen number what
     → next.history ≡ now.history → next.events ≡ now.events ++ event.Refused n number ∷ []
-    → next.out ≡ now.out → EndedBy meaning work (ended.Expand n number what) first next
-ended-refused meaning work n number what seen known first now next at so sight fault history events out = (
-  known,
-  so_far-own meaning work first now next known known (IsSeen work n seen)
-      (IsUnexpanded work n number what) (refuses n number ∷ []) so refl (λ stand. (tt, tt)) refl
-      history events out (λ tasks has. has)
-      (λ tasks build failure has is. go_on-refuses work n number tasks what at build failure seen is
-      sight fault)
-      (λ tasks has outputs p. refl),
-)
+    → next.out ≡ now.out
+    → SoFar meaning work false first next last known
+    (IsGoing known (set nodes n Failed) run.anything jobs
+    (or_next failure (Some (Expand n number what))))
+so_far-refuses meaning work known nodes jobs failure n number what seen last first now next so within
+    may refused history events out =
+    so_far-own meaning work first now next last known known (IsSeen known nodes jobs failure n seen)
+    (IsGoing known (set nodes n Failed) run.anything jobs
+    (or_next failure (Some (Expand n number what)))) (refuses n number what ∷ []) so refl
+    (λ stand. (tt, tt)) refl history events out (λ tasks has. has)
+    (λ tasks build has is. go_on-refuses work known nodes jobs failure n number what tasks seen build
+    within may is refused)
+    (λ tasks build has is outputs p. refl)
+
+-- the lines of a node are to be started
+pub so_far-begun : (meaning : Meaning) (work : Work) (known : Known) (nodes : List NodeState)
+    (jobs : List Job) (failure : Option Failure) (n : ℕ) (lines : List TaskLine)
+    (seen : List Seen) (last : Option ℕ) (first now : Moment)
+    → SoFar meaning work false first now last known (IsSeen known nodes jobs failure n seen)
+    → n < length nodes → get_or nodes n Failed ≡ Undecided
+    → may_decide (rules_of work) nodes ≡ Some n → AreApart n jobs → AreUnknown known nodes
+    → IsBegun work n seen lines → 0 < length lines
+    → (more : Known) × AreUnknown more (set nodes n Open)
+    × SoFar meaning work false first now last more
+    (IsBehind work more (set nodes n Open) jobs failure n lines 0)
+so_far-begun meaning work known nodes jobs failure n lines seen last first now so within undecided may
+    apart unknown begun some =
+    let more = with_task known n lines in (
+      more,
+      unknown-begun known more nodes n Open within (λ is. cc)
+          (λ one other. rw (other_node n one other) refl) unknown,
+      so_far-weaken meaning work false first now last known more
+          (IsSeen known nodes jobs failure n seen)
+          (IsBehind work more (set nodes n Open) jobs failure n lines 0) so
+          (λ tasks has. has-before known n lines tasks (unknown n undecided) has)
+          (λ tasks build has is. behind-begun work known nodes jobs failure n lines tasks seen build
+          within may apart has is begun some),
+    )
 
 -- the looks at a node's target and sources, by their times, and those for `exists`
-abbrev pub sight-of : (work : Work) (n : ℕ) (target : When) (sources : List When)
-    (asked : List Seen) → length sources ≡ length (source_names work n)
+abbrev pub sight-of : (work : Work) (n : ℕ) (target : When) (sources : List Sighting)
+    (asked : List Seen) → IsWalk work.plan n target sources
     → Sight work n (seen_of work.plan n target sources ++ asked)
-sight-of work n target sources asked each =
-    record { target = target; sources = sources; asked = asked; are = refl; each = each }
+sight-of work n target sources asked walk =
+    record { target = target; sources = sources; asked = asked; are = refl; walk = walk }
 
--- a build that the outside ended while a node was seen
-ended-seen : (meaning : Meaning) (work : Work) (n : ℕ) (result : BuildResult) (seen : List Seen)
-    (known : List (List TaskLine)) (first now next : Moment)
-    → SoFar meaning work false first now known (IsSeen work n seen)
-    → (result ≡ ended.World) ⊎ (result ≡ ended.NoMemory)
-    → next.history ≡ now.history → next.events ≡ now.events → next.out ≡ now.out
-    → EndedBy meaning work result first next
-ended-seen meaning work n result seen known first now next so outside history events out =
-    let call : Called meaning now.history next.history NoItem =
-    subst (λ h. Called meaning now.history h NoItem) (sym history) (called-none meaning now.history) in
-    ended-outside meaning work result first next known (IsSeen work n seen) outside
-    (so_far-nothing meaning work first now next known _ so call events out)
+-- what is decided of a node by these looks, and why
+abbrev pub IsDecided : Meaning → Work → Option History → Option History → ℕ → List Seen
+    → Result Decision WorldFault → Type 0
+IsDecided meaning work a b n sighted result = IfOk result (λ decision. (asked : List Seen)
+    × LooksAt meaning a b n asked × IsDecision work n (sighted ++ asked) decision)
 
--- how a build ends with a node whose task has a fault
-pub ended-fault : (meaning : Meaning) (work : Work) (n : ℕ) (fault : TaskFault)
-    (result : BuildResult) (target : When) (sources : List When) (asked : List Seen)
-    (known : List (List TaskLine)) (first now next : Moment) → AtNode work n
-    → SoFar meaning work false first now known
-    (IsSeen work n (seen_of work.plan n target sources ++ asked))
-    → length sources ≡ length (source_names work n)
+-- the decision of a node whose task has a fault
+pub decided-fault : (meaning : Meaning) (work : Work) (a b : Option History) (n : ℕ)
+    (fault : TaskFault) (result : Result Decision WorldFault) (target : When) (sources : List Sighting)
+    (asked : List Seen) → IsWalk work.plan n target sources → LooksAt meaning a b n asked
     → IsTaskFault fault (task_by work n target sources asked)
-    → next.history ≡ now.history → next.out ≡ now.out
-    → ((result ≡ ended.NoMemory) × (fault.what ≢ expand.Failed) × (next.events ≡ now.events))
-    ⊎ (((result ≡ ended.World) × (fault.what ≡ expand.Failed) × (next.events ≡ now.events))
-    ⊎ ((result ≡ ended.Expand n fault.line fault.what) × IsOwn fault
-    × (next.events ≡ now.events ++ event.Refused n fault.line ∷ [])))
-    → EndedBy meaning work result first next
-ended-fault meaning work n fault result target sources asked known first now next at so each is
-    history out (inl none) =
-    ended-seen meaning work n result (seen_of work.plan n target sources ++ asked) known first now next
-    so (inr none.0) history none.2 out
-ended-fault meaning work n fault result target sources asked known first now next at so each is
-    history out (inr (inl failed)) =
-    ended-seen meaning work n result (seen_of work.plan n target sources ++ asked) known first now next
-    so (inl failed.0) history failed.2 out
-ended-fault meaning work n fault result target sources asked known first now next at so each (inl free)
-    history out (inr (inr told)) = absurd (told.1 free)
-ended-fault meaning work n fault result target sources asked known first now next at so each (inr is)
-    history out (inr (inr told)) =
-    rw told.0 (ended-refused meaning work n fault.line fault.what
-    (seen_of work.plan n target sources ++ asked) known first now next at so
-    (sight-of work n target sources asked each) is history told.2 out)
+    → ((result ≡ Err world.NoMemory) × (fault.what ≢ expand.Failed))
+    ⊎ (((result ≡ Err world.Failed) × (fault.what ≡ expand.Failed))
+    ⊎ ((result ≡ Ok (Refuse fault.line fault.what)) × IsOwn fault))
+    → IsDecided meaning work a b n (seen_of work.plan n target sources) result
+decided-fault meaning work a b n fault result target sources asked walk looked is (inl none) =
+    rw none.0 tt
+decided-fault meaning work a b n fault result target sources asked walk looked is (inr (inl failed)) =
+    rw failed.0 tt
+decided-fault meaning work a b n fault result target sources asked walk looked (inl free)
+    (inr (inr told)) = absurd (told.1 free)
+decided-fault meaning work a b n fault result target sources asked walk looked (inr is)
+    (inr (inr told)) =
+    rw told.0 (asked, looked, (sight-of work n target sources asked walk, is))

@@ -1,9 +1,7 @@
 -- The last of some events, and the one child that is taken out.
-use Rattle.std.proofs.Common.{◌≡◌, ◌∙◌, ℕ, ◌-◌, List, [], ◌∷◌, ◌++◌, length, take, set, length-append}
+use Rattle.std.proofs.Common.{◌≡◌, ◌∙◌, ◌-◌, List, [], ◌∷◌, ◌++◌, length, take, set, length-append}
 use Rattle.std.proofs.Common.{refl, sym, ap, subst, append_assoc, arith}
 use Rattle.std.proofs.Math.Seq.{set-append_seam, take-append_seam}
-use Rattle.std.proofs.lemmas.Grind.{common_steps}
-use Rattle.mk_world.specs.Calls.{TakenOut}
 use Rattle.mk_world.specs.Talks.{Meaning}
 use Rattle.mk_world.specs.Told.{Told}
 use Rattle.mk_driver.specs.Calls.{AreLeaveItems, Called, NoItem}
@@ -39,20 +37,6 @@ take-last events a b =
     ap (λ n. take n (events ++ a ∷ b ∷ [])) (length-two events a b)
     ∙ (ap (take (length (events ++ a ∷ []))) cut
     ∙ take-append_seam (events ++ a ∷ []) (b ∷ []))
-
--- of one ticket, the one that is taken out is it, and none is left
-taken_from : (ticket taken : ℕ) (front back : List ℕ) → ticket ∷ [] ≡ front ++ taken ∷ back
-    → (taken ≡ ticket) × (front ++ back ≡ [])
-taken_from ticket taken [] [] is = (grind (arith, common_steps), refl)
-taken_from ticket taken [] (other ∷ back) is = cc
-taken_from ticket taken (first ∷ []) back is = cc
-taken_from ticket taken (first ∷ other ∷ front) back is = cc
-
-pub taken-one : (ticket taken : ℕ) (old new : List ℕ) → old ≡ ticket ∷ []
-    → TakenOut taken old new → (taken ≡ ticket) × (new ≡ [])
-taken-one ticket taken old new one out =
-    let from = taken_from ticket taken out.front out.back (sym one ∙ out.was) in
-    (from.0, out.now ∙ from.1)
 
 -- where no call was made
 pub called-none : (meaning : Meaning) (told : Option History) → Called meaning told told NoItem

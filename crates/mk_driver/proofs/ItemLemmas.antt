@@ -1,5 +1,5 @@
 -- Items that follow others.
-use Rattle.std.proofs.Common.{◌≡◌, ◌∙◌, List, [], ◌∷◌, ◌++◌, Option, Some, None}
+use Rattle.std.proofs.Common.{◌≡◌, ◌∙◌, ℕ, List, [], ◌∷◌, ◌++◌, Option, Some, None, Bool, true, false, if◌then◌else◌}
 use Rattle.std.proofs.Common.{refl, sym, ap, subst, append_assoc}
 use Rattle.std.proofs.lemmas.List.{append-nil}
 use Rattle.mk_world.specs.History.{State as Stand, MayAll as MayHappen, after_all as stand_after, state_of, first_state}
@@ -7,10 +7,13 @@ use Rattle.mk_world.specs.Talks.{Meaning}
 use Rattle.mk_world.specs.Told.{Told}
 use Rattle.mk_world.specs.declared.history.History.{History}
 use Rattle.mk_world.proofs.CallLemmas.{after_all-append, MayAll-append}
-use Rattle.mk_driver.specs.Builds.{Work, Build, Makes, build_after, build_after_all, rules_of}
-use Rattle.mk_driver.specs.Items.{Item, reported, reported_all, happened, happened_all, output_of, outputs_of, FitsAll, Happened}
+use Rattle.mk_driver.specs.Builds.{Work, Build, Makes, build_after, build_after_all, rules_of, failure_after, or_next, event_of}
+use Rattle.mk_driver.specs.Items.{Item, looks, keeps, refuses, starts, passes, waits, steps, ends, removes, leaves, reported, reported_all, happened, happened_all, output_of, outputs_of, FitsAll, Happened}
 use Rattle.mk_driver.specs.Runs as run
 use Rattle.mk_driver.specs.declared.event.Event.{Event}
+use Rattle.mk_driver.specs.declared.event.Event.TheVariants.{End}
+use Rattle.mk_driver.specs.declared.result.Failure.{Failure}
+use Rattle.mk_driver.specs.declared.result.Failure.TheVariants.{JobFailed, Expand}
 
 pub reported_all-append : (items more : List Item)
     → reported_all (items ++ more) ≡ reported_all items ++ reported_all more
@@ -102,7 +105,8 @@ Makes-append work tasks build [] more makes then_makes = then_makes
 Makes-append work tasks build (item ∷ items) more makes then_makes = (
   makes.0,
   makes.1,
-  Makes-append work tasks (build_after work tasks build item) items more makes.2 then_makes,
+  makes.2,
+  Makes-append work tasks (build_after work tasks build item) items more makes.3 then_makes,
 )
 
 run_after_all-append : (work : Work) (tasks : run.Tasks) (state : run.State)
@@ -140,4 +144,66 @@ pub run-legal : (work : Work) (tasks : run.Tasks) (build : Build) (items : List 
 run-legal work tasks build [] makes = tt
 run-legal work tasks build (item ∷ items) makes =
     run_MayAll-append work tasks build.run (reported item) (reported_all items) makes.0
-    (run-legal work tasks (build_after work tasks build item) items makes.2)
+    (run-legal work tasks (build_after work tasks build item) items makes.3)
+
+or_next-then : (first second third : Option Event)
+    → run.or_next (run.or_next first second) third ≡ run.or_next first (run.or_next second third)
+or_next-then None second third = refl
+or_next-then (Some event) second third = refl
+
+event_of-next : (first second : Option Failure)
+    → event_of (or_next first second) ≡ run.or_next (event_of first) (event_of second)
+event_of-next None second = refl
+event_of-next (Some (JobFailed node number status)) second = refl
+event_of-next (Some (Expand node number what)) second = refl
+
+none-next : (event : Option Event) → run.or_next event None ≡ event
+none-next None = refl
+none-next (Some event) = refl
+
+end-event : (failure : Option Failure) (node number status : ℕ) (fails : Bool)
+    → event_of (if fails then or_next failure (Some (JobFailed node number status)) else failure)
+    ≡ run.or_next (event_of failure)
+    (run.or_next (if fails then Some (End node number status) else None) None)
+end-event failure node number status true = event_of-next failure (Some (JobFailed node number status))
+end-event failure node number status false = sym (none-next (event_of failure))
+
+-- the first failure behind an item, by the events of the item
+item-failure : (tasks : run.Tasks) (failure : Option Failure) (item : Item)
+    → event_of (failure_after tasks failure item)
+    ≡ run.or_next (event_of failure) (run.first_failure tasks (reported item))
+item-failure tasks failure (looks node path when) = sym (none-next (event_of failure))
+item-failure tasks failure (keeps node) = sym (none-next (event_of failure))
+item-failure tasks failure (refuses node number what) =
+    event_of-next failure (Some (Expand node number what))
+item-failure tasks failure (starts node number ticket owner cmd) = sym (none-next (event_of failure))
+item-failure tasks failure (passes node number) = sym (none-next (event_of failure))
+item-failure tasks failure waits = sym (none-next (event_of failure))
+item-failure tasks failure (steps ticket owner deed time) = sym (none-next (event_of failure))
+item-failure tasks failure (ends node number owner ended) =
+    end-event failure node number ended.status
+    (run.fails (run.line_of (tasks node) number) ended.status)
+item-failure tasks failure (removes node path time) = sym (none-next (event_of failure))
+item-failure tasks failure (leaves ticket owner) = sym (none-next (event_of failure))
+
+pub first_failure-append : (tasks : run.Tasks) (events more : List Event)
+    → run.first_failure tasks (events ++ more)
+    ≡ run.or_next (run.first_failure tasks events) (run.first_failure tasks more)
+first_failure-append tasks [] more = refl
+first_failure-append tasks (event ∷ events) more =
+    ap (run.or_next (run.failure_of tasks event)) (first_failure-append tasks events more)
+    ∙ sym (or_next-then (run.failure_of tasks event) (run.first_failure tasks events)
+    (run.first_failure tasks more))
+
+-- the first failure of a build is the first failing event of its report
+pub failure-events : (work : Work) (tasks : run.Tasks) (build : Build) (items : List Item)
+    → event_of (build_after_all work tasks build items).failure
+    ≡ run.or_next (event_of build.failure) (run.first_failure tasks (reported_all items))
+failure-events work tasks build [] = sym (none-next (event_of build.failure))
+failure-events work tasks build (item ∷ items) =
+    let rest = run.first_failure tasks (reported_all items) in
+    failure-events work tasks (build_after work tasks build item) items
+    ∙ (ap (λ e. run.or_next e rest) (item-failure tasks build.failure item)
+    ∙ (or_next-then (event_of build.failure) (run.first_failure tasks (reported item)) rest
+    ∙ ap (run.or_next (event_of build.failure))
+    (sym (first_failure-append tasks (reported item) (reported_all items)))))

@@ -1,61 +1,47 @@
--- A build so far, and the start, the wait and the end of a line.
-use Rattle.std.proofs.Common.{◌≡◌, ◌∙◌, ◌⊎◌, ℕ, ◌+◌, List, [], ◌∷◌, ◌++◌, length, get_or, Option, Some, None, Bool, true, false}
-use Rattle.std.proofs.Common.{inl, inr, refl, sym, ap, subst, length-append, arith}
+-- A build so far, and the lines of a job.
+use Rattle.std.proofs.Common.{◌≡◌, ◌∙◌, ℕ, ◌+◌, ◌-◌, ◌<◌, ◌||◌, nat_le, List, [], ◌∷◌, ◌++◌, length, get_or, Option, Some, None, Bool, true, false}
+use Rattle.std.proofs.Common.{refl, sym, ap, subst, length-append, arith}
 use Rattle.std.proofs.Math.Seq.{get_or-append_seam}
 use Rattle.std.proofs.lemmas.List.{append-nil}
-use Rattle.mk_world.specs.Sinks.{Gains}
+use Rattle.mk_plan.specs.Deciding.{is_stopped, may_decide, open_jobs}
+use Rattle.mk_plan.specs.declared.plan.NodeState.{NodeState}
+use Rattle.mk_plan.specs.declared.plan.NodeState.TheVariants.{Undecided, Open}
+use Rattle.mk_world.specs.History.{State as Stand}
+use Rattle.mk_world.specs.Sinks.{Gains, GainsPart}
 use Rattle.mk_world.specs.Talks.{Meaning}
 use Rattle.mk_world.specs.declared.command.Cmd.{Cmd}
 use Rattle.mk_world.specs.declared.command.TaskLine.{TaskLine}
+use Rattle.mk_world.specs.declared.history.History.{History}
 use Rattle.mk_world.specs.declared.step.Ended.{Ended}
-use Rattle.mk_world.proofs.SinkLemmas.{Gains-nothing}
-use Rattle.mk_driver.specs.Builds.{Work, Build, Moment, Prints, command_of, job_of}
+use Rattle.mk_driver.specs.Builds.{Work, Build, Moment, Prints, command_of, job_of, rules_of}
 use Rattle.mk_driver.specs.Calls.{Called, NoItem, StartItem, EndItem}
-use Rattle.mk_world.specs.History.{State as Stand}
 use Rattle.mk_driver.specs.Items.{Item, happened_all, FitsAll, starts, passes, waits, ends, reported_all, outputs_of}
-use Rattle.mk_driver.specs.Output.{Printed, printed_all, echo}
-use Rattle.mk_driver.specs.Progress.{AtNode, HasTasks, SoFar, Standing, IsPoised, IsRunning, IsBehind, PoisedAt, EndedBy}
+use Rattle.mk_driver.specs.Jobs.{HasLine, HasToken}
+use Rattle.mk_driver.specs.Makers.{moment}
+use Rattle.mk_driver.specs.Output.{Printed, printed_all, echo, shown, last_behind}
+use Rattle.mk_driver.specs.Progress.{Known, HasTasks, SoFar, Standing, IsGoing, IsPoised, IsBehind, IsEnding, HaltedAt, is_cut_by}
 use Rattle.mk_driver.specs.Runs as run
+use Rattle.mk_driver.specs.Scenes.{Scene, IsOpenScene, BehindIn, HaltedIn}
 use Rattle.mk_driver.specs.Steps.{GoesOn, PrintsOwn}
 use Rattle.mk_driver.specs.declared.event.Event.{Event}
 use Rattle.mk_driver.specs.declared.event.Event.TheVariants as event
-use Rattle.mk_driver.specs.declared.result.BuildResult.{BuildResult}
-use Rattle.mk_driver.specs.declared.result.BuildResult.TheVariants as ended
-use Rattle.mk_driver.proofs.EndLemmas.{go_on-passes}
-use Rattle.mk_driver.proofs.MakeLemmas.{so_far-called}
-use Rattle.mk_driver.proofs.OutputLemmas.{piece-plain, piece-counts}
+use Rattle.mk_driver.specs.declared.job.Job.{Job}
+use Rattle.mk_driver.specs.declared.result.Failure.{Failure}
+use Rattle.mk_driver.specs.declared.result.Halt.{Halt}
+use Rattle.mk_driver.specs.declared.result.Halt.TheVariants as halts
+use Rattle.mk_driver.proofs.EndLemmas.{go_on-passes, go_on-ends}
 use Rattle.mk_driver.proofs.EventLemmas.{called-own}
-use Rattle.mk_driver.proofs.StepLemmas.{go_on-starts, go_on-waits}
-
--- items that print nothing
-pub silent : (work : Work) (tasks : run.Tasks) (now next : Moment) (own : List Item)
-    → next.out ≡ now.out → outputs_of own ≡ []
-    → ((outputs : List (List ℕ)) (p : Printed)
-    → printed_all (job_of work tasks) outputs p (reported_all own) ≡ p)
-    → PrintsOwn work tasks false now next own
-silent work tasks now next own same none nothing = record {
-  text = [];
-  grows = subst (λ o. Gains now.out o []) (sym same) (Gains-nothing now.out);
-  bytes = λ outputs p ended. ap (λ q. q.bytes) (nothing (outputs ++ outputs_of own) p)
-      ∙ sym (append-nil p.bytes);
-  ended = λ outputs p ended. ap (λ q. q.ended) (nothing (outputs ++ outputs_of own) p)
-      ∙ (ended ∙ ap length (sym (ap (λ l. outputs ++ l) none ∙ append-nil outputs)));
-}
-
--- a moment whose report has some more events
-abbrev pub told_more : Moment → List Event → Moment
-told_more now events =
-    record { history = now.history; out = now.out; events = now.events ++ events }
+use Rattle.mk_driver.proofs.MakeLemmas.{silent, so_far-called}
+use Rattle.mk_driver.proofs.StepLemmas.{go_on-starts, go_on-waits, running-take}
 
 -- what is so of a build, may be said less strongly
-pub so_far-weaken : (meaning : Meaning) (work : Work) (first now : Moment)
-    (known later : List (List TaskLine)) (P Q : Standing)
-    → SoFar meaning work false first now known P
-    → ((tasks : run.Tasks) → HasTasks tasks later → HasTasks tasks known)
-    → ((tasks : run.Tasks) (build : Build) (failure : Option Event) → HasTasks tasks later
-    → P tasks build failure → Q tasks build failure)
-    → SoFar meaning work false first now later Q
-so_far-weaken meaning work first now known later P Q so grow weaken = record {
+pub so_far-weaken : (meaning : Meaning) (work : Work) (cut : Bool) (first now : Moment)
+    (last : Option ℕ) (known more : Known) (P Q : Standing)
+    → SoFar meaning work cut first now last known P
+    → ((tasks : run.Tasks) → HasTasks tasks more → HasTasks tasks known)
+    → ((tasks : run.Tasks) (build : Build) → HasTasks tasks more → P tasks build → Q tasks build)
+    → SoFar meaning work cut first now last more Q
+so_far-weaken meaning work cut first now last known more P Q so grow weaken = record {
   items = so.items;
   reported = so.reported;
   told = so.told;
@@ -65,150 +51,85 @@ so_far-weaken meaning work first now known later P Q so grow weaken = record {
         makes = made.makes;
         printed = made.printed;
         ended = made.ended;
-        stands = weaken tasks _ _ has made.stands;
+        last_is = made.last_is;
+        stands = weaken tasks _ has made.stands;
       };
 }
 
-same_failure : (failure : Option Event) → run.or_next failure None ≡ failure
-same_failure None = refl
-same_failure (Some event) = refl
+-- what was printed is a part of itself
+part-whole : (before after : Option (List ℕ)) (bytes : List ℕ) → Gains before after bytes
+    → GainsPart before after bytes
+part-whole before None bytes gains = tt
+part-whole None (Some after) bytes gains = absurd gains
+part-whole (Some before) (Some after) bytes gains =
+    (bytes, record { rest = []; is = sym (append-nil bytes) }, gains)
+
+prints-cut : (cut : Bool) (first now : Moment) (bytes : List ℕ) → Prints false first now bytes
+    → Prints cut first now bytes
+prints-cut true first now bytes prints = part-whole first.out now.out bytes prints
+prints-cut false first now bytes prints = prints
+
+-- a build that the outside ended, as far as it came
+pub halted : (meaning : Meaning) (work : Work) (halt : Halt) (first : Moment)
+    (history : Option History) (out : Option (List ℕ)) (events : List Event) (last : Option ℕ)
+    (known : Known) (P : Standing)
+    → SoFar meaning work false first (moment history out events) last known P
+    → HaltedAt meaning work halt history events first out
+halted meaning work halt first history out events last known P so = (
+  known,
+  last,
+  record {
+    items = so.items;
+    reported = so.reported;
+    told = so.told;
+    made = λ tasks has.
+        let made = so.made tasks has in
+        record {
+          makes = made.makes;
+          printed = prints-cut (is_cut_by halt) first (moment history out events) _ made.printed;
+          ended = made.ended;
+          last_is = made.last_is;
+          stands = tt;
+        };
+  },
+)
 
 -- a call that added steps of children alone
 pub so_far-nothing : (meaning : Meaning) (work : Work) (first now next : Moment)
-    (known : List (List TaskLine)) (P : Standing)
-    → SoFar meaning work false first now known P
+    (last : Option ℕ) (known : Known) (P : Standing)
+    → SoFar meaning work false first now last known P
     → Called meaning now.history next.history NoItem → next.events ≡ now.events
-    → next.out ≡ now.out → SoFar meaning work false first next known P
-so_far-nothing meaning work first now next known P so call events out =
-    so_far-called meaning work false first now next known known P P NoItem so call
+    → next.out ≡ now.out → SoFar meaning work false first next last known P
+so_far-nothing meaning work first now next last known P so call events out =
+    so_far-called meaning work false first now next last last known known P P NoItem so call
     (events ∙ rw call.is_own (sym (append-nil now.events))) (λ tasks has. has)
-    (λ tasks build failure has is. rw call.is_own (record {
-      makes = tt;
-      stands = subst (P tasks build) (sym (same_failure failure)) is;
-    }))
-    (λ tasks has. rw call.is_own (silent work tasks now next [] out refl (λ outputs p. refl)))
-
--- a fault that says nothing of how the build stands
-pub ended-outside : (meaning : Meaning) (work : Work) (fault : BuildResult) (first now : Moment)
-    (known : List (List TaskLine)) (P : Standing)
-    → (fault ≡ ended.World) ⊎ (fault ≡ ended.NoMemory)
-    → SoFar meaning work false first now known P → EndedBy meaning work fault first now
-ended-outside meaning work fault first now known P (inl world) so =
-    rw world (
-      known,
-      so_far-weaken meaning work first now known known P _ so (λ tasks has. has)
-          (λ tasks build failure has is. tt),
-    )
-ended-outside meaning work fault first now known P (inr memory) so =
-    rw memory (
-      known,
-      so_far-weaken meaning work first now known known P _ so (λ tasks has. has)
-          (λ tasks build failure has is. tt),
-    )
-
--- the child of a poised line was started
-pub so_far-starts : (meaning : Meaning) (work : Work) (n : ℕ) (lines : List TaskLine)
-    (number ticket : ℕ) (one : TaskLine) (cmd : Cmd) (known : List (List TaskLine))
-    (first now next : Moment) → AtNode work n
-    → PoisedAt meaning work n lines number one known first now
-    → run.is_empty one.text ≡ false → cmd ≡ command_of work one
-    → Called meaning now.history next.history (StartItem n number ticket 0 cmd)
-    → next.events ≡ now.events ++ event.Start n number ∷ [] → next.out ≡ now.out
-    → SoFar meaning work false first next known (IsRunning work n lines number ticket run.anything)
-so_far-starts meaning work n lines number ticket one cmd known first now next at poised some command
-    call events out =
-    so_far-called meaning work false first now next known known (IsPoised work n lines number)
-    (IsRunning work n lines number ticket run.anything) (StartItem n number ticket 0 cmd)
-    poised.so_far call
-    (rw call.is_own events)
-    (λ tasks has. has)
-    (λ tasks build failure has is. rw call.is_own
-    (go_on-starts work n lines number ticket cmd tasks at build failure is one poised.line some
-    command))
-    (λ tasks has. rw call.is_own (silent work tasks now next (starts n number ticket 0 cmd ∷ []) out
-    refl (λ outputs p. refl)))
+    (λ tasks build has is. rw call.is_own (record { makes = tt; stands = is }))
+    (λ tasks build has is. rw call.is_own
+    (silent work tasks now next last [] out refl (λ outputs p. refl)))
 
 -- items of the report alone, which print nothing
 pub so_far-own : (meaning : Meaning) (work : Work) (first now next : Moment)
-    (known later : List (List TaskLine)) (P Q : Standing) (own : List Item)
-    → SoFar meaning work false first now known P
+    (last : Option ℕ) (known more : Known) (P Q : Standing) (own : List Item)
+    → SoFar meaning work false first now last known P
     → happened_all own ≡ [] → ((stand : Stand) → FitsAll meaning stand own) → outputs_of own ≡ []
     → next.history ≡ now.history → next.events ≡ now.events ++ reported_all own
-    → next.out ≡ now.out → ((tasks : run.Tasks) → HasTasks tasks later → HasTasks tasks known)
-    → ((tasks : run.Tasks) (build : Build) (failure : Option Event) → HasTasks tasks later
-    → P tasks build failure → GoesOn work tasks build failure own Q)
-    → ((tasks : run.Tasks) → HasTasks tasks later → (outputs : List (List ℕ)) (p : Printed)
+    → next.out ≡ now.out → ((tasks : run.Tasks) → HasTasks tasks more → HasTasks tasks known)
+    → ((tasks : run.Tasks) (build : Build) → HasTasks tasks more
+    → P tasks build → GoesOn work tasks build own Q)
+    → ((tasks : run.Tasks) (build : Build) → HasTasks tasks more → P tasks build
+    → (outputs : List (List ℕ)) (p : Printed)
     → printed_all (job_of work tasks) outputs p (reported_all own) ≡ p)
-    → SoFar meaning work false first next later Q
-so_far-own meaning work first now next known later P Q own so nothing fits none history events out
+    → SoFar meaning work false first next last more Q
+so_far-own meaning work first now next last known more P Q own so nothing fits none history events out
     grow goes prints =
     let call : Called meaning now.history next.history (λ items. items ≡ own) =
     subst (λ h. Called meaning now.history h (λ items. items ≡ own)) (sym history)
     (called-own meaning now.history own nothing fits) in
-    so_far-called meaning work false first now next known later P Q (λ items. items ≡ own) so call
-    (rw call.is_own events) grow
-    (λ tasks build failure has is. rw call.is_own (goes tasks build failure has is))
-    (λ tasks has. rw call.is_own (silent work tasks now next own out none (prints tasks has)))
-
--- make waits for the child
-pub so_far-waits : (meaning : Meaning) (work : Work) (n : ℕ) (lines : List TaskLine)
-    (number ticket : ℕ) (known : List (List TaskLine)) (first now next : Moment) → AtNode work n
-    → SoFar meaning work false first now known (IsRunning work n lines number ticket run.anything)
-    → next.history ≡ now.history → next.events ≡ now.events ++ event.Wait ∷ []
-    → next.out ≡ now.out
-    → SoFar meaning work false first next known (IsRunning work n lines number ticket run.child)
-so_far-waits meaning work n lines number ticket known first now next at so history events out =
-    so_far-own meaning work first now next known known
-    (IsRunning work n lines number ticket run.anything)
-    (IsRunning work n lines number ticket run.child) (waits ∷ []) so refl (λ stand. (tt, tt)) refl
-    history events out (λ tasks has. has)
-    (λ tasks build failure has is. go_on-waits work n lines number ticket tasks at build failure is)
-    (λ tasks has outputs p. refl)
-
--- a child's end, with what is printed then
-prints-end : (work : Work) (tasks : run.Tasks) (cut : Bool) (now next : Moment)
-    (n number owner : ℕ) (lines : List TaskLine) (one : TaskLine) (ended : Ended)
-    → tasks n ≡ lines → run.line_of lines number ≡ Some one → run.is_empty one.text ≡ false
-    → Prints cut now next (echo (Some one) ++ ended.output)
-    → PrintsOwn work tasks cut now next (ends n number owner ended ∷ [])
-prints-end work tasks cut now next n number owner lines one ended task line some grows =
-    let line_is : run.line_of (tasks n) number ≡ Some one = rw task line in
-    let child : run.has_child (run.line_of (tasks n) number) ≡ true = rw (line_is, some) refl in
-    let output_is : (outputs : List (List ℕ)) (p : Printed) → p.ended ≡ length outputs
-    → get_or (outputs ++ ended.output ∷ []) p.ended [] ≡ ended.output =
-    λ outputs p is. rw is (get_or-append_seam outputs ended.output [] []) in
-    record {
-      text = echo (Some one) ++ ended.output;
-      grows = grows;
-      bytes = λ outputs p is. rw (child, line_is, output_is outputs p is)
-          (piece-plain (job_of work tasks) p n (echo (Some one) ++ ended.output) refl);
-      ended = λ outputs p is. rw (child, line_is, output_is outputs p is)
-          (piece-counts (job_of work tasks) p n (echo (Some one) ++ ended.output)
-          ∙ (ap (λ k. k + 1) is ∙ sym (length-append outputs (ended.output ∷ []))));
-    }
-
--- a child ended, and all was printed
-pub so_far-ends : (meaning : Meaning) (work : Work) (cut : Bool) (n : ℕ) (lines : List TaskLine)
-    (number ticket : ℕ) (one : TaskLine) (ended : Ended) (known : List (List TaskLine))
-    (first now next : Moment) (Q : Standing)
-    → SoFar meaning work false first now known (IsRunning work n lines number ticket run.child)
-    → ((tasks : run.Tasks) (build : Build) (failure : Option Event) (owner : ℕ)
-    → IsRunning work n lines number ticket run.child tasks build failure
-    → GoesOn work tasks build failure (ends n number owner ended ∷ []) Q)
-    → run.line_of lines number ≡ Some one → run.is_empty one.text ≡ false
-    → (length known ≡ n + 1) → get_or known n [] ≡ lines
-    → Called meaning now.history next.history (EndItem n number ended)
-    → next.events ≡ now.events ++ event.End n number ended.status ∷ []
-    → Prints cut now next (echo (Some one) ++ ended.output)
-    → SoFar meaning work cut first next known Q
-so_far-ends meaning work cut n lines number ticket one ended known first now next Q so goes line some
-    long known_is call events grows =
-    so_far-called meaning work cut first now next known known
-    (IsRunning work n lines number ticket run.child) Q (EndItem n number ended) so call
-    (rw call.is_own.1 events) (λ tasks has. has)
-    (λ tasks build failure has is. rw call.is_own.1 (goes tasks build failure call.is_own.0 is))
-    (λ tasks has. rw call.is_own.1 (prints-end work tasks cut now next n number call.is_own.0 lines
-    one ended (has n (rw long (omega arith)) ∙ known_is) line some grows))
+    so_far-called meaning work false first now next last last known more P Q (λ items. items ≡ own) so
+    call (rw call.is_own events) grow
+    (λ tasks build has is. rw call.is_own (goes tasks build has is))
+    (λ tasks build has is. rw call.is_own
+    (silent work tasks now next last own out none (prints tasks build has is)))
 
 -- an empty line has no child
 no_child : (lines : List TaskLine) (number : ℕ) (one : TaskLine)
@@ -217,22 +138,152 @@ no_child : (lines : List TaskLine) (number : ℕ) (one : TaskLine)
 no_child lines number one line empty = rw (line, empty) refl
 
 -- an empty line began and ended
-pub so_far-passes : (meaning : Meaning) (work : Work) (n : ℕ) (lines : List TaskLine) (number : ℕ)
-    (one : TaskLine) (known : List (List TaskLine)) (first now next : Moment) → AtNode work n
-    → PoisedAt meaning work n lines number one known first now
-    → run.is_empty one.text ≡ true → length known ≡ n + 1 → get_or known n [] ≡ lines
-    → next.history ≡ now.history
-    → next.events ≡ now.events ++ event.Start n number ∷ event.End n number 0 ∷ []
+pub behind-passes : (scene : Scene) (events now : List Event) (n : ℕ) (lines : List TaskLine)
+    (done : ℕ) (one : TaskLine) → IsOpenScene scene n → BehindIn scene events n lines done
+    → done < length lines → run.line_of lines (done + 1) ≡ Some one
+    → run.is_empty one.text ≡ true
+    → now ≡ events ++ event.Start n (done + 1) ∷ event.End n (done + 1) 0 ∷ []
+    → BehindIn scene now n lines (done + 1)
+behind-passes scene events now n lines done one open_scene behind more line empty told =
+    let known = behind.0 in
+    let work = scene.work in
+    let nodes = scene.course.sched.nodes in
+    let jobs = scene.course.jobs.items in
+    let failure = scene.course.failure in (
+      known,
+      behind.1,
+      so_far-own scene.meaning work scene.first (moment scene.history scene.out events)
+          (moment scene.history scene.out now) scene.course.last_shown known known
+          (IsBehind work known nodes jobs failure n lines done)
+          (IsBehind work known nodes jobs failure n lines (done + 1)) (passes n (done + 1) ∷ [])
+          behind.2 refl (λ stand. (tt, tt)) refl refl told refl (λ tasks has. has)
+          (λ tasks build has is. go_on-passes work known nodes jobs failure n lines (done + 1) one tasks
+          build has open_scene.token.apart open_scene.token.open_now open_scene.unstopped (is.0 more)
+          (omega arith) line empty)
+          (λ tasks build has is outputs p.
+          let poised = is.0 more in
+          rw (has n lines poised.task, no_child lines (done + 1) one line empty) refl),
+    )
+
+-- the child of a line was started
+pub so_far-starts : (meaning : Meaning) (work : Work) (known : Known) (nodes : List NodeState)
+    (jobs : List Job) (failure : Option Failure) (job : Job) (one : TaskLine) (cmd : Cmd)
+    (last : Option ℕ) (first now next : Moment)
+    → SoFar meaning work false first now last known
+    (IsBehind work known nodes jobs failure job.node job.task.lines (job.number - 1))
+    → HasToken nodes jobs job.node → HasLine job.task.lines job.number one
+    → cmd ≡ command_of work one
+    → Called meaning now.history next.history (StartItem job.node job.number job.ticket 0 cmd)
+    → next.events ≡ now.events ++ event.Start job.node job.number ∷ [] → next.out ≡ now.out
+    → SoFar meaning work false first next last known
+    (IsGoing known nodes run.anything (jobs ++ job ∷ []) failure)
+so_far-starts meaning work known nodes jobs failure job one cmd last first now next so token has_line
+    command call events out =
+    let some = has_line.some in
+    let within = has_line.within in
+    let before : job.number - 1 < length job.task.lines = omega (arith, some, within) in
+    let number_is : (job.number - 1) + 1 ≡ job.number = omega (arith, some) in
+    so_far-called meaning work false first now next last last known known
+    (IsBehind work known nodes jobs failure job.node job.task.lines (job.number - 1))
+    (IsGoing known nodes run.anything (jobs ++ job ∷ []) failure)
+    (StartItem job.node job.number job.ticket 0 cmd) so call
+    (rw call.is_own events) (λ tasks has. has)
+    (λ tasks build has is. rw call.is_own
+    (go_on-starts work known nodes jobs failure job one cmd tasks build has token.apart
+    (subst (λ k. IsPoised work known nodes jobs failure job.node job.task.lines k tasks build) number_is
+    (is.0 before)) has_line command))
+    (λ tasks build has is. rw call.is_own (silent work tasks now next last
+    (starts job.node job.number job.ticket 0 cmd ∷ []) out refl (λ outputs p. refl)))
+
+-- make waits for a child
+pub so_far-waits : (meaning : Meaning) (work : Work) (known : Known) (nodes : List NodeState)
+    (jobs : List Job) (failure : Option Failure) (last : Option ℕ) (first now next : Moment)
+    → SoFar meaning work false first now last known
+    (IsGoing known nodes run.anything jobs failure)
+    → may_decide (rules_of work) nodes ≡ None → 0 < open_jobs nodes
+    → next.history ≡ now.history → next.events ≡ now.events ++ event.Wait ∷ []
     → next.out ≡ now.out
-    → SoFar meaning work false first next known (IsBehind work n lines number)
-so_far-passes meaning work n lines number one known first now next at poised empty long
-    known_is history events out =
-    so_far-own meaning work first now next known known (IsPoised work n lines number)
-    (IsBehind work n lines number) (passes n number ∷ []) poised.so_far refl (λ stand. (tt, tt)) refl
-    history events out (λ tasks has. has)
-    (λ tasks build failure has is. go_on-passes work n lines number tasks at build failure is
-    poised.some one poised.line empty)
-    (λ tasks has outputs p. rw (
-      has n (rw long (omega arith)) ∙ known_is,
-      no_child lines number one poised.line empty,
-    ) refl)
+    → SoFar meaning work false first next last known (IsGoing known nodes run.child jobs failure)
+so_far-waits meaning work known nodes jobs failure last first now next so none some history events out =
+    so_far-own meaning work first now next last known known
+    (IsGoing known nodes run.anything jobs failure) (IsGoing known nodes run.child jobs failure)
+    (waits ∷ []) so refl (λ stand. (tt, tt)) refl history events out (λ tasks has. has)
+    (λ tasks build has is. go_on-waits work known nodes jobs failure tasks build none some is)
+    (λ tasks build has is outputs p. refl)
+
+-- a child's end, with what is printed then
+prints-end : (work : Work) (tasks : run.Tasks) (cut : Bool) (now next : Moment) (last : Option ℕ)
+    (n number owner : ℕ) (lines : List TaskLine) (one : TaskLine) (ended : Ended)
+    → tasks n ≡ lines → HasLine lines number one
+    → Prints cut now next
+    (shown work.plan (job_of work tasks).many last n (echo (Some one) ++ ended.output))
+    → PrintsOwn work tasks cut now next last (last_behind last n (echo (Some one) ++ ended.output))
+    (ends n number owner ended ∷ [])
+prints-end work tasks cut now next last n number owner lines one ended task has grows =
+    let line_is : run.line_of (tasks n) number ≡ Some one = rw task has.line in
+    let child : run.has_child (run.line_of (tasks n) number) ≡ true =
+    rw (line_is, has.child) refl in
+    let output_is : (outputs : List (List ℕ)) (p : Printed) → p.ended ≡ length outputs
+    → get_or (outputs ++ ended.output ∷ []) p.ended [] ≡ ended.output =
+    λ outputs p is. rw is (get_or-append_seam outputs ended.output [] []) in
+    record {
+      text = shown work.plan (job_of work tasks).many last n (echo (Some one) ++ ended.output);
+      grows = grows;
+      bytes = λ outputs p is last_is. rw (child, line_is, output_is outputs p is, last_is) refl;
+      ended = λ outputs p is. rw child
+          (ap (λ k. k + 1) is ∙ sym (length-append outputs (ended.output ∷ [])));
+      last_is = λ outputs p is last_is. rw (child, line_is, output_is outputs p is, last_is) refl;
+    }
+
+-- a child ended, and all was printed
+pub so_far-ends : (meaning : Meaning) (work : Work) (cut : Bool) (known : Known)
+    (nodes : List NodeState) (front back : List Job) (failure : Option Failure) (job : Job)
+    (one : TaskLine) (ended : Ended) (last : Option ℕ) (first now next : Moment)
+    → SoFar meaning work false first now last known
+    (IsGoing known nodes run.child (front ++ job ∷ back) failure)
+    → get_or nodes job.node Undecided ≡ Open → HasLine job.task.lines job.number one
+    → job.ticket ≡ ended.ticket.0
+    → Called meaning now.history next.history (EndItem job.node job.number ended)
+    → next.events ≡ now.events ++ event.End job.node job.number ended.status ∷ []
+    → ((tasks : run.Tasks) → Prints cut now next
+    (shown work.plan (job_of work tasks).many last job.node (echo (Some one) ++ ended.output)))
+    → SoFar meaning work cut first next
+    (last_behind last job.node (echo (Some one) ++ ended.output)) known
+    (IsEnding work known nodes (front ++ back) failure job.node job.task.lines job.number ended.status
+    (run.fails (run.line_of job.task.lines job.number) ended.status)
+    (nat_le (length job.task.lines) job.number || is_stopped (rules_of work) nodes))
+so_far-ends meaning work cut known nodes front back failure job one ended last first now next so token
+    has_line ticket call events grows =
+    so_far-called meaning work cut first now next last
+    (last_behind last job.node (echo (Some one) ++ ended.output)) known known
+    (IsGoing known nodes run.child (front ++ job ∷ back) failure) _
+    (EndItem job.node job.number ended) so call
+    (rw call.is_own.1 events) (λ tasks has. has)
+    (λ tasks build has is. rw call.is_own.1
+    (go_on-ends work known nodes front back failure job call.is_own.0 ended tasks build
+    (run.fails (run.line_of job.task.lines job.number) ended.status)
+    (nat_le (length job.task.lines) job.number || is_stopped (rules_of work) nodes) has token
+    has_line.some ticket refl refl is))
+    (λ tasks build has is. rw call.is_own.1
+    (prints-end work tasks cut now next last job.node job.number call.is_own.0 job.task.lines one ended
+    (has job.node job.task.lines
+    (running-take known build.run.started build.ticket front back job is.running).0.task) has_line
+    (grows tasks)))
+
+-- or it could not be told
+pub behind-halted : (scene : Scene) (events now : List Event) (n : ℕ) (lines : List TaskLine)
+    (done : ℕ) → BehindIn scene events n lines done → now ≡ events → HaltedIn scene now
+behind-halted scene events now n lines done behind same =
+    subst (HaltedIn scene) (sym same)
+    (halted scene.meaning scene.work halts.NoMemory scene.first scene.history scene.out events
+    scene.course.last_shown behind.0 _ behind.2)
+
+-- the line that was found is the one with a child
+pub found : (line : TaskLine) (lines : List TaskLine) (number : ℕ) → run.line_of lines number ≡ Some line
+    → (one : TaskLine) × HasLine lines number one → HasLine lines number line
+found line lines number is has =
+    let same : has.0 ≡ line = some-is has.0 line (sym has.1.line ∙ is) in
+    record { line = is; child = rw (← same) has.1.child; some = has.1.some; within = has.1.within }
+  where
+    some-is : (a b : TaskLine) → Some a ≡ Some b → a ≡ b
+    some-is a b is = cc

@@ -1,19 +1,19 @@
 -- A build so far, and the items of one more call.
-use Rattle.std.proofs.Common.{◌≡◌, ◌∙◌, ℕ, List, [], ◌∷◌, ◌++◌, length, Option, Some, None, Bool, true, false}
+use Rattle.std.proofs.Common.{◌≡◌, ◌∙◌, ℕ, List, [], ◌∷◌, ◌++◌, length, Option, Bool, true, false}
 use Rattle.std.proofs.Common.{refl, sym, ap, subst, arith}
 use Rattle.std.proofs.lemmas.List.{append-nil}
 use Rattle.mk_world.specs.Talks.{Meaning}
-use Rattle.mk_world.specs.declared.command.TaskLine.{TaskLine}
+use Rattle.mk_world.specs.Sinks.{Gains}
+use Rattle.mk_world.specs.Told.{Told}
 use Rattle.mk_world.specs.declared.step.Deed.{Deed}
-use Rattle.mk_world.proofs.SinkLemmas.{Gains-then, GainsPart-then}
+use Rattle.mk_world.proofs.SinkLemmas.{Gains-nothing, Gains-then, GainsPart-then}
 use Rattle.mk_driver.specs.Builds.{Work, Build, Moment, Makes, Prints, build_after_all, first_build, job_of}
 use Rattle.mk_driver.specs.Calls.{AreStepItems, Called}
-use Rattle.mk_driver.specs.Items.{Item, looks, keeps, refuses, starts, passes, waits, steps, ends, leaves, reported, reported_all, outputs_of}
-use Rattle.mk_driver.specs.Output.{printed_all, nothing_printed}
-use Rattle.mk_driver.specs.Progress.{HasTasks, IsMade, SoFar, Standing, printed_by}
+use Rattle.mk_driver.specs.Items.{Item, looks, keeps, refuses, starts, passes, waits, steps, ends, removes, leaves, reported, reported_all, outputs_of, Happened}
+use Rattle.mk_driver.specs.Output.{Printed, printed_all, nothing_printed}
+use Rattle.mk_driver.specs.Progress.{Known, HasTasks, IsMade, SoFar, Standing, printed_by}
 use Rattle.mk_driver.specs.Runs as run
 use Rattle.mk_driver.specs.Steps.{GoesOn, PrintsOwn}
-use Rattle.mk_driver.specs.declared.event.Event.{Event}
 use Rattle.mk_driver.proofs.ItemLemmas.{reported_all-append, outputs_of-append, build_after_all-append, Makes-append, told-then}
 use Rattle.mk_driver.proofs.OutputLemmas.{printed_all-append, printed_all-same}
 
@@ -27,11 +27,12 @@ on_steps P none more (steps ticket owner deed time ∷ items) are =
     more ticket owner deed time items (on_steps P none more items are)
 on_steps P none more (looks node path when ∷ items) are = absurd are
 on_steps P none more (keeps node ∷ items) are = absurd are
-on_steps P none more (refuses node number ∷ items) are = absurd are
+on_steps P none more (refuses node number what ∷ items) are = absurd are
 on_steps P none more (starts node number ticket owner cmd ∷ items) are = absurd are
 on_steps P none more (passes node number ∷ items) are = absurd are
 on_steps P none more (waits ∷ items) are = absurd are
 on_steps P none more (ends node number owner ended ∷ items) are = absurd are
+on_steps P none more (removes node path time ∷ items) are = absurd are
 on_steps P none more (leaves ticket owner ∷ items) are = absurd are
 
 pub reported-steps : (items : List Item) → AreStepItems items → reported_all items ≡ []
@@ -50,7 +51,7 @@ after-steps work tasks build = on_steps (λ items. build_after_all work tasks bu
 pub makes-steps : (work : Work) (tasks : run.Tasks) (build : Build) (items : List Item)
     → AreStepItems items → Makes work tasks build items
 makes-steps work tasks build = on_steps (λ items. Makes work tasks build items) tt
-    (λ ticket owner deed time items more. (tt, tt, more))
+    (λ ticket owner deed time items more. (tt, tt, tt, more))
 
 -- the items of a call, between the steps of children
 module _ (early own late : List Item) (early_are : AreStepItems early)
@@ -96,20 +97,6 @@ module _ (early own late : List Item) (early_are : AreStepItems early)
       (Makes-append work tasks build own late makes
       (makes-steps work tasks (build_after_all work tasks build own) late late_are)))
 
-failure-append : (tasks : run.Tasks) (events more : List Event)
-    → run.first_failure tasks (events ++ more)
-    ≡ run.or_next (run.first_failure tasks events) (run.first_failure tasks more)
-failure-append tasks [] more = refl
-failure-append tasks (event ∷ events) more =
-    ap (run.or_next (run.failure_of tasks event)) (failure-append tasks events more)
-    ∙ assoc (run.failure_of tasks event)
-  where
-    assoc : (first : Option Event)
-        → run.or_next first (run.or_next (run.first_failure tasks events) (run.first_failure tasks more))
-        ≡ run.or_next (run.or_next first (run.first_failure tasks events)) (run.first_failure tasks more)
-    assoc None = refl
-    assoc (Some event) = refl
-
 prints-then : (cut : Bool) (first now next : Moment) (bytes text : List ℕ)
     → Prints false first now bytes → Prints cut now next text
     → Prints cut first next (bytes ++ text)
@@ -133,21 +120,37 @@ printed-more work tasks items own ended =
     (printed_all-same (job_of work tasks) (outputs_of items) (outputs_of own) nothing_printed
     (reported_all items) (rw ended (omega arith)))
 
+-- items that print nothing
+pub silent : (work : Work) (tasks : run.Tasks) (now next : Moment) (last : Option ℕ) (own : List Item)
+    → next.out ≡ now.out → outputs_of own ≡ []
+    → ((outputs : List (List ℕ)) (p : Printed)
+    → printed_all (job_of work tasks) outputs p (reported_all own) ≡ p)
+    → PrintsOwn work tasks false now next last last own
+silent work tasks now next last own same none nothing = record {
+  text = [];
+  grows = subst (λ o. Gains now.out o []) (sym same) (Gains-nothing now.out);
+  bytes = λ outputs p ended last_is. ap (λ q. q.bytes) (nothing (outputs ++ outputs_of own) p)
+      ∙ sym (append-nil p.bytes);
+  ended = λ outputs p ended. ap (λ q. q.ended) (nothing (outputs ++ outputs_of own) p)
+      ∙ (ended ∙ ap length (sym (ap (λ l. outputs ++ l) none ∙ append-nil outputs)));
+  last_is = λ outputs p ended last_is.
+      ap (λ q. q.last) (nothing (outputs ++ outputs_of own) p) ∙ last_is;
+}
+
 made-more : (work : Work) (tasks : run.Tasks) (cut : Bool) (first now next : Moment)
-    (items mid own : List Item) (P Q : Standing)
+    (last later : Option ℕ) (items mid own : List Item) (P Q : Standing)
     → reported_all mid ≡ reported_all own → outputs_of mid ≡ outputs_of own
     → ((build : Build) → build_after_all work tasks build mid ≡ build_after_all work tasks build own)
     → ((build : Build) → Makes work tasks build own → Makes work tasks build mid)
-    → IsMade work tasks false first now items P
-    → ((build : Build) (failure : Option Event) → P tasks build failure
-    → GoesOn work tasks build failure own Q)
-    → PrintsOwn work tasks cut now next own
-    → IsMade work tasks cut first next (items ++ mid) Q
-made-more work tasks cut first now next items mid own P Q reported outputs after makes made step
-    prints =
+    → IsMade work tasks false first now last items P
+    → ((build : Build) → P tasks build → GoesOn work tasks build own Q)
+    → ((build : Build) → P tasks build → PrintsOwn work tasks cut now next last later own)
+    → IsMade work tasks cut first next later (items ++ mid) Q
+made-more work tasks cut first now next last later items mid own P Q reported outputs after makes made
+    step prints_own =
     let build = build_after_all work tasks (first_build work) items in
-    let failure = run.first_failure tasks (reported_all items) in
-    let go = step build failure made.stands in
+    let prints = prints_own build made.stands in
+    let go = step build made.stands in
     let all_reported : reported_all (items ++ mid) ≡ reported_all items ++ reported_all own =
     reported_all-append items mid ∙ ap (λ l. reported_all items ++ l) reported in
     let all_outputs : outputs_of (items ++ mid) ≡ outputs_of items ++ outputs_of own =
@@ -159,50 +162,73 @@ made-more work tasks cut first now next items mid own P Q reported outputs after
     let stands_now : build_after_all work tasks (first_build work) (items ++ mid)
     ≡ build_after_all work tasks build own =
     build_after_all-append work tasks (first_build work) items mid ∙ after build in
-    let fails_now : run.first_failure tasks (reported_all (items ++ mid))
-    ≡ run.or_next failure (run.first_failure tasks (reported_all own)) =
-    ap (run.first_failure tasks) all_reported
-    ∙ failure-append tasks (reported_all items) (reported_all own) in
     record {
       makes = Makes-append work tasks (first_build work) items mid made.makes
           (makes build go.makes);
       printed = subst (Prints cut first next)
           (sym (ap (λ p. p.bytes) all_printed
-          ∙ prints.bytes (outputs_of items) (printed_by work tasks items) made.ended))
+          ∙ prints.bytes (outputs_of items) (printed_by work tasks items) made.ended made.last_is))
           (prints-then cut first now next (printed_by work tasks items).bytes prints.text
           made.printed prints.grows);
       ended = ap (λ p. p.ended) all_printed
           ∙ (prints.ended (outputs_of items) (printed_by work tasks items) made.ended
           ∙ ap length (sym all_outputs));
-      stands = subst (λ b. Q tasks b (run.first_failure tasks (reported_all (items ++ mid))))
-          (sym stands_now)
-          (subst (Q tasks (build_after_all work tasks build own)) (sym fails_now) go.stands);
+      last_is = ap (λ p. p.last) all_printed
+          ∙ prints.last_is (outputs_of items) (printed_by work tasks items) made.ended made.last_is;
+      stands = subst (Q tasks) (sym stands_now) go.stands;
     }
 
 -- A build goes on by the items of one call.
 pub so_far-called : (meaning : Meaning) (work : Work) (cut : Bool) (first now next : Moment)
-    (known later : List (List TaskLine)) (P Q : Standing) (OwnItems : List Item → Type 0)
-    → SoFar meaning work false first now known P
+    (last later : Option ℕ) (known more : Known) (P Q : Standing) (OwnItems : List Item → Type 0)
+    → SoFar meaning work false first now last known P
     → (call : Called meaning now.history next.history OwnItems)
     → next.events ≡ now.events ++ reported_all call.own
-    → ((tasks : run.Tasks) → HasTasks tasks later → HasTasks tasks known)
-    → ((tasks : run.Tasks) (build : Build) (failure : Option Event) → HasTasks tasks later
-    → P tasks build failure → GoesOn work tasks build failure call.own Q)
-    → ((tasks : run.Tasks) → HasTasks tasks later
-    → PrintsOwn work tasks cut now next call.own)
-    → SoFar meaning work cut first next later Q
-so_far-called meaning work cut first now next known later P Q OwnItems so call events grow step
-    prints =
+    → ((tasks : run.Tasks) → HasTasks tasks more → HasTasks tasks known)
+    → ((tasks : run.Tasks) (build : Build) → HasTasks tasks more
+    → P tasks build → GoesOn work tasks build call.own Q)
+    → ((tasks : run.Tasks) (build : Build) → HasTasks tasks more → P tasks build
+    → PrintsOwn work tasks cut now next last later call.own)
+    → SoFar meaning work cut first next later more Q
+so_far-called meaning work cut first now next last later known more P Q OwnItems so call events grow
+    step prints =
     let mid = call.early ++ (call.own ++ call.late) in
     let reported = reported-between call.early call.own call.late call.early_steps call.late_steps in
     record {
       items = so.items ++ mid;
       reported = events ∙ rw (so.reported, reported_all-append so.items mid, reported) refl;
       told = told-then meaning so.items mid first.history now.history next.history so.told call.told;
-      made = λ tasks has. made-more work tasks cut first now next so.items mid call.own P Q reported
+      made = λ tasks has. made-more work tasks cut first now next last later so.items mid call.own P Q
+          reported
           (outputs-between call.early call.own call.late call.early_steps call.late_steps)
           (after-between call.early call.own call.late call.early_steps call.late_steps work tasks)
           (makes-between call.early call.own call.late call.early_steps call.late_steps work tasks)
-          (so.made tasks (grow tasks has)) (λ build failure. step tasks build failure has)
-          (prints tasks has);
+          (so.made tasks (grow tasks has)) (λ build. step tasks build has)
+          (λ build. prints tasks build has);
     }
+
+-- A build goes on by items of which none tells anything or prints.
+pub so_far-items : (meaning : Meaning) (work : Work) (first now next : Moment)
+    (last : Option ℕ) (known : Known) (P Q : Standing) (own : List Item)
+    → SoFar meaning work false first now last known P
+    → Told now.history next.history (Happened meaning own)
+    → next.events ≡ now.events → reported_all own ≡ [] → outputs_of own ≡ []
+    → next.out ≡ now.out
+    → ((tasks : run.Tasks) (build : Build) → P tasks build → GoesOn work tasks build own Q)
+    → SoFar meaning work false first next last known Q
+so_far-items meaning work first now next last known P Q own so told events reported outputs out step =
+    let call : Called meaning now.history next.history (λ items. items ≡ own) = record {
+      early = [];
+      own = own;
+      late = [];
+      early_steps = tt;
+      late_steps = tt;
+      is_own = refl;
+      told = subst (λ l. Told now.history next.history (Happened meaning l)) (sym (append-nil own)) told;
+    } in
+    so_far-called meaning work false first now next last last known known P Q (λ items. items ≡ own) so
+    call
+    (events ∙ (sym (append-nil now.events) ∙ ap (λ l. now.events ++ l) (sym reported)))
+    (λ tasks has. has) (λ tasks build has is. step tasks build is)
+    (λ tasks build has is. silent work tasks now next last own out outputs
+    (λ outs p. rw reported refl))

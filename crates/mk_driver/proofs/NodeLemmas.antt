@@ -1,227 +1,206 @@
--- Nodes that are settled one after the other.
-use Rattle.std.proofs.Common.{◌≡◌, ◌∙◌, ℕ, zero, suc, ◌+◌, ◌<◌, nat_lt, List, [], ◌∷◌, ◌++◌, length, map, get_or, set, slice_get, Option, Some, None, Bool, true, false, not, ◌&&◌}
-use Rattle.std.proofs.Common.{refl, sym, ap, subst, arith, if◌then◌else◌}
+-- How nodes stand, and which may be decided.
+use Rattle.std.proofs.Common.{◌≡◌, ◌≢◌, ◌∙◌, ℕ, zero, suc, ◌+◌, ◌<◌, ◌&&◌, ◌||◌, not, List, [], ◌∷◌, length, get_or, set, slice_get, Option, Some, None, Bool, true, false, if◌then◌else◌}
+use Rattle.std.proofs.Common.{inl, inr, refl, sym, ap, subst, arith}
 use Rattle.std.specs.List.{list_any}
-use Rattle.std.proofs.Math.Seq.{set-append_seam}
-use Rattle.std.proofs.lemmas.Bool.Decides.{nat_tests}
-use Rattle.std.proofs.lemmas.Grind.{common_steps}
-use Rattle.std.proofs.lemmas.List.{append-nil}
-use Rattle.std.proofs.lemmas.Option.{slice_get-get_or}
-use Rattle.mk_plan.specs.Deciding.{Rules, is_undecided, is_failed, open_jobs, is_stopped, all_settled, first_ready, may_decide}
-use Rattle.mk_plan.specs.Plans.{is_behind, are_ordered}
+use Rattle.std.proofs.lemmas.Bool.{cases_eq}
+use Rattle.std.proofs.lemmas.List.{get_or-set_same, get_or-set_other}
+use Rattle.std.proofs.lemmas.List.Sums.{sum_by-set}
+use Rattle.mk_plan.specs.Asking.{Seen}
+use Rattle.mk_plan.specs.Deciding.{Rules, is_failed, is_undecided, is_stopped, all_settled, first_ready, may_decide, open_jobs}
+use Rattle.mk_plan.specs.Plans.{node_at}
 use Rattle.mk_plan.specs.declared.plan.NodeState.{NodeState}
-use Rattle.mk_plan.specs.declared.plan.NodeState.TheVariants.{Undecided, Open, Settled, Failed}
+use Rattle.mk_plan.specs.declared.plan.NodeState.TheVariants.{Undecided, Open, Failed}
 use Rattle.mk_plan.specs.declared.plan.PlanNode.{PlanNode}
-use Rattle.mk_driver.specs.Progress.{line_up}
+use Rattle.mk_sched.specs.Next.{next_by, next_of}
+use Rattle.mk_sched.specs.Schedule.{Schedule, predecessors}
+use Rattle.mk_sched.specs.declared.sched.Next.TheVariants.{Decide, Wait, Over}
+use Rattle.mk_driver.specs.Progress.{Known, AreFresh, AreFreshBut, AreUnknown, undecided}
 
--- as many settled nodes as there are in a list
-abbrev settled_all : List PlanNode → List NodeState
-settled_all nodes = map (λ (node : PlanNode). Settled) nodes
+pub get-open : (nodes : List NodeState) (node : ℕ) → get_or nodes node Undecided ≡ Open
+    → slice_get nodes node ≡ Some Open
+get-open [] node is = cc
+get-open (state ∷ nodes) zero is = ap (λ s. Some s) is
+get-open (state ∷ nodes) (suc node) is = get-open nodes node is
 
-abbrev undecided_all : List PlanNode → List NodeState
-undecided_all nodes = map (λ (node : PlanNode). Undecided) nodes
+pub get-undecided : (nodes : List NodeState) (node : ℕ) → get_or nodes node Failed ≡ Undecided
+    → slice_get nodes node ≡ Some Undecided
+get-undecided [] node is = cc
+get-undecided (state ∷ nodes) zero is = ap (λ s. Some s) is
+get-undecided (state ∷ nodes) (suc node) is = get-undecided nodes node is
 
-abbrev befores : List PlanNode → List (List ℕ)
-befores nodes = map (λ (node : PlanNode). node.before) nodes
+pub within-undecided : (nodes : List NodeState) (node : ℕ) → get_or nodes node Failed ≡ Undecided
+    → node < length nodes
+within-undecided [] node is = cc
+within-undecided (state ∷ nodes) zero is = omega arith
+within-undecided (state ∷ nodes) (suc node) is =
+    let more = within-undecided nodes node is in omega (arith, more)
 
-length_settled : (done : List PlanNode) → length (settled_all done) ≡ length done
-length_settled [] = refl
-length_settled (node ∷ done) = ap suc (length_settled done)
+-- a node that was undecided is not so any more, and all others are as before
+other-undecided : (nodes : List NodeState) (n node : ℕ) (stands : NodeState) → n < length nodes
+    → (stands ≡ Undecided → ⊥) → get_or (set nodes n stands) node Failed ≡ Undecided
+    → (node ≢ n) × (get_or nodes node Failed ≡ Undecided)
+other-undecided nodes n node stands within decided is = elim (cases_eq node n) [
+  | inl same ↦
+      let stood : get_or (set nodes n stands) node Failed ≡ stands =
+      ap (λ k. get_or (set nodes n stands) k Failed) same ∙ get_or-set_same nodes n stands Failed within
+      in
+      absurd (decided (sym stood ∙ is))
+  | inr other ↦ (other, sym (get_or-set_other nodes n node stands Failed other) ∙ is)
+]
 
-open-settled : (done : List PlanNode) (rest : List NodeState)
-    → open_jobs (settled_all done ++ rest) ≡ open_jobs rest
-open-settled [] rest = refl
-open-settled (node ∷ done) rest = grind (arith, common_steps, open-settled done rest)
+pub fresh-set : (nodes : List NodeState) (seen : ℕ → List Seen) (n : ℕ)
+    (stands : NodeState) → n < length nodes → (stands ≡ Undecided → ⊥)
+    → AreFreshBut n nodes seen → AreFresh (set nodes n stands) seen
+fresh-set nodes seen n stands within decided fresh node is =
+    let parts = other-undecided nodes n node stands within decided is in fresh node parts.0 parts.1
 
-open-undecided : (rest : List PlanNode) → open_jobs (undecided_all rest) ≡ 0
-open-undecided [] = refl
-open-undecided (node ∷ rest) = grind (arith, common_steps, open-undecided rest)
+pub fresh-but : (nodes : List NodeState) (seen : ℕ → List Seen) (n : ℕ)
+    → AreFresh nodes seen → AreFreshBut n nodes seen
+fresh-but nodes seen n fresh node other is = fresh node is
 
-failed-settled : (done : List PlanNode) (rest : List NodeState)
-    → list_any is_failed (settled_all done ++ rest) ≡ list_any is_failed rest
-failed-settled [] rest = refl
-failed-settled (node ∷ done) rest = failed-settled done rest
+pub unknown-set : (known : Known) (nodes : List NodeState) (n : ℕ) (stands : NodeState)
+    → n < length nodes → (stands ≡ Undecided → ⊥) → AreUnknown known nodes
+    → AreUnknown known (set nodes n stands)
+unknown-set known nodes n stands within decided unknown node is =
+    unknown node (other-undecided nodes n node stands within decided is).1
 
-failed-undecided : (rest : List PlanNode) → list_any is_failed (undecided_all rest) ≡ false
-failed-undecided [] = refl
-failed-undecided (node ∷ rest) = failed-undecided rest
+pub unknown-begun : (known more : Known) (nodes : List NodeState) (n : ℕ) (stands : NodeState)
+    → n < length nodes → (stands ≡ Undecided → ⊥)
+    → ((one : ℕ) → one ≢ n → more one ≡ known one) → AreUnknown known nodes
+    → AreUnknown more (set nodes n stands)
+unknown-begun known more nodes n stands within decided same unknown node is =
+    let parts = other-undecided nodes n node stands within decided is in
+    same node parts.0 ∙ unknown node parts.1
 
--- a settled node
-get-settled : (done : List PlanNode) (rest : List NodeState) (i : ℕ) (other : NodeState)
-    → i < length done → get_or (settled_all done ++ rest) i other ≡ Settled
-get-settled [] rest i other within = absurd (omega arith)
-get-settled (node ∷ done) rest zero other within = refl
-get-settled (node ∷ done) rest (suc i) other within =
-    get-settled done rest i other (omega arith)
+-- what comes next, by the nodes
 
--- the node behind the settled ones
-get-next : (done : List PlanNode) (stands : NodeState) (rest : List NodeState) (other : NodeState)
-    → get_or (settled_all done ++ stands ∷ rest) (length done) other ≡ stands
-get-next [] stands rest other = refl
-get-next (node ∷ done) stands rest other = get-next done stands rest other
+pub next-decides : (may : Option ℕ) (jobs node : ℕ) → next_by may jobs ≡ Decide node → may ≡ Some node
+next-decides None zero node h = cc
+next-decides None (suc more) node h = cc
+next-decides (Some other) jobs node h = cc
 
--- nodes that are not undecided are passed over
-first_ready-skip : (nodes : List NodeState) (place : ℕ) (done rest : List (List ℕ))
-    → ((i : ℕ) → i < length done → is_undecided (get_or nodes (place + i) Failed) ≡ false)
-    → first_ready nodes place (done ++ rest) ≡ first_ready nodes (place + length done) rest
-first_ready-skip nodes place [] rest settled = ap (λ p. first_ready nodes p rest) (omega arith)
-first_ready-skip nodes place (before ∷ done) rest settled =
-    let here : is_undecided (get_or nodes place Failed) ≡ false =
-    subst (λ p. is_undecided (get_or nodes p Failed) ≡ false) (omega arith)
-    (settled 0 (omega arith)) in
-    let more = first_ready-skip nodes (place + 1) done rest
-    (λ i within. subst (λ p. is_undecided (get_or nodes p Failed) ≡ false) (omega arith)
-    (settled (suc i) (omega arith))) in
-    rw here (more ∙ ap (λ p. first_ready nodes p rest) (omega arith))
+pub next-waits : (may : Option ℕ) (jobs : ℕ) → next_by may jobs ≡ Wait
+    → (may ≡ None) × (0 < jobs)
+next-waits None zero h = cc
+next-waits None (suc more) h = (refl, omega arith)
+next-waits (Some other) jobs h = cc
 
-map-append-befores : (done rest : List PlanNode) → befores (done ++ rest) ≡ befores done ++ befores rest
-map-append-befores [] rest = refl
-map-append-befores (node ∷ done) rest = ap (λ l. node.before ∷ l) (map-append-befores done rest)
+pub next-over : (may : Option ℕ) (jobs : ℕ) → next_by may jobs ≡ Over
+    → (may ≡ None) × (jobs ≡ 0)
+next-over None zero h = (refl, refl)
+next-over None (suc more) h = cc
+next-over (Some other) jobs h = cc
 
-length-befores : (done : List PlanNode) → length (befores done) ≡ length done
-length-befores [] = refl
-length-befores (node ∷ done) = ap suc (length-befores done)
+pub may_decide-of : (rules : Rules) (schedule : Schedule) (node : ℕ) → schedule.rules ≡ rules
+    → next_of schedule ≡ Decide node → may_decide rules schedule.nodes ≡ Some node
+may_decide-of rules schedule node is next =
+    subst (λ (r : Rules). may_decide r schedule.nodes ≡ Some node) is
+    (next-decides (may_decide schedule.rules schedule.nodes) (open_jobs schedule.nodes) node next)
 
-pub nothing_more : (i : ℕ) → 0 + i ≡ i
-nothing_more i = omega arith
-
--- the first node that may be ready is the one behind the settled ones
-first_ready-behind : (done rest : List PlanNode) (nodes : List NodeState)
-    → first_ready (settled_all done ++ nodes) 0 (befores (done ++ rest))
-    ≡ first_ready (settled_all done ++ nodes) (length done) (befores rest)
-first_ready-behind done rest nodes =
-    let skip = first_ready-skip (settled_all done ++ nodes) 0 (befores done) (befores rest)
-    (λ i within. rw (nothing_more i) (ap is_undecided (get-settled done nodes i Failed
-    (subst (λ n. i < n) (length-befores done) within)))) in
-    ap (first_ready (settled_all done ++ nodes) 0) (map-append-befores done rest)
-    ∙ (skip ∙ ap (λ p. first_ready (settled_all done ++ nodes) p (befores rest))
-    (nothing_more (length (befores done)) ∙ length-befores done))
-
-pub both : (a b : Bool) → (a && b) ≡ true → (a ≡ true) × (b ≡ true)
+both : (a b : Bool) → (a && b) ≡ true → (a ≡ true) × (b ≡ true)
 both true b is = (refl, is)
 both false b is = cc
 
--- what stands behind its predecessors has them settled
-pub settled-behind : (done : List PlanNode) (nodes : List NodeState) (before : List ℕ)
-    → is_behind (length done) before ≡ true
-    → all_settled (settled_all done ++ nodes) before ≡ true
-settled-behind done nodes [] behind = refl
-settled-behind done nodes (one ∷ before) behind =
-    let parts = both (nat_lt one (length done)) (is_behind (length done) before) behind in
-    let within : one < length done = grind (arith, nat_tests, common_steps) in
-    rw (get-settled done nodes one Undecided within) (settled-behind done nodes before parts.1)
+-- the first ready node has its predecessors settled
+pub record IsReadyAt (nodes : List NodeState) (place node : ℕ) (before : List (List ℕ)) : Type 0 where
+  pub behind : ℕ
+  pub is : node ≡ place + behind
+  pub settled : all_settled nodes (get_or before behind []) ≡ true
 
-no_more : (place : ℕ) → place + 0 ≡ place
-no_more place = omega arith
+some-is : (a b : ℕ) → Some a ≡ Some b → a ≡ b
+some-is a b is = cc
 
--- a node of an ordered plan stands behind its predecessors
-pub ordered-behind : (done : List PlanNode) (node : PlanNode) (rest : List PlanNode) (place : ℕ)
-    → are_ordered place (done ++ node ∷ rest) ≡ true
-    → is_behind (place + length done) node.before ≡ true
-ordered-behind [] node rest place ordered =
-    rw (no_more place)
-    (both (is_behind place node.before) (are_ordered (place + 1) rest) ordered).0
-ordered-behind (first ∷ done) node rest place ordered =
-    let more = ordered-behind done node rest (place + 1)
-    (both (is_behind place first.before) (are_ordered (place + 1) (done ++ node ∷ rest)) ordered).1 in
-    let same : place + 1 + length done ≡ place + length (first ∷ done) = omega arith in
-    rw (← same) more
+ready-by : (nodes : List NodeState) (place node : ℕ) (one : List ℕ) (more : List (List ℕ))
+    (ready : Bool) → (is_undecided (get_or nodes place Failed) && all_settled nodes one) ≡ ready
+    → (first_ready nodes (place + 1) more ≡ Some node → IsReadyAt nodes (place + 1) node more)
+    → (if ready then Some place else first_ready nodes (place + 1) more) ≡ Some node
+    → IsReadyAt nodes place node (one ∷ more)
+ready-by nodes place node one more true is behind h =
+    let same = some-is place node h in
+    record { behind = 0; is = omega (arith, same); settled = (both _ _ is).1 }
+ready-by nodes place node one more false is behind h =
+    let rest = behind h in
+    let place_is = rest.is in
+    record { behind = suc rest.behind; is = omega (arith, place_is); settled = rest.settled }
 
--- the rules of one job that stops at a failure
-abbrev pub OneJob : Rules → List PlanNode → Type 0
-OneJob rules nodes = (rules.before ≡ befores nodes) × (rules.jobs ≡ 1) × (rules.keep_going ≡ false)
+ready-at : (nodes : List NodeState) (place node : ℕ) (before : List (List ℕ))
+    → first_ready nodes place before ≡ Some node → IsReadyAt nodes place node before
+ready-at nodes place node [] h = cc
+ready-at nodes place node (one ∷ more) h =
+    ready-by nodes place node one more
+    (is_undecided (get_or nodes place Failed) && all_settled nodes one) refl
+    (ready-at nodes (place + 1) node more) h
 
--- the node behind the settled ones may be decided
-pub may_decide-next : (rules : Rules) (done : List PlanNode) (node : PlanNode)
-    (rest : List PlanNode) → OneJob rules (done ++ node ∷ rest)
-    → are_ordered 0 (done ++ node ∷ rest) ≡ true
-    → may_decide rules (line_up done Undecided rest) ≡ Some (length done)
-may_decide-next rules done node rest one ordered =
-    let nodes = line_up done Undecided rest in
-    let unfailed : list_any is_failed nodes ≡ false =
-    failed-settled done (Undecided ∷ undecided_all rest) ∙ failed-undecided rest in
-    let none_open : open_jobs nodes ≡ 0 =
-    open-settled done (Undecided ∷ undecided_all rest) ∙ open-undecided (node ∷ rest) in
-    let behind : is_behind (length done) node.before ≡ true =
-    subst (λ n. is_behind n node.before ≡ true) (nothing_more (length done))
-    (ordered-behind done node rest 0 ordered) in
-    let settled = settled-behind done (Undecided ∷ undecided_all rest) node.before behind in
-    let undecided : is_undecided (get_or nodes (length done) Failed) ≡ true =
-    ap is_undecided (get-next done Undecided (undecided_all rest) Failed) in
-    let first = first_ready-behind done (node ∷ rest) (Undecided ∷ undecided_all rest) in
-    rw (unfailed, none_open, one.0, one.1, one.2, first, undecided, settled) refl
+before-at : (plan : List PlanNode) (n : ℕ) → get_or (predecessors plan) n [] ≡ (node_at plan n).before
+before-at [] n = refl
+before-at (node ∷ plan) zero = refl
+before-at (node ∷ plan) (suc n) = before-at plan n
 
-pub open_jobs-open : (done rest : List PlanNode) → open_jobs (line_up done Open rest) ≡ 1
-open_jobs-open done rest =
-    open-settled done (Open ∷ undecided_all rest)
-    ∙ grind (arith, common_steps, open-undecided rest)
+decide-first : (rules : Rules) (nodes : List NodeState) (node : ℕ) (b : Bool)
+    → (if b then first_ready nodes 0 rules.before else None) ≡ Some node
+    → first_ready nodes 0 rules.before ≡ Some node
+decide-first rules nodes node true h = h
+decide-first rules nodes node false h = cc
 
-pub open_jobs-failed : (done rest : List PlanNode) → open_jobs (line_up done Failed rest) ≡ 0
-open_jobs-failed done rest =
-    open-settled done (Failed ∷ undecided_all rest)
-    ∙ grind (arith, common_steps, open-undecided rest)
+-- a node that may be decided has all that it needs settled
+pub settled-before : (rules : Rules) (plan : List PlanNode) (nodes : List NodeState) (n : ℕ)
+    → rules.before ≡ predecessors plan → may_decide rules nodes ≡ Some n
+    → all_settled nodes (node_at plan n).before ≡ true
+settled-before rules plan nodes n are may =
+    let ready = ready-at nodes 0 n rules.before (decide-first rules nodes n _ may) in
+    let same : n ≡ ready.behind = let i = ready.is in omega (arith, i) in
+    let row : get_or rules.before ready.behind [] ≡ (node_at plan n).before =
+    ap (λ l. get_or l ready.behind []) are ∙ (ap (λ k. get_or (predecessors plan) k []) (sym same)
+    ∙ before-at plan n) in
+    subst (λ l. all_settled nodes l ≡ true) row ready.settled
 
-pub unfailed-open : (done rest : List PlanNode)
-    → list_any is_failed (line_up done Open rest) ≡ false
-unfailed-open done rest =
-    failed-settled done (Open ∷ undecided_all rest) ∙ failed-undecided rest
+-- how many nodes are undecided
 
--- nothing may be decided while the one job is open
-pub may_decide-open : (rules : Rules) (done : List PlanNode) (rest : List PlanNode)
-    → rules.jobs ≡ 1 → may_decide rules (line_up done Open rest) ≡ None
-may_decide-open rules done rest one =
-    let nodes = line_up done Open rest in
-    let one_open : open_jobs nodes ≡ 1 = open_jobs-open done rest in
-    busy (not (is_stopped rules nodes)) (first_ready nodes 0 rules.before)
-    (rw (one_open, one) refl)
-  where
-    busy : (going : Bool) (first : Option ℕ) → nat_lt (open_jobs (line_up done Open rest)) rules.jobs ≡ false
-        → (if going && nat_lt (open_jobs (line_up done Open rest)) rules.jobs then first else None) ≡ None
-    busy true first is = rw is refl
-    busy false first is = refl
+undecided-set : (nodes : List NodeState) (node : ℕ) (state other : NodeState) → node < length nodes
+    → undecided (set nodes node state) + (if is_undecided (get_or nodes node other) then 1 else 0)
+    ≡ undecided nodes + (if is_undecided state then 1 else 0)
+undecided-set nodes node state other within =
+    sum_by-set (λ one. if is_undecided one then 1 else 0) nodes node state other within
 
--- nothing is decided behind a failure
-pub may_decide-failed : (rules : Rules) (done : List PlanNode) (rest : List PlanNode)
-    → rules.keep_going ≡ false → may_decide rules (line_up done Failed rest) ≡ None
-may_decide-failed rules done rest stops =
-    let failed : list_any is_failed (line_up done Failed rest) ≡ true =
-    failed-settled done (Failed ∷ undecided_all rest) in
-    rw (stops, failed) refl
+-- a node is decided
+pub undecided-less : (nodes : List NodeState) (node : ℕ) (state : NodeState) → node < length nodes
+    → get_or nodes node Failed ≡ Undecided → is_undecided state ≡ false
+    → undecided (set nodes node state) < undecided nodes
+undecided-less nodes node state within was is =
+    let before : is_undecided (get_or nodes node Failed) ≡ true = ap is_undecided was in
+    let counts : undecided (set nodes node state) + 1 ≡ undecided nodes + 0 =
+    rw (before, is) at (undecided-set nodes node state Failed within) in
+    omega (arith, counts)
 
--- nothing is left to decide
-pub may_decide-all : (rules : Rules) (done : List PlanNode) → rules.before ≡ befores done
-    → may_decide rules (settled_all done ++ []) ≡ None
-may_decide-all rules done are =
-    let first = first_ready-behind done [] [] in
-    let skip : first_ready (settled_all done ++ []) 0 rules.before ≡ None =
-    rw are (subst (λ l. first_ready (settled_all done ++ []) 0 (befores l) ≡ None)
-    (append-nil done) first) in
-    both_none (not (is_stopped rules (settled_all done ++ []))
-    && nat_lt (open_jobs (settled_all done ++ [])) rules.jobs) _ skip
-  where
-    both_none : (may : Bool) (first : Option ℕ) → first ≡ None
-        → (if may then first else None) ≡ None
-    both_none true first is = is
-    both_none false first is = refl
+-- an open node ends
+pub undecided-same : (nodes : List NodeState) (node : ℕ) (state : NodeState) → node < length nodes
+    → get_or nodes node Undecided ≡ Open → is_undecided state ≡ false
+    → undecided (set nodes node state) ≡ undecided nodes
+undecided-same nodes node state within was is =
+    let before : is_undecided (get_or nodes node Undecided) ≡ false = ap is_undecided was in
+    let counts : undecided (set nodes node state) + 0 ≡ undecided nodes + 0 =
+    rw (before, is) at (undecided-set nodes node state Undecided within) in
+    omega (arith, counts)
 
-pub open_jobs-all : (done : List PlanNode) → open_jobs (settled_all done ++ []) ≡ 0
-open_jobs-all done = open-settled done []
+-- as many nodes stand in a run as in its plan
+pub length-predecessors : (plan : List PlanNode) → length (predecessors plan) ≡ length plan
+length-predecessors [] = refl
+length-predecessors (node ∷ plan) = ap suc (length-predecessors plan)
 
--- how one node stands changes that one alone
-pub set-line_up : (done rest : List PlanNode) (stands now : NodeState) (n : ℕ) → n ≡ length done
-    → set (line_up done stands rest) n now ≡ line_up done now rest
-set-line_up done rest stands now n is =
-    rw (is ∙ sym (length_settled done))
-    (set-append_seam (settled_all done) stands (undecided_all rest) now)
+failed-set : (nodes : List NodeState) (node : ℕ) → node < length nodes
+    → get_or nodes node Failed ≡ Undecided
+    → list_any is_failed (set nodes node Open) ≡ list_any is_failed nodes
+failed-set [] node within was = cc
+failed-set (state ∷ nodes) zero within was = rw was refl
+failed-set (state ∷ nodes) (suc node) within was =
+    ap (λ b. is_failed state || b) (failed-set nodes node (omega (arith, within)) was)
 
-within-seam : (done : List PlanNode) (stands : NodeState) (rest : List NodeState)
-    → length done < length (settled_all done ++ stands ∷ rest)
-within-seam [] stands rest = omega arith
-within-seam (node ∷ done) stands rest = let more = within-seam done stands rest in omega arith
-
-pub get-line_up : (done rest : List PlanNode) (stands : NodeState) (n : ℕ) → n ≡ length done
-    → slice_get (line_up done stands rest) n ≡ Some stands
-get-line_up done rest stands n is =
-    rw is (slice_get-get_or (line_up done stands rest) (length done) stands
-    (within-seam done stands (undecided_all rest))
-    ∙ ap (λ x. Some x) (get-next done stands (undecided_all rest) stands))
+-- a node that gets a token is no failure
+pub unstopped-begun : (rules : Rules) (schedule : Schedule) (node : ℕ) → schedule.rules ≡ rules
+    → node < length schedule.nodes → get_or schedule.nodes node Failed ≡ Undecided
+    → is_stopped schedule.rules schedule.nodes ≡ false
+    → is_stopped rules (set schedule.nodes node Open) ≡ false
+unstopped-begun rules schedule node are within undecided going =
+    let same : is_stopped rules (set schedule.nodes node Open) ≡ is_stopped rules schedule.nodes =
+    ap (λ b. not rules.keep_going && b) (failed-set schedule.nodes node within undecided) in
+    same ∙ subst (λ (r : Rules). is_stopped r schedule.nodes ≡ false) are going

@@ -1,7 +1,7 @@
 -- What a build has printed, when more follows.
-use Rattle.std.proofs.Common.{◌≡◌, ◌∙◌, ℕ, ◌+◌, ◌<◌, ◌≤◌, List, [], ◌∷◌, ◌++◌, length, get_or, Bool, true, false, if◌then◌else◌}
-use Rattle.std.proofs.Common.{refl, sym, ap, subst, arith}
-use Rattle.std.proofs.lemmas.List.{append-nil, get_or_append_left}
+use Rattle.std.proofs.Common.{◌≡◌, ◌∙◌, ℕ, ◌<◌, ◌≤◌, List, [], ◌∷◌, ◌++◌, length, get_or, Bool, true, false, if◌then◌else◌}
+use Rattle.std.proofs.Common.{refl, ap, arith}
+use Rattle.std.proofs.lemmas.List.{get_or_append_left}
 use Rattle.mk_driver.specs.Output.{Job, Printed, printed_after, printed_all, with_piece, echo}
 use Rattle.mk_driver.specs.Runs.{line_of, has_child}
 use Rattle.mk_driver.specs.declared.event.Event.{Event}
@@ -15,16 +15,11 @@ printed_all-append job outputs printed [] more = refl
 printed_all-append job outputs printed (event ∷ events) more =
     printed_all-append job outputs (printed_after job outputs printed event) events more
 
-piece-ended : (job : Job) (printed : Printed) (node : ℕ) (piece : List ℕ)
-    → (with_piece job printed node piece).ended ≡ printed.ended + 1
-piece-ended job printed node [] = refl
-piece-ended job printed node (byte ∷ piece) = refl
-
 end-rises : (job : Job) (outputs : List (List ℕ)) (printed : Printed) (node number : ℕ) (b : Bool)
     (piece : List ℕ)
     → printed.ended ≤ (if b then with_piece job printed node piece else printed).ended
 end-rises job outputs printed node number true piece =
-    rw (piece-ended job printed node piece) (omega arith)
+    omega arith
 end-rises job outputs printed node number false piece = omega arith
 
 after-rises : (job : Job) (outputs : List (List ℕ)) (printed : Printed) (event : Event)
@@ -53,9 +48,6 @@ end-same : (job : Job) (outputs more : List (List ℕ)) (printed : Printed) (nod
     else printed)
     ≡ (if b then with_piece job printed node (text ++ get_or outputs printed.ended []) else printed)
 end-same job outputs more printed node number true text few =
-    let one_more : printed.ended + 1 ≤ length outputs =
-    subst (λ n. n ≤ length outputs)
-    (piece-ended job printed node (text ++ get_or outputs printed.ended [])) few in
     let within : printed.ended < length outputs = omega arith in
     ap (λ o. with_piece job printed node (text ++ o))
     (get_or_append_left outputs more [] printed.ended within)
@@ -85,13 +77,3 @@ printed_all-same job outputs more printed (event ∷ events) few =
     ap (λ p. printed_all job (outputs ++ more) p events)
     (after-same job outputs more printed event early)
     ∙ printed_all-same job outputs more (printed_after job outputs printed event) events few
-
--- with one job, a piece is printed as it is
-pub piece-plain : (job : Job) (printed : Printed) (node : ℕ) (piece : List ℕ) → job.many ≡ false
-    → (with_piece job printed node piece).bytes ≡ printed.bytes ++ piece
-piece-plain job printed node [] one = sym (append-nil printed.bytes)
-piece-plain job printed node (byte ∷ piece) one = rw one refl
-
-pub piece-counts : (job : Job) (printed : Printed) (node : ℕ) (piece : List ℕ)
-    → (with_piece job printed node piece).ended ≡ printed.ended + 1
-piece-counts job printed node piece = piece-ended job printed node piece

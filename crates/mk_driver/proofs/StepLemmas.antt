@@ -1,277 +1,329 @@
--- How each kind of item leaves a build with one job.
-use Rattle.std.proofs.Common.{◌≡◌, ◌∙◌, ℕ, ◌+◌, ◌<◌, ◌≤◌, ◌==◌, List, [], ◌∷◌, ◌++◌, length, map, take, drop, set, slice_get, Option, Some, None, true, false}
-use Rattle.std.proofs.Common.{refl, sym, ap, subst, append_assoc, arith}
+-- How each kind of item leaves a build.
+use Rattle.std.proofs.Common.{◌≡◌, ◌≢◌, ◌∙◌, ℕ, ◌<◌, ◌≤◌, ◌==◌, List, [], ◌∷◌, ◌++◌, length, get_or, set, Option, Some, None, true, false, if◌then◌else◌}
+use Rattle.std.proofs.Common.{inl, inr, refl, sym, ap, subst, append_assoc, arith}
 use Rattle.std.proofs.lemmas.Grind.{common_steps}
 use Rattle.std.proofs.lemmas.Bool.Decides.{nat_tests}
-use Rattle.std.proofs.lemmas.List.{append-nil, take-append-drop, drop_more, take_more, length-take-le, map-append}
-use Rattle.mk_plan.specs.Deciding.{may_decide}
-use Rattle.mk_plan.specs.Plans.{node_at, no_node, are_ordered, is_behind}
-use Rattle.mk_plan.specs.declared.plan.NodeState.{NodeState}
-use Rattle.mk_plan.specs.declared.plan.NodeState.TheVariants.{Undecided, Open, Settled, Failed}
-use Rattle.mk_plan.specs.declared.plan.PlanNode.{PlanNode}
-use Rattle.mk_world.specs.declared.command.Cmd.{Cmd}
-use Rattle.mk_world.specs.declared.command.TaskLine.{TaskLine}
+use Rattle.std.proofs.lemmas.Bool.{cases_eq}
+use Rattle.std.proofs.lemmas.List.{append-nil}
 use Rattle.mk_expand.specs.declared.fault.ExpandFault.{ExpandFault}
 use Rattle.mk_plan.specs.Asking.{Seen}
-use Rattle.mk_driver.specs.Builds.{Work, Build, Sight, HasFault, rules_of, build_after, build_after_all, IsWaiting, IsKept, IsBegun, IsRefused, IsCommandOf, command_of}
-use Rattle.mk_driver.specs.Calls.{look_items}
-use Rattle.mk_driver.specs.Items.{looks, keeps, refuses, starts, waits, reported_all}
-use Rattle.mk_driver.specs.Progress.{AtNode, IsReady, IsSeen, IsPoised, IsRunning, IsUnexpanded, nodes_at}
+use Rattle.mk_plan.specs.Deciding.{may_decide, open_jobs}
+use Rattle.mk_plan.specs.declared.plan.NodeState.{NodeState}
+use Rattle.mk_plan.specs.declared.plan.NodeState.TheVariants.{Undecided, Open, Settled, Failed}
+use Rattle.mk_world.specs.declared.command.Cmd.{Cmd}
+use Rattle.mk_world.specs.declared.command.TaskLine.{TaskLine}
+use Rattle.mk_driver.specs.Builds.{Work, Build, rules_of, build_after, build_after_all, or_next, IsWaiting, IsKept, IsBegun, IsRefused, IsCommandOf, command_of}
+use Rattle.mk_driver.specs.Calls.{AreLooks}
+use Rattle.mk_driver.specs.Items.{Item, looks, keeps, refuses, starts, passes, waits, steps, ends, removes, leaves}
+use Rattle.mk_driver.specs.Jobs.{AreApart, HasLine}
+use Rattle.mk_driver.specs.Progress.{Known, HasTasks, AreRunning, IsGoing, IsSeen, IsPoised, IsBehind, IsRunning}
 use Rattle.mk_driver.specs.Runs as run
 use Rattle.mk_driver.specs.Steps.{GoesOn}
-use Rattle.mk_driver.specs.declared.event.Event.{Event}
-use Rattle.mk_driver.proofs.NodeLemmas as nodes
-
-abbrev pub done_of : Work → ℕ → List PlanNode
-done_of work n = take n work.plan
-
-abbrev pub rest_of : Work → ℕ → List PlanNode
-rest_of work n = drop (n + 1) work.plan
-
--- a plan is cut at one of its nodes
-cut_at : (plan : List PlanNode) (n : ℕ) → n < length plan
-    → plan ≡ take n plan ++ node_at plan n ∷ drop (n + 1) plan
-cut_at plan n within =
-    sym (take-append-drop n plan)
-    ∙ ap (λ l. take n plan ++ l) (drop_more plan n no_node within)
-
-long_done : (work : Work) (n : ℕ) → n < length work.plan → n ≡ length (done_of work n)
-long_done work n within = sym (length-take-le n work.plan (omega arith))
-
--- the rules of the plan, cut at a node
-one_job_at : (work : Work) (n : ℕ) → AtNode work n
-    → nodes.OneJob (rules_of work) (done_of work n ++ node_at work.plan n ∷ rest_of work n)
-one_job_at work n at = (
-  ap (map (λ (node : PlanNode). node.before)) (cut_at work.plan n at.within),
-  at.one_job,
-  at.stops,
-)
-
-ordered_at : (work : Work) (n : ℕ) → AtNode work n
-    → are_ordered 0 (done_of work n ++ node_at work.plan n ∷ rest_of work n) ≡ true
-ordered_at work n at =
-    subst (λ l. are_ordered 0 l ≡ true) (cut_at work.plan n at.within) at.ordered
-
--- the node at hand may be decided
-pub decides : (work : Work) (n : ℕ) → AtNode work n
-    → may_decide (rules_of work) (nodes_at work n Undecided) ≡ Some n
-decides work n at =
-    nodes.may_decide-next (rules_of work) (done_of work n) (node_at work.plan n) (rest_of work n)
-    (one_job_at work n at) (ordered_at work n at)
-    ∙ ap (λ m. Some m) (sym (long_done work n at.within))
-
--- the nodes of a plan are those settled and those undecided, or cut at the one at hand
-ready-nodes : (work : Work) (n : ℕ) → n < length work.plan
-    → map (λ (node : PlanNode). Settled) (take n work.plan)
-    ++ map (λ (node : PlanNode). Undecided) (drop n work.plan)
-    ≡ nodes_at work n Undecided
-ready-nodes work n within =
-    ap (λ l. map (λ (node : PlanNode). Settled) (take n work.plan)
-    ++ map (λ (node : PlanNode). Undecided) l) (drop_more work.plan n no_node within)
-
-pub settled-nodes : (work : Work) (n : ℕ) → n < length work.plan
-    → nodes_at work n Settled
-    ≡ map (λ (node : PlanNode). Settled) (take (n + 1) work.plan)
-    ++ map (λ (node : PlanNode). Undecided) (drop (n + 1) work.plan)
-settled-nodes work n within =
-    rw (
-      take_more work.plan n no_node within,
-      map-append (λ (node : PlanNode). Settled) (take n work.plan) (node_at work.plan n ∷ []),
-    )
-    (sym (append_assoc (map (λ (node : PlanNode). Settled) (take n work.plan)) (Settled ∷ [])
-    (map (λ (node : PlanNode). Undecided) (drop (n + 1) work.plan))))
-
-pub set-nodes : (work : Work) (n : ℕ) (stands now : NodeState) → n < length work.plan
-    → set (nodes_at work n stands) n now ≡ nodes_at work n now
-set-nodes work n stands now within =
-    nodes.set-line_up (done_of work n) (rest_of work n) stands now n (long_done work n within)
-
-pub get-nodes : (work : Work) (n : ℕ) (stands : NodeState) → n < length work.plan
-    → slice_get (nodes_at work n stands) n ≡ Some stands
-get-nodes work n stands within =
-    nodes.get-line_up (done_of work n) (rest_of work n) stands n (long_done work n within)
-
--- nothing is seen of a node that is ready
-pub seen-nothing : (work : Work) (n : ℕ) (tasks : run.Tasks) (build : Build)
-    (failure : Option Event) → n < length work.plan → IsReady work n tasks build failure
-    → IsSeen work n [] tasks build failure
-seen-nothing work n tasks build failure within ready = record {
-  nodes = ready.nodes ∙ ready-nodes work n within;
-  due = ready.due;
-  now = ready.unseen n (omega arith);
-  unseen = λ node later. ready.unseen node (omega arith);
-  unfailed = ready.unfailed;
-}
-
-pub or_none : (failure : Option Event) → failure ≡ None → run.or_next failure None ≡ None
-or_none failure is = rw is refl
-
-waits_to_be_seen : (work : Work) (n : ℕ) (state : run.State) → AtNode work n
-    → state.nodes ≡ nodes_at work n Undecided → IsWaiting work state n
-waits_to_be_seen work n state at are =
-    let behind = nodes.ordered-behind (done_of work n) (node_at work.plan n) (rest_of work n) 0
-    (ordered_at work n at) in
-    let settled = nodes.settled-behind (done_of work n)
-    (Undecided ∷ map (λ (node : PlanNode). Undecided) (rest_of work n))
-    (node_at work.plan n).before
-    (subst (λ m. is_behind m (node_at work.plan n).before ≡ true)
-    (nodes.nothing_more (length (done_of work n))) behind) in (
-      rw are (get-nodes work n Undecided at.within),
-      rw are settled,
-    )
+use Rattle.mk_driver.specs.declared.job.Job.{Job}
+use Rattle.mk_driver.specs.declared.result.Failure.{Failure}
+use Rattle.mk_driver.specs.declared.result.Failure.TheVariants.{Expand}
+use Rattle.mk_driver.proofs.NodeLemmas.{fresh-but, fresh-set, get-undecided, settled-before}
 
 pub same_node : (n : ℕ) → (n == n) ≡ true
 same_node n = grind (arith, nat_tests, common_steps)
 
-other_node : (n node : ℕ) → n + 1 ≤ node → (node == n) ≡ false
-other_node n node later = grind (arith, nat_tests, common_steps)
+pub other_node : (n node : ℕ) → node ≢ n → (node == n) ≡ false
+other_node n node other = grind (arith, nat_tests, common_steps)
+
+-- jobs of other nodes run as before
+pub running-apart : (known more : Known) (started now_started ticket now_ticket : ℕ → ℕ)
+    (n : ℕ) (jobs : List Job) → AreApart n jobs
+    → ((one : ℕ) → one ≢ n → now_started one ≡ started one)
+    → ((one : ℕ) → one ≢ n → now_ticket one ≡ ticket one)
+    → ((one : ℕ) → one ≢ n → more one ≡ known one)
+    → AreRunning known started ticket jobs → AreRunning more now_started now_ticket jobs
+running-apart known more started now_started ticket now_ticket n [] apart begins tickets tasks are = tt
+running-apart known more started now_started ticket now_ticket n (job ∷ jobs) apart begins tickets tasks
+    are = (
+      record {
+        number_is = begins job.node apart.0 ∙ are.0.number_is;
+        ticket_is = tickets job.node apart.0 ∙ are.0.ticket_is;
+        task = tasks job.node apart.0 ∙ are.0.task;
+      },
+      running-apart known more started now_started ticket now_ticket n jobs apart.1 begins tickets tasks
+          are.1,
+    )
+
+pub running-take : (known : Known) (started ticket : ℕ → ℕ) (front back : List Job) (job : Job)
+    → AreRunning known started ticket (front ++ job ∷ back)
+    → IsRunning known started ticket job × AreRunning known started ticket (front ++ back)
+running-take known started ticket [] back job are = are
+running-take known started ticket (first ∷ front) back job are =
+    let more = running-take known started ticket front back job are.1 in (more.0, (are.0, more.1))
+
+pub running-add : (known : Known) (started ticket : ℕ → ℕ) (jobs : List Job) (job : Job)
+    → AreRunning known started ticket jobs → IsRunning known started ticket job
+    → AreRunning known started ticket (jobs ++ job ∷ [])
+running-add known started ticket [] job are is = (is, tt)
+running-add known started ticket (first ∷ jobs) job are is =
+    (are.0, running-add known started ticket jobs job are.1 is)
+
+-- nothing is seen of a node that is undecided
+pub seen-nothing : (known : Known) (nodes : List NodeState) (jobs : List Job)
+    (failure : Option Failure) (n : ℕ) (tasks : run.Tasks) (build : Build)
+    → get_or nodes n Failed ≡ Undecided
+    → IsGoing known nodes run.anything jobs failure tasks build
+    → IsSeen known nodes jobs failure n [] tasks build
+seen-nothing known nodes jobs failure n tasks build undecided is = record {
+  nodes_are = is.nodes_are;
+  due_is = is.due_is;
+  running = is.running;
+  failed = is.failed;
+  none_doomed = is.none_doomed;
+  now = is.fresh n undecided;
+  fresh = fresh-but nodes build.seen n is.fresh;
+}
 
 -- one look more
-seen-one : (work : Work) (n : ℕ) (tasks : run.Tasks) (build : Build) (failure : Option Event)
-    (seen : List Seen) (one : Seen) → IsSeen work n seen tasks build failure
-    → IsSeen work n (seen ++ one ∷ []) tasks
-    (build_after work tasks build (looks n one.path one.when)) failure
-seen-one work n tasks build failure seen one is = record {
-  nodes = is.nodes;
-  due = is.due;
+seen-one : (work : Work) (known : Known) (nodes : List NodeState) (jobs : List Job)
+    (failure : Option Failure) (n : ℕ) (tasks : run.Tasks) (build : Build) (seen : List Seen)
+    (one : Seen) → IsSeen known nodes jobs failure n seen tasks build
+    → IsSeen known nodes jobs failure n (seen ++ one ∷ []) tasks
+    (build_after work tasks build (looks n one.path one.when))
+seen-one work known nodes jobs failure n tasks build seen one is = record {
+  nodes_are = is.nodes_are;
+  due_is = is.due_is;
+  running = is.running;
+  failed = is.failed;
+  none_doomed = is.none_doomed;
   now = rw (same_node n, is.now) refl;
-  unseen = λ node later. rw (other_node n node later) (is.unseen node later);
-  unfailed = is.unfailed;
+  fresh = λ node other undecided. rw (other_node n node other) (is.fresh node other undecided);
 }
 
-pub go_on-looks : (work : Work) (n : ℕ) (tasks : run.Tasks) (more : List Seen) → AtNode work n
-    → (build : Build) (failure : Option Event) (seen : List Seen)
-    → IsSeen work n seen tasks build failure
-    → GoesOn work tasks build failure (look_items n more) (IsSeen work n (seen ++ more))
-go_on-looks work n tasks [] at build failure seen is = record {
+pub go_on-looks : (work : Work) (known : Known) (nodes : List NodeState) (jobs : List Job)
+    (failure : Option Failure) (n : ℕ) (tasks : run.Tasks) (items : List Item) (more : List Seen)
+    → IsWaiting work (record { nodes = nodes; started = λ one. 0; due = run.anything }) n
+    → AreLooks n more items → (build : Build) (seen : List Seen)
+    → IsSeen known nodes jobs failure n seen tasks build
+    → GoesOn work tasks build items (IsSeen known nodes jobs failure n (seen ++ more))
+go_on-looks work known nodes jobs failure n tasks [] more waiting are build seen is = record {
   makes = tt;
-  stands = rw (or_none failure is.unfailed, append-nil seen)
-      (subst (IsSeen work n seen tasks build) is.unfailed is);
+  stands = rw (are, append-nil seen) is;
 }
-go_on-looks work n tasks (one ∷ more) at build failure seen is =
-    let rest = go_on-looks work n tasks more at
-    (build_after work tasks build (looks n one.path one.when)) failure (seen ++ one ∷ [])
-    (seen-one work n tasks build failure seen one is) in
+go_on-looks work known nodes jobs failure n tasks (looks node path when ∷ items) more waiting are build
+    seen is =
+    let one : Seen = record { path = path; when = when } in
+    let now = seen-one work known nodes jobs failure n tasks build seen one is in
+    let here : build_after work tasks build (looks node path when)
+    ≡ build_after work tasks build (looks n path when) =
+    ap (λ k. build_after work tasks build (looks k path when)) are.2 in
+    let rest = go_on-looks work known nodes jobs failure n tasks items are.0 waiting are.3
+    (build_after work tasks build (looks node path when)) (seen ++ one ∷ [])
+    (subst (IsSeen known nodes jobs failure n (seen ++ one ∷ []) tasks) (sym here) now) in
     record {
-      makes = (tt, waits_to_be_seen work n build.run at is.nodes, rest.makes);
-      stands = subst (λ l. IsSeen work n l tasks
-          (build_after_all work tasks build (look_items n (one ∷ more)))
-          (run.or_next failure (run.first_failure tasks (reported_all (look_items n more)))))
-          (append_assoc seen (one ∷ []) more) rest.stands;
+      makes = (
+        tt,
+        is.none_doomed,
+        rw (are.2, is.nodes_are) waiting,
+        rest.makes,
+      );
+      stands = subst (λ l. IsSeen known nodes jobs failure n l tasks
+          (build_after_all work tasks build (looks node path when ∷ items)))
+          (append_assoc seen (one ∷ []) are.0 ∙ ap (λ l. seen ++ l) (sym are.1)) rest.stands;
     }
+go_on-looks work known nodes jobs failure n tasks (steps ticket owner deed time ∷ items) more waiting are
+    build seen is =
+    let rest = go_on-looks work known nodes jobs failure n tasks items more waiting are
+    (build_after work tasks build (steps ticket owner deed time)) seen
+    (record {
+      nodes_are = is.nodes_are;
+      due_is = is.due_is;
+      running = is.running;
+      failed = is.failed;
+      none_doomed = is.none_doomed;
+      now = is.now;
+      fresh = is.fresh;
+    }) in
+    record { makes = (tt, tt, tt, rest.makes); stands = rest.stands }
+go_on-looks work known nodes jobs failure n tasks (keeps node ∷ items) more waiting are build seen is =
+    absurd are
+go_on-looks work known nodes jobs failure n tasks (refuses node number what ∷ items) more waiting are
+    build seen is = absurd are
+go_on-looks work known nodes jobs failure n tasks (starts node number ticket owner cmd ∷ items) more
+    waiting are build seen is = absurd are
+go_on-looks work known nodes jobs failure n tasks (passes node number ∷ items) more waiting are build
+    seen is = absurd are
+go_on-looks work known nodes jobs failure n tasks (waits ∷ items) more waiting are build seen is =
+    absurd are
+go_on-looks work known nodes jobs failure n tasks (ends node number owner ended ∷ items) more waiting
+    are build seen is = absurd are
+go_on-looks work known nodes jobs failure n tasks (removes node path time ∷ items) more waiting are
+    build seen is = absurd are
+go_on-looks work known nodes jobs failure n tasks (leaves ticket owner ∷ items) more waiting are build
+    seen is = absurd are
+
+-- a node that may be decided may be looked at
+pub waiting-at : (work : Work) (nodes : List NodeState) (n : ℕ)
+    → get_or nodes n Failed ≡ Undecided → may_decide (rules_of work) nodes ≡ Some n
+    → IsWaiting work (record { nodes = nodes; started = λ one. 0; due = run.anything }) n
+waiting-at work nodes n undecided may =
+    (get-undecided nodes n undecided, settled-before (rules_of work) work.plan nodes n refl may)
 
 -- a kept node is settled
-pub go_on-keeps : (work : Work) (n : ℕ) (tasks : run.Tasks) → AtNode work n → (build : Build)
-    (failure : Option Event) (seen : List Seen) → IsSeen work n seen tasks build failure
-    → IsKept work n seen
-    → GoesOn work tasks build failure (keeps n ∷ []) (IsReady work (n + 1))
-go_on-keeps work n tasks at build failure seen is kept = record {
+pub go_on-keeps : (work : Work) (known : Known) (nodes : List NodeState) (jobs : List Job)
+    (failure : Option Failure) (n : ℕ) (tasks : run.Tasks) (seen : List Seen) (build : Build)
+    → n < length nodes → may_decide (rules_of work) nodes ≡ Some n
+    → IsSeen known nodes jobs failure n seen tasks build → IsKept work n seen
+    → GoesOn work tasks build (keeps n ∷ [])
+    (IsGoing known (set nodes n Settled) run.anything jobs failure)
+go_on-keeps work known nodes jobs failure n tasks seen build within may is kept = record {
   makes = (
-    ((is.due, rw is.nodes (decides work n at)), tt),
+    ((is.due_is, rw is.nodes_are may), tt),
+    is.none_doomed,
     subst (IsKept work n) (sym is.now) kept,
     tt,
   );
   stands = record {
-    nodes = rw is.nodes (set-nodes work n Undecided Settled at.within
-        ∙ settled-nodes work n at.within);
-    due = refl;
-    unseen = is.unseen;
-    unfailed = or_none failure is.unfailed;
+    nodes_are = ap (λ l. set l n Settled) is.nodes_are;
+    due_is = refl;
+    running = is.running;
+    failed = is.failed;
+    none_doomed = is.none_doomed;
+    fresh = fresh-set nodes build.seen n Settled within (λ is. cc) is.fresh;
   };
 }
 
--- a refused node ends the build
-pub go_on-refuses : (work : Work) (n number : ℕ) (tasks : run.Tasks) (what : ExpandFault)
-    → AtNode work n → (build : Build) (failure : Option Event) (seen : List Seen)
-    → IsSeen work n seen tasks build failure → (sight : Sight work n seen)
-    → HasFault work n sight.target sight.sources sight.asked number what
-    → GoesOn work tasks build failure (refuses n number ∷ []) (IsUnexpanded work n number what)
-go_on-refuses work n number tasks what at build failure seen is sight fault =
-    let all = set-nodes work n Undecided Failed at.within in
-    let now : Sight work n (build.seen n) = subst (Sight work n) (sym is.now) sight in
+-- a refused node has failed
+pub go_on-refuses : (work : Work) (known : Known) (nodes : List NodeState) (jobs : List Job)
+    (failure : Option Failure) (n number : ℕ) (what : ExpandFault) (tasks : run.Tasks)
+    (seen : List Seen) (build : Build)
+    → n < length nodes → may_decide (rules_of work) nodes ≡ Some n
+    → IsSeen known nodes jobs failure n seen tasks build → IsRefused work n seen number what
+    → GoesOn work tasks build (refuses n number what ∷ [])
+    (IsGoing known (set nodes n Failed) run.anything jobs
+    (or_next failure (Some (Expand n number what))))
+go_on-refuses work known nodes jobs failure n number what tasks seen build within may is refused =
     record {
       makes = (
-        ((is.due, rw is.nodes (decides work n at)), tt),
-        subst (λ l. IsRefused work n l number) (sym is.now) (sight, what, fault),
+        ((is.due_is, rw is.nodes_are may), tt),
+        is.none_doomed,
+        subst (λ l. IsRefused work n l number what) (sym is.now) refused,
         tt,
       );
       stands = record {
-        over = record {
-          due = refl;
-          none_open = rw (is.nodes, all) (nodes.open_jobs-failed (done_of work n) (rest_of work n));
-          none_ready = rw (is.nodes, all) (nodes.may_decide-failed (rules_of work)
-              (done_of work n) (rest_of work n) at.stops);
-        };
-        failed = rw is.unfailed refl;
-        sight = record {
-          target = sight.target;
-          sources = sight.sources;
-          asked = sight.asked;
-          are = is.now ∙ sight.are;
-          each = sight.each;
-        };
-        fault = fault;
+        nodes_are = ap (λ l. set l n Failed) is.nodes_are;
+        due_is = refl;
+        running = is.running;
+        failed = ap (λ f. or_next f (Some (Expand n number what))) is.failed;
+        none_doomed = is.none_doomed;
+        fresh = fresh-set nodes build.seen n Failed within (λ is. cc) is.fresh;
       };
     }
 
+-- the task of one more node is known
+abbrev pub with_task : Known → ℕ → List TaskLine → Known
+with_task known n lines = λ one. if one == n then Some lines else known one
+
+pub has-before : (known : Known) (n : ℕ) (lines : List TaskLine) (tasks : run.Tasks)
+    → known n ≡ None → HasTasks tasks (with_task known n lines) → HasTasks tasks known
+has-before known n lines tasks unknown has node own is = elim (cases_eq node n) [
+  | inl same ↦ absurd (none-some (sym (ap known same ∙ unknown) ∙ is))
+  | inr other ↦ has node own (rw (other_node n node other) is)
+]
+  where
+    none-some : None ≡ Some own → ⊥
+    none-some is = cc
+
+-- the lines of a node are to be started, and it has a token
+pub behind-begun : (work : Work) (known : Known) (nodes : List NodeState) (jobs : List Job)
+    (failure : Option Failure) (n : ℕ) (lines : List TaskLine) (tasks : run.Tasks)
+    (seen : List Seen) (build : Build)
+    → n < length nodes → may_decide (rules_of work) nodes ≡ Some n → AreApart n jobs
+    → HasTasks tasks (with_task known n lines)
+    → IsSeen known nodes jobs failure n seen tasks build → IsBegun work n seen lines
+    → 0 < length lines
+    → IsBehind work (with_task known n lines) (set nodes n Open) jobs failure n lines 0 tasks build
+behind-begun work known nodes jobs failure n lines tasks seen build within may apart has is begun some =
+    let mine : with_task known n lines n ≡ Some lines = rw (same_node n) refl in
+    let task : tasks n ≡ lines = has n lines mine in (
+      (λ more. record {
+        nodes_are = ap (λ l. set l n Open) is.nodes_are;
+        may = subst (run.MayStart (rules_of work) tasks build.run n 1) (sym is.due_is)
+            (rw is.nodes_are may, refl, rw task some);
+        reason = λ first. subst (λ l. IsBegun work n l lines) (sym is.now) begun;
+        running = running-apart known (with_task known n lines) build.run.started
+            build.run.started build.ticket build.ticket n jobs apart (λ one other. refl)
+            (λ one other. refl) (λ one other. rw (other_node n one other) refl) is.running;
+        failed = is.failed;
+        none_doomed = is.none_doomed;
+        task = mine;
+        fresh = fresh-set nodes build.seen n Open within (λ is. cc) is.fresh;
+      }),
+      (λ none. absurd (none_left (length lines) some none)),
+    )
+  where
+    none_left : (k : ℕ) → 0 < k → k ≤ 0 → ⊥
+    none_left k some none = omega arith
+
 -- the child of a poised line runs
-pub go_on-starts : (work : Work) (n : ℕ) (lines : List TaskLine) (number ticket : ℕ) (cmd : Cmd)
-    (tasks : run.Tasks) → AtNode work n → (build : Build) (failure : Option Event)
-    → IsPoised work n lines number tasks build failure
-    → (one : TaskLine) → run.line_of lines number ≡ Some one → run.is_empty one.text ≡ false
-    → cmd ≡ command_of work one
-    → GoesOn work tasks build failure (starts n number ticket 0 cmd ∷ [])
-    (IsRunning work n lines number ticket run.anything)
-go_on-starts work n lines number ticket cmd tasks at build failure is one line some command =
-    let line_is : run.line_of (tasks n) number ≡ Some one = rw is.task line in
-    let child : run.has_child (run.line_of (tasks n) number) ≡ true = rw (line_is, some) refl in
+pub go_on-starts : (work : Work) (known : Known) (nodes : List NodeState) (jobs : List Job)
+    (failure : Option Failure) (job : Job) (one : TaskLine) (cmd : Cmd) (tasks : run.Tasks)
+    (build : Build) → HasTasks tasks known → AreApart job.node jobs
+    → IsPoised work known nodes jobs failure job.node job.task.lines job.number tasks build
+    → HasLine job.task.lines job.number one → cmd ≡ command_of work one
+    → GoesOn work tasks build (starts job.node job.number job.ticket 0 cmd ∷ [])
+    (IsGoing known nodes run.anything (jobs ++ job ∷ []) failure)
+go_on-starts work known nodes jobs failure job one cmd tasks build has apart is line command =
+    let n = job.node in
+    let task : tasks n ≡ job.task.lines = has n job.task.lines is.task in
+    let line_is : run.line_of (tasks n) job.number ≡ Some one = rw task line.line in
+    let child : run.has_child (run.line_of (tasks n) job.number) ≡ true =
+    rw (line_is, line.child) refl in
+    let begun_now : ℕ → ℕ = λ k. if k == n then job.number else build.run.started k in
+    let tickets_now : ℕ → ℕ = λ k. if k == n then job.ticket else build.ticket k in
     record {
       makes = (
         (is.may, tt),
+        is.none_doomed,
         (
-          (λ first. subst (IsBegun work n (build.seen n)) (sym is.task) (is.reason first)),
-          subst (λ l. IsCommandOf work l cmd) (sym line_is) (some, command),
+          (λ first. subst (IsBegun work n (build.seen n)) (sym task) (is.reason first)),
+          subst (λ l. IsCommandOf work l cmd) (sym line_is) (line.child, command),
           refl,
         ),
         tt,
       );
       stands = record {
-        task = is.task;
-        nodes = rw is.nodes (set-nodes work n is.stands Open at.within);
-        started = rw (same_node n) refl;
+        nodes_are = is.nodes_are;
         due_is = rw child refl;
-        held = rw (same_node n) refl;
-        unseen = is.unseen;
-        unfailed = or_none failure is.unfailed;
+        running = running-add known begun_now tickets_now jobs job
+            (running-apart known known build.run.started begun_now build.ticket tickets_now n jobs
+            apart (λ k other. rw (other_node n k other) refl)
+            (λ k other. rw (other_node n k other) refl) (λ k other. refl) is.running)
+            (record {
+              number_is = rw (same_node n) refl;
+              ticket_is = rw (same_node n) refl;
+              task = is.task;
+            });
+        failed = is.failed;
+        none_doomed = is.none_doomed;
+        fresh = is.fresh;
       };
     }
 
-pub go_on-waits : (work : Work) (n : ℕ) (lines : List TaskLine) (number ticket : ℕ)
-    (tasks : run.Tasks) → AtNode work n → (build : Build) (failure : Option Event)
-    → IsRunning work n lines number ticket run.anything tasks build failure
-    → GoesOn work tasks build failure (waits ∷ [])
-    (IsRunning work n lines number ticket run.child)
-go_on-waits work n lines number ticket tasks at build failure is = record {
+-- make waits for a child
+pub go_on-waits : (work : Work) (known : Known) (nodes : List NodeState) (jobs : List Job)
+    (failure : Option Failure) (tasks : run.Tasks) (build : Build)
+    → may_decide (rules_of work) nodes ≡ None → 0 < open_jobs nodes
+    → IsGoing known nodes run.anything jobs failure tasks build
+    → GoesOn work tasks build (waits ∷ []) (IsGoing known nodes run.child jobs failure)
+go_on-waits work known nodes jobs failure tasks build none some is = record {
   makes = (
-    (
-      (
-        is.due_is,
-        rw is.nodes (nodes.may_decide-open (rules_of work) (done_of work n) (rest_of work n)
-            at.one_job),
-        rw (is.nodes, nodes.open_jobs-open (done_of work n) (rest_of work n)) (omega arith),
-      ),
-      tt,
-    ),
+    ((is.due_is, rw is.nodes_are none, rw is.nodes_are some), tt),
+    is.none_doomed,
     tt,
     tt,
   );
   stands = record {
-    task = is.task;
-    nodes = is.nodes;
-    started = is.started;
+    nodes_are = is.nodes_are;
     due_is = refl;
-    held = is.held;
-    unseen = is.unseen;
-    unfailed = or_none failure is.unfailed;
+    running = is.running;
+    failed = is.failed;
+    none_doomed = is.none_doomed;
+    fresh = is.fresh;
   };
 }

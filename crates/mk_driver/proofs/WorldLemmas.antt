@@ -1,12 +1,10 @@
 -- What calls of a world add, as items.
 use Rattle.std.proofs.Common.{◌≡◌, ◌∙◌, ℕ, ◌==◌, List, [], ◌∷◌, ◌++◌, Option, Some, None, Bool, true, false, if◌then◌else◌}
 use Rattle.std.proofs.Common.{refl, sym, ap, subst, arith}
-use Rattle.std.proofs.lemmas.List.{append-nil}
 use Rattle.std.proofs.lemmas.Grind.{common_steps}
-use Rattle.mk_world.specs.Calls.{AreSteps, IsTaken, AddsEvents, Adds, OwnNothing, OwnTime, OwnStart, OwnEnd, OwnLeft, left_all}
+use Rattle.mk_world.specs.Calls.{AreSteps, IsTaken, AddsEvents, Adds, OwnNothing, OwnTime, OwnGone, OwnStart, OwnEnd, OwnLeft, left_all}
 use Rattle.mk_world.specs.History.{State as Stand, MayAll as MayHappen, after_all as stand_after, state_of, child_in}
 use Rattle.mk_world.specs.Talks.{Meaning}
-use Rattle.mk_world.specs.Told.{Told}
 use Rattle.mk_world.specs.declared.command.Cmd.{Cmd}
 use Rattle.mk_world.specs.declared.history.Child.{Child}
 use Rattle.mk_world.specs.declared.history.Happening.{Happening}
@@ -14,11 +12,9 @@ use Rattle.mk_world.specs.declared.history.Happening.TheVariants as world
 use Rattle.mk_world.specs.declared.history.History.{History}
 use Rattle.mk_world.specs.declared.step.Ended.{Ended}
 use Rattle.mk_world.specs.declared.time.When.{When}
-use Rattle.mk_world.proofs.CallLemmas.{no_steps, no_tickets}
-use Rattle.mk_world.proofs.IdleLemmas.{IsIdle, same_idle}
-use Rattle.mk_world.specs.Runs.{Same}
-use Rattle.mk_driver.specs.Calls.{AreStepItems, AreLeaveItems, Called, NoItem, StartItem, EndItem}
-use Rattle.mk_driver.specs.Items.{Item, looks, keeps, refuses, starts, passes, waits, steps, ends, leaves, happened, happened_all, FitsAll, IsEndOf, Happened}
+use Rattle.mk_world.specs.declared.time.When.{When}
+use Rattle.mk_driver.specs.Calls.{AreStepItems, AreLeaveItems, Called, NoItem, StartItem, EndItem, LookItem, GoneItem}
+use Rattle.mk_driver.specs.Items.{Item, looks, keeps, refuses, starts, passes, waits, steps, ends, removes, leaves, happened, happened_all, FitsAll, IsEndOf}
 use Rattle.mk_driver.proofs.ItemLemmas.{happened_all-append, FitsAll-append}
 
 abbrev items_of_steps : (events : List Happening) → AreSteps events → List Item
@@ -45,11 +41,12 @@ fits-steps meaning stand (steps ticket owner deed time ∷ items) are =
     (tt, fits-steps meaning (stand_after stand (happened (steps ticket owner deed time))) items are)
 fits-steps meaning stand (looks node path when ∷ items) are = absurd are
 fits-steps meaning stand (keeps node ∷ items) are = absurd are
-fits-steps meaning stand (refuses node number ∷ items) are = absurd are
+fits-steps meaning stand (refuses node number what ∷ items) are = absurd are
 fits-steps meaning stand (starts node number ticket owner cmd ∷ items) are = absurd are
 fits-steps meaning stand (passes node number ∷ items) are = absurd are
 fits-steps meaning stand (waits ∷ items) are = absurd are
 fits-steps meaning stand (ends node number owner ended ∷ items) are = absurd are
+fits-steps meaning stand (removes node path time ∷ items) are = absurd are
 fits-steps meaning stand (leaves ticket owner ∷ items) are = absurd are
 
 -- the items of a call, by its own events
@@ -186,44 +183,20 @@ called-left meaning before after adds =
     (λ stand own is. subst (ItemsFor meaning AreLeaveItems stand) (sym is)
     (leaves_for meaning stand stand.children)) [] tt adds
 
--- a look at a time, where no child runs
-pub timed : (meaning : Meaning) (before after : Option History) (node : ℕ) (path : List ℕ)
-    (when : When) → IsIdle before → Adds meaning before after (OwnTime path when)
-    → Told before after (Happened meaning (looks node path when ∷ []))
-timed meaning before None node path when idle adds = tt
-timed meaning None (Some new) node path when idle adds = absurd adds
-timed meaning (Some old) (Some new) node path when idle adds =
-    let none = no_tickets (state_of old).children (idle old refl) in
-    let early : adds.early ≡ [] =
-    no_steps meaning (state_of old) adds.early (adds.own ++ adds.late) none
-    adds.early_steps adds.lawful in
-    let own = adds.is_own in
-    let may : MayHappen meaning (state_of old) (world.Look path ∷ adds.late) =
-    subst (λ l. MayHappen meaning (state_of old) (l ++ adds.late)) own.0
-    (subst (λ l. MayHappen meaning (state_of old) (l ++ (adds.own ++ adds.late))) early
-    adds.lawful) in
-    let late : adds.late ≡ [] =
-    no_steps meaning (state_of old) adds.late [] none adds.late_steps
-    (subst (MayHappen meaning (state_of old)) (sym (append-nil adds.late)) may.1) in
-    record {
-      base = adds.base;
-      events = adds.events ∙ rw (early, late, own.0) refl;
-      lawful = (may.0, tt);
-      fits = (own.1 ∙ rw early refl, tt);
-    }
+-- a look at a time
+pub called-look : (meaning : Meaning) (before after : Option History) (node : ℕ) (path : List ℕ)
+    (when : When) → Adds meaning before after (OwnTime path when)
+    → Called meaning before after (LookItem node (record { path = path; when = when }))
+called-look meaning before after node path when adds =
+    called meaning (OwnTime path when) (LookItem node (record { path = path; when = when })) before after
+    (λ stand own is. (looks node path when ∷ [], sym is.0, (is.1, tt), refl))
+    (looks node path when ∷ []) refl adds
 
--- a refused call, where no child runs
-pub refused-idle : (meaning : Meaning) (before after : Option History) → IsIdle before
-    → Adds meaning before after OwnNothing → Told before after (Happened meaning [])
-refused-idle meaning before after idle adds = from before after (same_idle meaning before after idle adds)
-  where
-    from : (before after : Option History) → Told before after Same
-        → Told before after (Happened meaning [])
-    from before None same = tt
-    from None (Some new) same = absurd same
-    from (Some old) (Some new) same = record {
-      base = same.base;
-      events = same.events ∙ sym (append-nil old.events);
-      lawful = tt;
-      fits = tt;
-    }
+-- a removal
+pub called-gone : (meaning : Meaning) (before after : Option History) (node : ℕ) (path : List ℕ)
+    → Adds meaning before after (OwnGone path)
+    → Called meaning before after (GoneItem node path)
+called-gone meaning before after node path adds =
+    called meaning (OwnGone path) (GoneItem node path) before after
+    (λ stand own is. (removes node path is.0 ∷ [], sym is.1, (tt, tt), (is.0, refl)))
+    (removes node path 0 ∷ []) (0, refl) adds

@@ -2,17 +2,20 @@
 use Rattle.std.specs.Prelude.{List, map, Option, Result}
 use Rattle.mk_bytes.specs.Agrees.{AgreesBut}
 use Rattle.mk_expand.specs.declared.facts.Asked.{Asked}
-use Rattle.mk_plan.specs.Asking.{LooksAll, Seen, as_asked}
+use Rattle.mk_plan.specs.Asking.{AsksAll, Seen, answered, as_asked}
 use Rattle.mk_plan.specs.Refusals.{IsFree}
 use Rattle.mk_plan.specs.declared.fault.TaskFault.{TaskFault}
+use Rattle.mk_world.specs.Talks.{Meaning}
 use Rattle.mk_world.specs.Told.{Told}
 use Rattle.mk_world.specs.declared.command.Task.{Task}
 use Rattle.mk_world.specs.declared.history.History.{History}
 
--- Make looked at these paths alone, for `exists`; the task is the one that they define.
-pub record TaskAsked (before after : Option History) (result : Result Task TaskFault)
+-- Make looked at these paths, for `exists`, while children may have done steps; the task is the one that
+-- the looks define.
+pub record TaskAsked (meaning : Meaning) (before after : Option History) (result : Result Task TaskFault)
     (defined : List Seen → Result (Task × List Asked) TaskFault) : Type 0
   where
-    pub looked : List Seen
-    pub told : Told before after (LooksAll looked)
-    pub task : AgreesBut IsFree (λ task. (task, map as_asked looked)) result (defined looked)
+    pub questions : List (Option Seen)
+    pub told : Told before after (AsksAll meaning questions)
+    pub task : AgreesBut IsFree (λ task. (task, map as_asked (answered questions))) result
+        (defined (answered questions))

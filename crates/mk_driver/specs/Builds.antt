@@ -1,5 +1,5 @@
 -- What make has to do in a build: why each node is kept, started or refused.
-use Rattle.std.specs.Prelude.{◌≡◌, ◌⊎◌, ℕ, ◌==◌, List, [], ◌∷◌, ◌++◌, length, map, Option, Some, None, Bool, true, false, Result, Ok, Err, if◌then◌else◌, slice_get}
+use Rattle.std.specs.Prelude.{◌≡◌, ◌⊎◌, ℕ, ◌==◌, nat_lt, List, [], ◌∷◌, ◌++◌, map, Option, Some, None, Bool, true, false, not, ◌&&◌, Result, Ok, Err, if◌then◌else◌, slice_get}
 use Rattle.mk_flags.specs.declared.Flags.{Flags}
 use Rattle.mk_expand.specs.declared.fault.ExpandFault.{ExpandFault}
 use Rattle.mk_plan.specs.Deciding.{Rules, all_settled}
@@ -11,6 +11,7 @@ use Rattle.mk_plan.specs.Tasks.{names_at, setting_of, task_of}
 use Rattle.mk_plan.specs.declared.fault.TaskFault.{TaskFault}
 use Rattle.mk_plan.specs.declared.plan.NodeState.TheVariants.{Undecided}
 use Rattle.mk_plan.specs.declared.plan.PlanNode.{PlanNode}
+use Rattle.mk_sched.specs.Schedule.{predecessors}
 use Rattle.mk_scopes.specs.Scopes.{Variables}
 use Rattle.mk_world.specs.Talks.{Meaning}
 use Rattle.mk_world.specs.Sinks.{Gains, GainsPart}
@@ -20,70 +21,134 @@ use Rattle.mk_world.specs.declared.command.Task.{Task}
 use Rattle.mk_world.specs.declared.command.TaskLine.{TaskLine}
 use Rattle.mk_world.specs.declared.history.History.{History}
 use Rattle.mk_world.specs.declared.time.When.{When}
-use Rattle.mk_driver.specs.Items.{Item, looks, keeps, refuses, starts, passes, waits, steps, ends, leaves, reported, reported_all, happened_all, outputs_of, Happened}
+use Rattle.mk_driver.specs.Ages.{IsWalk, source_ages}
+use Rattle.mk_driver.specs.Items.{Item, looks, keeps, refuses, starts, passes, waits, steps, ends, removes, leaves, reported, reported_all, happened_all, outputs_of, Happened}
 use Rattle.mk_driver.specs.Output.{Job, output}
 use Rattle.mk_driver.specs.Runs as run
 use Rattle.mk_driver.specs.Settled.{EachSettled}
+use Rattle.mk_driver.specs.Sights.{seen_of}
 use Rattle.mk_driver.specs.Tests.{is_stale, newer_names}
+use Rattle.mk_driver.specs.declared.sight.Sighting.{Sighting}
 use Rattle.mk_driver.specs.declared.event.Event.{Event}
+use Rattle.mk_driver.specs.declared.event.Event.TheVariants.{End, Refused}
+use Rattle.mk_driver.specs.declared.result.Failure.{Failure}
+use Rattle.mk_driver.specs.declared.result.Failure.TheVariants.{JobFailed, Expand}
 
--- what is built: the plan, with the variables, what answers conditions, and the options
+-- what is built: the plan, with the variables, the known suffixes, what answers conditions, the
+-- options, and whether the makefiles want one job at a time and targets of failed nodes removed
 pub record Work : Type 0 where
   pub plan : List PlanNode
   pub variables : Variables
+  pub suffixes : List (List ℕ)
   pub lists : Lists
   pub flags : Flags
+  pub one_job : Bool
+  pub delete_on_error : Bool
+
+-- how many jobs may be open at once
+abbrev pub jobs_of : Work → ℕ
+jobs_of work = if work.one_job then 1 else work.flags.jobs
 
 -- the rules of its runs
 abbrev pub rules_of : Work → Rules
 rules_of work = record {
-  before = map (λ (node : PlanNode). node.before) work.plan;
-  jobs = work.flags.jobs;
+  before = predecessors work.plan;
+  jobs = jobs_of work;
   keep_going = work.flags.keep_going;
 }
 
--- how a build stands: its run, what was seen to decide each node, and the ticket of each node's child
+-- How a build stands: its run, what was seen to decide each node, the ticket of each node's child, the
+-- first failure, and the failed node whose target is to be removed next.
 pub record Build : Type 0 where
   pub run : run.State
   pub seen : ℕ → List Seen
   pub ticket : ℕ → ℕ
+  pub failure : Option Failure
+  pub doomed : Option ℕ
 
 abbrev pub first_build : Work → Build
 first_build work = record {
   run = run.first_state (rules_of work);
   seen = λ node. [];
   ticket = λ node. 0;
+  failure = None;
+  doomed = None;
 }
+
+-- With `.DELETE_ON_ERROR` the target of a failed job is removed, unless it is phony or precious.
+abbrev pub is_removed : Work → ℕ → Bool
+is_removed work node =
+    work.delete_on_error && (not (node_at work.plan node).marks.phony
+    && not (node_at work.plan node).marks.precious)
 
 abbrev pub seen_after : (ℕ → List Seen) → Item → ℕ → List Seen
 seen_after seen (looks node path when) =
     λ one. if one == node then seen one ++ record { path = path; when = when } ∷ [] else seen one
 seen_after seen (keeps node) = seen
-seen_after seen (refuses node number) = seen
+seen_after seen (refuses node number what) = seen
 seen_after seen (starts node number ticket owner cmd) = seen
 seen_after seen (passes node number) = seen
 seen_after seen waits = seen
 seen_after seen (steps ticket owner deed time) = seen
 seen_after seen (ends node number owner ended) = seen
+seen_after seen (removes node path time) = seen
 seen_after seen (leaves ticket owner) = seen
 
 abbrev pub ticket_after : (ℕ → ℕ) → Item → ℕ → ℕ
 ticket_after tickets (looks node path when) = tickets
 ticket_after tickets (keeps node) = tickets
-ticket_after tickets (refuses node number) = tickets
+ticket_after tickets (refuses node number what) = tickets
 ticket_after tickets (starts node number ticket owner cmd) =
     λ one. if one == node then ticket else tickets one
 ticket_after tickets (passes node number) = tickets
 ticket_after tickets waits = tickets
 ticket_after tickets (steps ticket owner deed time) = tickets
 ticket_after tickets (ends node number owner ended) = tickets
+ticket_after tickets (removes node path time) = tickets
 ticket_after tickets (leaves ticket owner) = tickets
+
+-- the first of two, where it is there
+abbrev pub or_next : Option Failure → Option Failure → Option Failure
+or_next None next = next
+or_next (Some failure) next = Some failure
+
+-- the first failure: a refused line, or the end of a line that fails
+abbrev pub failure_after : run.Tasks → Option Failure → Item → Option Failure
+failure_after tasks failure (refuses node number what) =
+    or_next failure (Some (Expand node number what))
+failure_after tasks failure (ends node number owner ended) =
+    if run.fails (run.line_of (tasks node) number) ended.status
+    then or_next failure (Some (JobFailed node number ended.status)) else failure
+failure_after tasks failure (looks node path when) = failure
+failure_after tasks failure (keeps node) = failure
+failure_after tasks failure (starts node number ticket owner cmd) = failure
+failure_after tasks failure (passes node number) = failure
+failure_after tasks failure waits = failure
+failure_after tasks failure (steps ticket owner deed time) = failure
+failure_after tasks failure (removes node path time) = failure
+failure_after tasks failure (leaves ticket owner) = failure
+
+abbrev pub doomed_after : Work → run.Tasks → Option ℕ → Item → Option ℕ
+doomed_after work tasks doomed (ends node number owner ended) =
+    if run.fails (run.line_of (tasks node) number) ended.status && is_removed work node
+    then Some node else None
+doomed_after work tasks doomed (removes node path time) = None
+doomed_after work tasks doomed (looks node path when) = doomed
+doomed_after work tasks doomed (keeps node) = doomed
+doomed_after work tasks doomed (refuses node number what) = doomed
+doomed_after work tasks doomed (starts node number ticket owner cmd) = doomed
+doomed_after work tasks doomed (passes node number) = doomed
+doomed_after work tasks doomed waits = doomed
+doomed_after work tasks doomed (steps ticket owner deed time) = doomed
+doomed_after work tasks doomed (leaves ticket owner) = doomed
 
 abbrev pub build_after : Work → run.Tasks → Build → Item → Build
 build_after work tasks build item = record {
   run = run.after_all (rules_of work) tasks build.run (reported item);
   seen = seen_after build.seen item;
   ticket = ticket_after build.ticket item;
+  failure = failure_after tasks build.failure item;
+  doomed = doomed_after work tasks build.doomed item;
 }
 
 abbrev pub build_after_all : Work → run.Tasks → Build → List Item → Build
@@ -94,34 +159,39 @@ build_after_all work tasks build (item ∷ items) =
 abbrev pub source_names : Work → ℕ → List (List ℕ)
 source_names work node = names_at work.plan (node_at work.plan node).sources
 
-abbrev pub seen_at : List (List ℕ) → List When → List Seen
-seen_at [] times = []
-seen_at (name ∷ names) [] = []
-seen_at (name ∷ names) (time ∷ times) = record { path = name; when = time } ∷ seen_at names times
-
--- the looks by which a node is decided: one at its target, then one at each source, and then one
--- at each path that `exists` is asked of in its commands
+-- the looks by which a node is decided: those at its own file and at the nodes whose ages count, and
+-- then one at each path that `exists` is asked of in its commands
 pub record Sight (work : Work) (node : ℕ) (seen : List Seen) : Type 0 where
   pub target : When
-  pub sources : List When
+  pub sources : List Sighting
   pub asked : List Seen
-  pub are : seen ≡ (record { path = (node_at work.plan node).name; when = target }
-      ∷ seen_at (source_names work node) sources) ++ asked
-  pub each : length sources ≡ length (source_names work node)
+  pub are : seen ≡ seen_of work.plan node target sources ++ asked
+  pub walk : IsWalk work.plan node target sources
 
 -- the task of a node with these newer sources, by looks for `exists`
 abbrev pub asked_task : Work → ℕ → List (List ℕ) → List Seen → Result (Task × List Asked) TaskFault
 asked_task work node newer asked =
-    task_of (setting_of work.variables work.lists (answers_by asked)) work.plan node newer work.flags []
+    task_of (setting_of work.variables work.lists (answers_by asked)) work.suffixes work.plan node newer
+    work.flags []
+
+-- the sources that are newer than a node's file, or new
+abbrev pub newer_of : Work → ℕ → When → List Sighting → List (List ℕ)
+newer_of work node target sources =
+    newer_names target (source_names work node) (source_ages work.plan node sources)
+
+-- whether a node is out of date
+abbrev pub is_outdated : Work → ℕ → When → List Sighting → Bool
+is_outdated work node target sources =
+    is_stale (node_at work.plan node).marks target (source_ages work.plan node sources)
 
 -- the task of a node, by all these looks
-abbrev pub task_by : Work → ℕ → When → List When → List Seen
+abbrev pub task_by : Work → ℕ → When → List Sighting → List Seen
     → Result (Task × List Asked) TaskFault
 task_by work node target sources asked =
-    asked_task work node (newer_names target (source_names work node) sources) asked
+    asked_task work node (newer_of work node target sources) asked
 
 -- A node has this task by its looks, and `exists` was asked of no other path.
-abbrev pub HasTask : Work → ℕ → When → List When → List Seen → Task → Type 0
+abbrev pub HasTask : Work → ℕ → When → List Sighting → List Seen → Task → Type 0
 HasTask work node target sources asked task =
     task_by work node target sources asked ≡ Ok (task, map as_asked asked)
 
@@ -131,24 +201,24 @@ IsKept work node seen =
     ((node_at work.plan node).commands ≡ [])
     ⊎ ((sight : Sight work node seen) × (task : Task)
     × HasTask work node sight.target sight.sources sight.asked task
-    × (is_stale sight.target sight.sources ≡ false))
+    × (is_outdated work node sight.target sight.sources ≡ false))
 
 -- Its lines are started where it has a task, which they are, and is out of date.
 abbrev pub IsBegun : Work → ℕ → List Seen → List TaskLine → Type 0
 IsBegun work node seen lines =
     (sight : Sight work node seen) × (task : Task)
     × HasTask work node sight.target sight.sources sight.asked task
-    × (is_stale sight.target sight.sources ≡ true) × (lines ≡ task.lines)
+    × (is_outdated work node sight.target sight.sources ≡ true) × (lines ≡ task.lines)
 
 -- A node has no task by its looks: this line is the first that is at fault.
-abbrev pub HasFault : Work → ℕ → When → List When → List Seen → ℕ → ExpandFault → Type 0
+abbrev pub HasFault : Work → ℕ → When → List Sighting → List Seen → ℕ → ExpandFault → Type 0
 HasFault work node target sources asked number what =
     task_by work node target sources asked ≡ Err (record { line = number; what = what })
 
 -- It is refused where it has no task, by the first line that is at fault.
-abbrev pub IsRefused : Work → ℕ → List Seen → ℕ → Type 0
-IsRefused work node seen number =
-    (sight : Sight work node seen) × (what : ExpandFault)
+abbrev pub IsRefused : Work → ℕ → List Seen → ℕ → ExpandFault → Type 0
+IsRefused work node seen number what =
+    (sight : Sight work node seen)
     × HasFault work node sight.target sight.sources sight.asked number what
 
 -- the command of a line
@@ -173,7 +243,7 @@ HasReason work tasks build node number =
 abbrev pub MayMake : Work → run.Tasks → Build → Item → Type 0
 MayMake work tasks build (looks node path when) = IsWaiting work build.run node
 MayMake work tasks build (keeps node) = IsKept work node (build.seen node)
-MayMake work tasks build (refuses node number) = IsRefused work node (build.seen node) number
+MayMake work tasks build (refuses node number what) = IsRefused work node (build.seen node) number what
 MayMake work tasks build (starts node number ticket owner cmd) =
     HasReason work tasks build node number
     × IsCommandOf work (run.line_of (tasks node) number) cmd × (owner ≡ 0)
@@ -181,17 +251,32 @@ MayMake work tasks build (passes node number) = HasReason work tasks build node 
 MayMake work tasks build waits = Unit {0}
 MayMake work tasks build (steps ticket owner deed time) = Unit {0}
 MayMake work tasks build (ends node number owner ended) = build.ticket node ≡ ended.ticket.0
+MayMake work tasks build (removes node path time) = path ≡ (node_at work.plan node).name
 MayMake work tasks build (leaves ticket owner) = Unit {0}
+
+-- A target that is to be removed is removed before make does anything else.
+abbrev pub MayFollow : Option ℕ → Item → Type 0
+MayFollow doomed (removes node path time) = doomed ≡ Some node
+MayFollow doomed (steps ticket owner deed time) = Unit {0}
+MayFollow doomed (leaves ticket owner) = Unit {0}
+MayFollow doomed (looks node path when) = doomed ≡ None
+MayFollow doomed (keeps node) = doomed ≡ None
+MayFollow doomed (refuses node number what) = doomed ≡ None
+MayFollow doomed (starts node number ticket owner cmd) = doomed ≡ None
+MayFollow doomed (passes node number) = doomed ≡ None
+MayFollow doomed waits = doomed ≡ None
+MayFollow doomed (ends node number owner ended) = doomed ≡ None
 
 -- Each item follows those before it by the rules of runs, and for its reason.
 abbrev pub Makes : Work → run.Tasks → Build → List Item → Type 0
 Makes work tasks build [] = Unit {0}
 Makes work tasks build (item ∷ items) =
-    run.MayAll (rules_of work) tasks build.run (reported item) × MayMake work tasks build item
-    × Makes work tasks (build_after work tasks build item) items
+    run.MayAll (rules_of work) tasks build.run (reported item) × MayFollow build.doomed item
+    × MayMake work tasks build item × Makes work tasks (build_after work tasks build item) items
 
 abbrev pub job_of : Work → run.Tasks → Job
-job_of work tasks = record { plan = work.plan; tasks = tasks; many = false }
+job_of work tasks =
+    record { plan = work.plan; tasks = tasks; many = nat_lt 1 (jobs_of work) }
 
 -- a world, standard output and a report, at one moment
 pub record Moment : Type 0 where
@@ -204,11 +289,17 @@ abbrev pub Prints : Bool → Moment → Moment → List ℕ → Type 0
 Prints true first last bytes = GainsPart first.out last.out bytes
 Prints false first last bytes = Gains first.out last.out bytes
 
+-- the event of a failure
+abbrev pub event_of : Option Failure → Option Event
+event_of (Some (JobFailed node number status)) = Some (End node number status)
+event_of (Some (Expand node number what)) = Some (Refused node number)
+event_of None = None
+
 -- A build from one moment to another: there is one list of items whose events are those of the
 -- report, which the history tells where the world does, and whose output was printed. Each child
 -- that was started was taken in or given up.
 pub record IsBuild (meaning : Meaning) (work : Work) (cut : Bool) (first last : Moment)
-    (Stands : run.Tasks → Build → Option Event → Type 0) : Type 0 where
+    (Stands : Build → Type 0) : Type 0 where
   pub tasks : run.Tasks
   pub items : List Item
   pub reported : last.events ≡ reported_all items
@@ -217,5 +308,6 @@ pub record IsBuild (meaning : Meaning) (work : Work) (cut : Bool) (first last : 
   pub told : Told first.history last.history (Happened meaning items)
   pub settled : Told first.history last.history (λ old new. EachSettled (happened_all items))
   pub printed : Prints cut first last (output (job_of work tasks) (outputs_of items) last.events)
-  pub stands : Stands tasks (build_after_all work tasks (first_build work) items)
-      (run.first_failure tasks last.events)
+  pub stands : Stands (build_after_all work tasks (first_build work) items)
+  pub failure : run.first_failure tasks last.events
+      ≡ event_of (build_after_all work tasks (first_build work) items).failure

@@ -6,7 +6,7 @@ use Rattle.mk_world.specs.declared.command.Cmd.{Cmd}
 use Rattle.mk_world.specs.declared.history.History.{History}
 use Rattle.mk_world.specs.declared.step.Ended.{Ended}
 use Rattle.mk_plan.specs.Asking.{Seen}
-use Rattle.mk_driver.specs.Items.{Item, looks, starts, steps, ends, leaves, Happened}
+use Rattle.mk_driver.specs.Items.{Item, looks, starts, steps, ends, removes, leaves, Happened}
 
 -- items that are all steps of children
 abbrev pub AreStepItems : List Item → Type 0
@@ -40,7 +40,25 @@ StartItem node number ticket owner cmd own = own ≡ starts node number ticket o
 abbrev pub EndItem : ℕ → ℕ → Ended → List Item → Type 0
 EndItem node number ended own = (owner : ℕ) × (own ≡ ends node number owner ended ∷ [])
 
--- looks to decide a node, in order
-abbrev pub look_items : ℕ → List Seen → List Item
-look_items node [] = []
-look_items node (seen ∷ more) = looks node seen.path seen.when ∷ look_items node more
+abbrev pub LookItem : ℕ → Seen → List Item → Type 0
+LookItem node one own = own ≡ looks node one.path one.when ∷ []
+
+abbrev pub GoneItem : ℕ → List ℕ → List Item → Type 0
+GoneItem node path own = (time : ℕ) × (own ≡ removes node path time ∷ [])
+
+-- looks to decide a node, in order, each at a moment of its own: children may have done steps between
+abbrev pub AreLooks : ℕ → List Seen → List Item → Type 0
+AreLooks node seen [] = seen ≡ []
+AreLooks node seen (looks one path when ∷ items) =
+    (more : List Seen) × (seen ≡ record { path = path; when = when } ∷ more) × (one ≡ node)
+    × AreLooks node more items
+AreLooks node seen (steps ticket owner deed time ∷ items) = AreLooks node seen items
+AreLooks node seen (_ ∷ items) = ⊥
+
+-- make looked so to decide a node, and children may have done steps beside it
+pub record LooksAt (meaning : Meaning) (before after : Option History) (node : ℕ) (seen : List Seen)
+    : Type 0
+  where
+    pub items : List Item
+    pub are : AreLooks node seen items
+    pub told : Told before after (Happened meaning items)

@@ -1,5 +1,6 @@
 -- A build as one list: what its report tells and what happened in the world, woven together.
 use Rattle.std.specs.Prelude.{◌≡◌, ℕ, List, [], ◌∷◌, ◌++◌, Option, Some, None}
+use Rattle.mk_expand.specs.declared.fault.ExpandFault.{ExpandFault}
 use Rattle.mk_world.specs.Calls.{EndsAs, when_of}
 use Rattle.mk_world.specs.History.{State as Stand, MayAll as MayHappen, after_all as stand_after, child_in, state_of}
 use Rattle.mk_world.specs.Talks.{Meaning}
@@ -20,7 +21,7 @@ pub data Item : Type 0 where
   -- a node was kept
   keeps : (node : ℕ) → Item
   -- a line of a node could not be expanded
-  refuses : (node number : ℕ) → Item
+  refuses : (node number : ℕ) → (what : ExpandFault) → Item
   -- a child was started for a line of a node
   starts : (node number ticket owner : ℕ) → (cmd : Cmd) → Item
   -- an empty line of a node began and ended
@@ -31,6 +32,8 @@ pub data Item : Type 0 where
   steps : (ticket owner : ℕ) → (deed : Deed) → (time : ℕ) → Item
   -- the child of a line of a node was taken in
   ends : (node number owner : ℕ) → (ended : Ended) → Item
+  -- the target of a failed node was removed
+  removes : (node : ℕ) → (path : List ℕ) → (time : ℕ) → Item
   -- a child was given up
   leaves : (ticket owner : ℕ) → Item
 
@@ -38,12 +41,13 @@ pub data Item : Type 0 where
 abbrev pub reported : Item → List Event
 reported (looks node path when) = []
 reported (keeps node) = Kept node ∷ []
-reported (refuses node number) = Refused node number ∷ []
+reported (refuses node number what) = Refused node number ∷ []
 reported (starts node number ticket owner cmd) = Start node number ∷ []
 reported (passes node number) = Start node number ∷ End node number 0 ∷ []
 reported waits = Wait ∷ []
 reported (steps ticket owner deed time) = []
 reported (ends node number owner ended) = End node number ended.status ∷ []
+reported (removes node path time) = []
 reported (leaves ticket owner) = []
 
 abbrev pub reported_all : List Item → List Event
@@ -54,12 +58,13 @@ reported_all (item ∷ items) = reported item ++ reported_all items
 abbrev pub happened : Item → List Happening
 happened (looks node path when) = world.Look path ∷ []
 happened (keeps node) = []
-happened (refuses node number) = []
+happened (refuses node number what) = []
 happened (starts node number ticket owner cmd) = world.Start ticket owner cmd ∷ []
 happened (passes node number) = []
 happened waits = []
 happened (steps ticket owner deed time) = world.Step ticket owner deed time ∷ []
 happened (ends node number owner ended) = world.End ended.ticket.0 owner ∷ []
+happened (removes node path time) = world.Gone path time ∷ []
 happened (leaves ticket owner) = world.Left ticket owner ∷ []
 
 abbrev pub happened_all : List Item → List Happening
@@ -70,12 +75,13 @@ happened_all (item ∷ items) = happened item ++ happened_all items
 abbrev pub output_of : Item → List (List ℕ)
 output_of (looks node path when) = []
 output_of (keeps node) = []
-output_of (refuses node number) = []
+output_of (refuses node number what) = []
 output_of (starts node number ticket owner cmd) = []
 output_of (passes node number) = []
 output_of waits = []
 output_of (steps ticket owner deed time) = []
 output_of (ends node number owner ended) = ended.output ∷ []
+output_of (removes node path time) = []
 output_of (leaves ticket owner) = []
 
 abbrev pub outputs_of : List Item → List (List ℕ)
@@ -92,13 +98,14 @@ IsEndOf meaning ended owner (Some child) =
 abbrev pub Fits : Meaning → Stand → Item → Type 0
 Fits meaning stand (looks node path when) = when ≡ when_of (stand.files path)
 Fits meaning stand (keeps node) = Unit {0}
-Fits meaning stand (refuses node number) = Unit {0}
+Fits meaning stand (refuses node number what) = Unit {0}
 Fits meaning stand (starts node number ticket owner cmd) = Unit {0}
 Fits meaning stand (passes node number) = Unit {0}
 Fits meaning stand waits = Unit {0}
 Fits meaning stand (steps ticket owner deed time) = Unit {0}
 Fits meaning stand (ends node number owner ended) =
     IsEndOf meaning ended owner (child_in stand.children ended.ticket.0)
+Fits meaning stand (removes node path time) = Unit {0}
 Fits meaning stand (leaves ticket owner) = Unit {0}
 
 abbrev pub FitsAll : Meaning → Stand → List Item → Type 0

@@ -1,12 +1,16 @@
+pub mod Ages
 pub mod Asks
 pub mod Builds
 pub mod Calls
 pub mod Ends
 pub mod Items
+pub mod Jobs
+pub mod Known
 pub mod Makers
 pub mod Output
 pub mod Progress
 pub mod Runs
+pub mod Scenes
 pub mod Settled
 pub mod Sights
 pub mod Steps

@@ -13,16 +13,22 @@ abbrev pub work_on : List PlanNode → Made → Flags → Work
 work_on plan made flags = record {
   plan = plan;
   variables = made.scopes;
-  lists = lists_of made.rule flags.requested;
+  suffixes = made.suffixes;
+  lists = lists_of made flags.requested;
   flags = flags;
+  one_job = made.mode.one_job;
+  delete_on_error = made.mode.delete_on_error;
 }
 
 abbrev pub work_of : Maker → Work
 work_of maker = record {
   plan = maker.plan.now;
   variables = maker.made.now.scopes;
-  lists = lists_of maker.made.now.rule maker.flags.now.requested;
+  suffixes = maker.made.now.suffixes;
+  lists = lists_of maker.made.now maker.flags.now.requested;
   flags = maker.flags.now;
+  one_job = maker.made.now.mode.one_job;
+  delete_on_error = maker.made.now.mode.delete_on_error;
 }
 
 abbrev pub moment : Option History → Option (List ℕ) → List Event → Moment

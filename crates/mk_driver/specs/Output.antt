@@ -28,20 +28,26 @@ is_last node None = false
 is_last node (Some last) = node == last
 
 -- with more jobs than one, a piece of another node than the last begins with a line of its name
-abbrev pub marker : Job → Option ℕ → ℕ → List ℕ
-marker job last node =
-    if job.many && not (is_last node last)
-    then codes "--- " ++ ((node_at job.plan node).name ++ (codes " ---" ++ newline ∷ []))
+abbrev pub marker : List PlanNode → Bool → Option ℕ → ℕ → List ℕ
+marker plan many last node =
+    if many && not (is_last node last)
+    then codes "--- " ++ ((node_at plan node).name ++ (codes " ---" ++ newline ∷ []))
     else []
 
+-- what is printed of a piece, and the node whose piece is then the last
+abbrev pub shown : List PlanNode → Bool → Option ℕ → ℕ → List ℕ → List ℕ
+shown plan many last node piece =
+    if is_empty piece then [] else marker plan many last node ++ piece
+
+abbrev pub last_behind : Option ℕ → ℕ → List ℕ → Option ℕ
+last_behind last node piece = if is_empty piece then last else Some node
+
 abbrev pub with_piece : Job → Printed → ℕ → List ℕ → Printed
-with_piece job printed node piece =
-    if is_empty piece then record printed { ended = printed.ended + 1 }
-    else record {
-      bytes = printed.bytes ++ (marker job printed.last node ++ piece);
-      last = Some node;
-      ended = printed.ended + 1;
-    }
+with_piece job printed node piece = record {
+  bytes = printed.bytes ++ shown job.plan job.many printed.last node piece;
+  last = last_behind printed.last node piece;
+  ended = printed.ended + 1;
+}
 
 -- the text of a line that is not silent, and a newline
 abbrev pub echo : Option TaskLine → List ℕ

@@ -1,212 +1,270 @@
 -- How far a build has come.
-use Rattle.std.specs.Prelude.{◌≡◌, ℕ, ◌+◌, ◌<◌, ◌≤◌, List, [], ◌∷◌, ◌++◌, length, map, take, drop, get_or, Option, Some, None, Bool, true, false}
-use Rattle.mk_expand.specs.declared.fault.ExpandFault.{ExpandFault}
-use Rattle.mk_plan.specs.Plans.{are_ordered}
+use Rattle.std.specs.Prelude.{◌≡◌, ◌≢◌, ℕ, ◌+◌, ◌<◌, ◌≤◌, ◌||◌, nat_le, List, [], ◌∷◌, length, get_or, set, count_by, Option, Some, None, Bool, true, false, if◌then◌else◌}
+use Rattle.mk_plan.specs.Deciding.{is_stopped, is_undecided}
 use Rattle.mk_plan.specs.declared.plan.NodeState.{NodeState}
-use Rattle.mk_plan.specs.declared.plan.NodeState.TheVariants.{Undecided, Open, Settled}
+use Rattle.mk_plan.specs.declared.plan.NodeState.TheVariants.{Undecided, Open, Settled, Failed}
 use Rattle.mk_plan.specs.declared.plan.PlanNode.{PlanNode}
+use Rattle.mk_sched.specs.Schedule.{none_decided, schedule_of}
 use Rattle.mk_world.specs.Talks.{Meaning}
 use Rattle.mk_world.specs.Told.{Told}
 use Rattle.mk_world.specs.declared.command.TaskLine.{TaskLine}
+use Rattle.mk_world.specs.declared.history.History.{History}
 use Rattle.mk_plan.specs.Asking.{Seen}
-use Rattle.mk_driver.specs.Builds.{Work, Build, Sight, Moment, Makes, Prints, first_build, build_after_all, job_of, rules_of, HasFault, IsBegun}
+use Rattle.mk_driver.specs.Builds.{Work, Build, Moment, Makes, Prints, first_build, build_after_all, job_of, rules_of, or_next, is_removed, IsKept, IsBegun, IsRefused}
 use Rattle.mk_driver.specs.Items.{Item, reported_all, outputs_of, Happened}
+use Rattle.mk_driver.specs.Jobs.{FitsTogether}
+use Rattle.mk_driver.specs.Makers.{moment}
 use Rattle.mk_driver.specs.Output.{Printed, printed_all, nothing_printed}
 use Rattle.mk_driver.specs.Runs as run
+use Rattle.mk_driver.specs.declared.course.Course.{Course}
+use Rattle.mk_driver.specs.declared.decision.Decision.{Decision}
+use Rattle.mk_driver.specs.declared.decision.Decision.TheVariants.{Keep, Refuse, Make}
 use Rattle.mk_driver.specs.declared.event.Event.{Event}
-use Rattle.mk_driver.specs.declared.event.Event.TheVariants.{Refused, End}
+use Rattle.mk_driver.specs.declared.job.Job.{Job}
 use Rattle.mk_driver.specs.declared.result.BuildResult.{BuildResult}
 use Rattle.mk_driver.specs.declared.result.BuildResult.TheVariants as ended
+use Rattle.mk_driver.specs.declared.result.Failure.{Failure}
+use Rattle.mk_driver.specs.declared.result.Failure.TheVariants as failing
+use Rattle.mk_driver.specs.declared.result.Halt.{Halt}
+use Rattle.mk_driver.specs.declared.result.Halt.TheVariants as halt
 
--- the tasks begin with these, which are known so far
-abbrev pub HasTasks : run.Tasks → List (List TaskLine) → Type 0
-HasTasks tasks known = (node : ℕ) → node < length known → tasks node ≡ get_or known node []
+-- the command lines of the nodes that are known so far
+abbrev pub Known : Type 0
+Known = ℕ → Option (List TaskLine)
+
+abbrev pub HasTasks : run.Tasks → Known → Type 0
+HasTasks tasks known =
+    (node : ℕ) (lines : List TaskLine) → known node ≡ Some lines → tasks node ≡ lines
 
 abbrev pub printed_by : Work → run.Tasks → List Item → Printed
 printed_by work tasks items =
     printed_all (job_of work tasks) (outputs_of items) nothing_printed (reported_all items)
 
--- how a build stands: by the tasks, the build itself, and its first failing event
+-- how a build stands, by the tasks
 abbrev pub Standing : Type 1
-Standing = run.Tasks → Build → Option Event → Type 0
+Standing = run.Tasks → Build → Type 0
 
 -- these items were made by the rules, were printed, and leave the build so
 pub record IsMade (work : Work) (tasks : run.Tasks) (cut : Bool) (first now : Moment)
-    (items : List Item) (Stands : Standing) : Type 0 where
+    (last : Option ℕ) (items : List Item) (Stands : Standing) : Type 0 where
   pub makes : Makes work tasks (first_build work) items
   pub printed : Prints cut first now (printed_by work tasks items).bytes
   pub ended : (printed_by work tasks items).ended ≡ length (outputs_of items)
+  pub last_is : (printed_by work tasks items).last ≡ last
   pub stands : Stands tasks (build_after_all work tasks (first_build work) items)
-      (run.first_failure tasks (reported_all items))
 
 -- A build so far: its items, whatever the tasks of the nodes are that are not yet decided.
 pub record SoFar (meaning : Meaning) (work : Work) (cut : Bool) (first now : Moment)
-    (known : List (List TaskLine)) (Stands : Standing) : Type 0 where
+    (last : Option ℕ) (known : Known) (Stands : Standing) : Type 0 where
   pub items : List Item
   pub reported : now.events ≡ reported_all items
   pub told : Told first.history now.history (Happened meaning items)
   pub made : (tasks : run.Tasks) → HasTasks tasks known
-      → IsMade work tasks cut first now items Stands
+      → IsMade work tasks cut first now last items Stands
 
--- how the nodes stand: those before one are settled, it stands so, and the others are undecided
-abbrev pub line_up : List PlanNode → NodeState → List PlanNode → List NodeState
-line_up done stands rest =
-    map (λ (node : PlanNode). Settled) done
-    ++ stands ∷ map (λ (node : PlanNode). Undecided) rest
+-- the line of a job was started under its ticket
+pub record IsRunning (known : Known) (started ticket : ℕ → ℕ) (job : Job) : Type 0 where
+  pub number_is : started job.node ≡ job.number
+  pub ticket_is : ticket job.node ≡ job.ticket
+  pub task : known job.node ≡ Some job.task.lines
 
--- the nodes of a build at this one
-abbrev pub nodes_at : Work → ℕ → NodeState → List NodeState
-nodes_at work n stands = line_up (take n work.plan) stands (drop (n + 1) work.plan)
+abbrev pub AreRunning : Known → (ℕ → ℕ) → (ℕ → ℕ) → List Job → Type 0
+AreRunning known started ticket [] = Unit {0}
+AreRunning known started ticket (job ∷ jobs) =
+    IsRunning known started ticket job × AreRunning known started ticket jobs
 
--- a build of an ordered plan with one job, at one of its nodes
-pub record AtNode (work : Work) (n : ℕ) : Type 0 where
-  pub one_job : work.flags.jobs ≡ 1
-  pub stops : work.flags.keep_going ≡ false
-  pub ordered : are_ordered 0 work.plan ≡ true
-  pub within : n < length work.plan
+-- nothing was seen of undecided nodes, but perhaps of one
+abbrev pub AreFreshBut : ℕ → List NodeState → (ℕ → List Seen) → Type 0
+AreFreshBut but nodes seen =
+    (node : ℕ) → node ≢ but → get_or nodes node Failed ≡ Undecided → seen node ≡ []
 
--- nothing was seen of the nodes from one on
-abbrev pub UnseenFrom : ℕ → Build → Type 0
-UnseenFrom n build = (node : ℕ) → n ≤ node → build.seen node ≡ []
+abbrev pub AreFresh : List NodeState → (ℕ → List Seen) → Type 0
+AreFresh nodes seen = (node : ℕ) → get_or nodes node Failed ≡ Undecided → seen node ≡ []
 
--- all nodes before a place are settled, the others are undecided, and nothing was seen of them
-pub record IsReady (work : Work) (n : ℕ) (tasks : run.Tasks) (build : Build)
-    (failure : Option Event) : Type 0 where
-  pub nodes : build.run.nodes
-      ≡ map (λ (node : PlanNode). Settled) (take n work.plan)
-      ++ map (λ (node : PlanNode). Undecided) (drop n work.plan)
-  pub due : build.run.due ≡ run.anything
-  pub unseen : UnseenFrom n build
-  pub unfailed : failure ≡ None
+-- the tasks of undecided nodes are not known
+abbrev pub AreUnknown : Known → List NodeState → Type 0
+AreUnknown known nodes = (node : ℕ) → get_or nodes node Failed ≡ Undecided → known node ≡ None
 
--- this was seen of a node that is to be decided
-pub record IsSeen (work : Work) (n : ℕ) (seen : List Seen) (tasks : run.Tasks) (build : Build)
-    (failure : Option Event) : Type 0 where
-  pub nodes : build.run.nodes ≡ nodes_at work n Undecided
-  pub due : build.run.due ≡ run.anything
-  pub now : build.seen n ≡ seen
-  pub unseen : UnseenFrom (n + 1) build
-  pub unfailed : failure ≡ None
+-- how a build stands between two events: the nodes, what has to follow, the jobs, and the first failure
+pub record IsGoing (known : Known) (nodes : List NodeState) (due : run.Due) (jobs : List Job)
+    (failure : Option Failure) (tasks : run.Tasks) (build : Build) : Type 0
+  where
+    pub nodes_are : build.run.nodes ≡ nodes
+    pub due_is : build.run.due ≡ due
+    pub running : AreRunning known build.run.started build.ticket jobs
+    pub failed : build.failure ≡ failure
+    pub none_doomed : build.doomed ≡ None
+    pub fresh : AreFresh nodes build.seen
 
--- a line of a node is the next to be started
-pub record IsPoised (work : Work) (n : ℕ) (lines : List TaskLine) (number : ℕ) (tasks : run.Tasks)
-    (build : Build) (failure : Option Event) : Type 0 where
-  pub task : tasks n ≡ lines
-  pub may : run.MayStart (rules_of work) tasks build.run n number build.run.due
-  pub reason : number ≡ 1 → IsBegun work n (build.seen n) lines
-  pub stands : NodeState
-  pub nodes : build.run.nodes ≡ nodes_at work n stands
-  pub unseen : UnseenFrom (n + 1) build
-  pub unfailed : failure ≡ None
+-- this was seen of a node that may be decided
+pub record IsSeen (known : Known) (nodes : List NodeState) (jobs : List Job)
+    (failure : Option Failure) (n : ℕ) (seen : List Seen) (tasks : run.Tasks) (build : Build)
+    : Type 0
+  where
+    pub nodes_are : build.run.nodes ≡ nodes
+    pub due_is : build.run.due ≡ run.anything
+    pub running : AreRunning known build.run.started build.ticket jobs
+    pub failed : build.failure ≡ failure
+    pub none_doomed : build.doomed ≡ None
+    pub now : build.seen n ≡ seen
+    pub fresh : AreFreshBut n nodes build.seen
 
--- the child of a line of a node runs; this has to follow
-pub record IsRunning (work : Work) (n : ℕ) (lines : List TaskLine) (number ticket : ℕ) (due : run.Due)
-    (tasks : run.Tasks) (build : Build) (failure : Option Event) : Type 0 where
-  pub task : tasks n ≡ lines
-  pub nodes : build.run.nodes ≡ nodes_at work n Open
-  pub started : build.run.started n ≡ number
-  pub due_is : build.run.due ≡ due
-  pub held : build.ticket n ≡ ticket
-  pub unseen : UnseenFrom (n + 1) build
-  pub unfailed : failure ≡ None
+-- A line of a node is the next to be started; the node has its token already.
+pub record IsPoised (work : Work) (known : Known) (nodes : List NodeState) (jobs : List Job)
+    (failure : Option Failure) (n : ℕ) (lines : List TaskLine) (number : ℕ) (tasks : run.Tasks)
+    (build : Build) : Type 0
+  where
+    pub nodes_are : set build.run.nodes n Open ≡ nodes
+    pub may : run.MayStart (rules_of work) tasks build.run n number build.run.due
+    pub reason : number ≡ 1 → IsBegun work n (build.seen n) lines
+    pub running : AreRunning known build.run.started build.ticket jobs
+    pub failed : build.failure ≡ failure
+    pub none_doomed : build.doomed ≡ None
+    pub task : known n ≡ Some lines
+    pub fresh : AreFresh nodes build.seen
 
 -- behind so many lines of a node: the next one is poised, or the node is settled
-abbrev pub IsBehind : Work → ℕ → List TaskLine → ℕ → Standing
-IsBehind work n lines place tasks build failure =
-    (place < length lines → IsPoised work n lines (place + 1) tasks build failure)
-    × (length lines ≤ place → IsReady work (n + 1) tasks build failure)
+abbrev pub IsBehind : Work → Known → List NodeState → List Job → Option Failure → ℕ
+    → List TaskLine → ℕ → Standing
+IsBehind work known nodes jobs failure n lines done tasks build =
+    (done < length lines
+    → IsPoised work known nodes jobs failure n lines (done + 1) tasks build)
+    × (length lines ≤ done
+    → IsGoing known (set nodes n Settled) run.anything jobs failure tasks build)
 
--- a build that a failing line has ended
-pub record IsFailed (work : Work) (n number status : ℕ) (tasks : run.Tasks) (build : Build)
-    (failure : Option Event) : Type 0 where
-  pub over : run.IsOver (rules_of work) build.run
-  pub failed : failure ≡ Some (End n number status)
-
--- a build that a refused line has ended
-pub record IsUnexpanded (work : Work) (n number : ℕ) (what : ExpandFault) (tasks : run.Tasks)
-    (build : Build) (failure : Option Event) : Type 0 where
-  pub over : run.IsOver (rules_of work) build.run
-  pub failed : failure ≡ Some (Refused n number)
-  pub sight : Sight work n (build.seen n)
-  pub fault : HasFault work n sight.target sight.sources sight.asked number what
-
--- a build that has made all nodes
-pub record IsAllMade (work : Work) (tasks : run.Tasks) (build : Build) (failure : Option Event) : Type 0
+-- The line of a job has failed: the node has failed, and its target is to be removed or not.
+pub record IsFailing (known : Known) (nodes : List NodeState) (jobs : List Job)
+    (failure : Option Failure) (doomed : Option ℕ) (tasks : run.Tasks) (build : Build) : Type 0
   where
-    pub over : run.IsOver (rules_of work) build.run
-    pub unfailed : failure ≡ None
+    pub nodes_are : build.run.nodes ≡ nodes
+    pub due_is : build.run.due ≡ run.anything
+    pub running : AreRunning known build.run.started build.ticket jobs
+    pub failed : build.failure ≡ failure
+    pub doomed_is : build.doomed ≡ doomed
+    pub fresh : AreFresh nodes build.seen
 
--- how a build stands at its end
-abbrev pub StandsBy : Work → BuildResult → Standing
-StandsBy work ended.Done = IsAllMade work
-StandsBy work (ended.JobFailed n number status) = IsFailed work n number status
-StandsBy work (ended.Expand n number what) = IsUnexpanded work n number what
-StandsBy work ended.World = λ tasks build failure. Unit {0}
-StandsBy work ended.Sink = λ tasks build failure. Unit {0}
-StandsBy work ended.NoMemory = λ tasks build failure. Unit {0}
+-- the end of a line: it fails, or else the job ends with it, or else the next line is poised
+abbrev pub IsEnding : Work → Known → List NodeState → List Job → Option Failure → ℕ
+    → List TaskLine → ℕ → ℕ → Bool → Bool → Standing
+IsEnding work known nodes jobs failure n lines number status true stops =
+    IsFailing known (set nodes n Failed) jobs
+    (or_next failure (Some (failing.JobFailed n number status)))
+    (if is_removed work n then Some n else None)
+IsEnding work known nodes jobs failure n lines number status false true =
+    IsGoing known (set nodes n Settled) run.anything jobs failure
+IsEnding work known nodes jobs failure n lines number status false false =
+    IsPoised work known nodes jobs failure n lines (number + 1)
+
+-- a build that is over: no event may follow, and the first failure is known
+pub record IsOver (work : Work) (failure : Option Failure) (build : Build) : Type 0 where
+  pub over : run.IsOver (rules_of work) build.run
+  pub failed : build.failure ≡ failure
+  pub none_doomed : build.doomed ≡ None
+
+-- How a build stands at its end. It is over where the outside did not end it.
+abbrev pub StandsBy : Work → BuildResult → Build → Type 0
+StandsBy work ended.Done build = IsOver work None build
+StandsBy work (ended.JobFailed n number status) build =
+    IsOver work (Some (failing.JobFailed n number status)) build
+StandsBy work (ended.Expand n number what) build =
+    IsOver work (Some (failing.Expand n number what)) build
+StandsBy work ended.World build = Unit {0}
+StandsBy work ended.Sink build = Unit {0}
+StandsBy work ended.NoMemory build = Unit {0}
 
 -- only a failed write cuts off what is printed
 abbrev pub is_cut : BuildResult → Bool
+is_cut ended.Sink = true
 is_cut ended.Done = false
 is_cut (ended.JobFailed n number status) = false
 is_cut (ended.Expand n number what) = false
 is_cut ended.World = false
-is_cut ended.Sink = true
 is_cut ended.NoMemory = false
 
--- a build that ended so
-abbrev pub EndedBy : Meaning → Work → BuildResult → Moment → Moment → Type 0
-EndedBy meaning work result first now =
-    (known : List (List TaskLine))
-    × SoFar meaning work (is_cut result) first now known (StandsBy work result)
+abbrev pub is_cut_by : Halt → Bool
+is_cut_by halt.World = false
+is_cut_by halt.Sink = true
+is_cut_by halt.NoMemory = false
 
--- a build in which so many nodes are settled
-abbrev pub ReadyAt : Meaning → Work → ℕ → Moment → Moment → Type 0
-ReadyAt meaning work n first now =
-    (known : List (List TaskLine)) × (length known ≡ n)
-    × SoFar meaning work false first now known (IsReady work n)
+-- what the driver keeps fits together, with so many nodes that have a token and no child
+abbrev pub Fits : Work → Course → List ℕ → ℕ → ℕ → Type 0
+Fits work course tickets room others =
+    FitsTogether (rules_of work) course.sched course.jobs.items course.failure tickets room others
 
--- a line of a node, which is the next to be started
-pub record PoisedAt (meaning : Meaning) (work : Work) (n : ℕ) (lines : List TaskLine) (number : ℕ)
-    (one : TaskLine) (known : List (List TaskLine)) (first now : Moment) : Type 0 where
-  pub so_far : SoFar meaning work false first now known (IsPoised work n lines number)
-  pub line : run.line_of lines number ≡ Some one
-  pub some : 0 < number
-  pub long : length known ≡ n + 1
-  pub known_is : get_or known n [] ≡ lines
+-- no failure keeps lines from being started
+abbrev pub IsUnstopped : Work → Course → Type 0
+IsUnstopped work course = is_stopped (rules_of work) course.sched.nodes ≡ false
 
--- from a poised line: what is so behind it
-abbrev pub FromPoised : Meaning → Work → ℕ → ℕ → TaskLine → Moment
-    → (List TaskLine → List (List TaskLine) → Moment → Type 0) → Type 0
-FromPoised meaning work n number one now Then =
-    (lines : List TaskLine) (known : List (List TaskLine)) (first : Moment)
-    → PoisedAt meaning work n lines number one known first now → Then lines known first
+-- a build that has come so far, by the world, by what the driver keeps, by its first moment and by
+-- standard output
+abbrev pub GoingAt : Meaning → Work → Option History → Course → Moment → Option (List ℕ) → Type 0
+GoingAt meaning work history course first out =
+    (known : Known) × AreUnknown known course.sched.nodes
+    × SoFar meaning work false first (moment history out course.events) course.last_shown known
+    (IsGoing known course.sched.nodes run.anything course.jobs.items course.failure)
 
-abbrev pub BehindAt : Meaning → Work → ℕ → ℕ → Moment → List TaskLine → List (List TaskLine)
-    → Moment → Type 0
-BehindAt meaning work n place next lines known first =
-    SoFar meaning work false first next known (IsBehind work n lines place)
+-- a node was looked at
+abbrev pub SeenAt : Meaning → Work → Option History → Course → ℕ → List Seen → Moment
+    → Option (List ℕ) → Type 0
+SeenAt meaning work history course n seen first out =
+    (known : Known) × AreUnknown known course.sched.nodes
+    × SoFar meaning work false first (moment history out course.events) course.last_shown known
+    (IsSeen known course.sched.nodes course.jobs.items course.failure n seen)
 
--- the lines of a node, whose reason to be made is known, before the first is started
-pub record BegunAt (meaning : Meaning) (work : Work) (n : ℕ) (lines : List TaskLine)
-    (known : List (List TaskLine)) (first now : Moment) : Type 0 where
-  pub so_far : SoFar meaning work false first now known (IsBehind work n lines 0)
-  pub long : length known ≡ n + 1
-  pub known_is : get_or known n [] ≡ lines
+-- so many lines of a job have ended, and it has no child; the report has these events
+abbrev pub BehindAt : Meaning → Work → Option History → Course → List Event → ℕ → List TaskLine → ℕ
+    → Moment → Option (List ℕ) → Type 0
+BehindAt meaning work history course events n lines done first out =
+    (known : Known) × AreUnknown known course.sched.nodes
+    × SoFar meaning work false first (moment history out events) course.last_shown known
+    (IsBehind work known course.sched.nodes course.jobs.items course.failure n lines done)
 
-abbrev pub FromBegun : Meaning → Work → ℕ → List TaskLine → Moment
-    → (List (List TaskLine) → Moment → Type 0) → Type 0
-FromBegun meaning work n lines now Then =
-    (known : List (List TaskLine)) (first : Moment)
-    → BegunAt meaning work n lines known first now → Then known first
+-- the line of a job that was taken out has ended
+abbrev pub EndingAt : Meaning → Work → Option History → Course → Job → ℕ → Moment
+    → Option (List ℕ) → Type 0
+EndingAt meaning work history course job status first out =
+    (known : Known) × AreUnknown known course.sched.nodes
+    × SoFar meaning work false first (moment history out course.events) course.last_shown known
+    (IsEnding work known course.sched.nodes course.jobs.items course.failure job.node job.task.lines
+    job.number status (run.fails (run.line_of job.task.lines job.number) status)
+    (nat_le (length job.task.lines) job.number || is_stopped (rules_of work) course.sched.nodes))
 
--- from a build that has come so far: what is so of it later
-abbrev pub FromReady : Meaning → Work → ℕ → Moment → (Moment → Type 0) → Type 0
-FromReady meaning work n now Then =
-    (first : Moment) → ReadyAt meaning work n first now → Then first
+-- a build that the outside has ended
+abbrev pub HaltedAt : Meaning → Work → Halt → Option History → List Event → Moment
+    → Option (List ℕ) → Type 0
+HaltedAt meaning work halted history events first out =
+    (known : Known) × (last : Option ℕ)
+    × SoFar meaning work (is_cut_by halted) first (moment history out events) last known
+    (λ tasks build. Unit {0})
 
--- from a node of which this was seen
-abbrev pub FromSeen : Meaning → Work → ℕ → List Seen → Moment → (Moment → Type 0) → Type 0
-FromSeen meaning work n seen now Then =
-    (known : List (List TaskLine)) (first : Moment) → length known ≡ n
-    → SoFar meaning work false first now known (IsSeen work n seen) → Then first
+-- a build at its end
+abbrev pub EndedAt : Meaning → Work → BuildResult → Moment → Moment → Type 0
+EndedAt meaning work result first now =
+    (known : Known) × (last : Option ℕ)
+    × SoFar meaning work (is_cut result) first now last known
+    (λ tasks build. StandsBy work result build)
+
+-- what the driver keeps before the first decision
+pub record IsFirstCourse (plan : List PlanNode) (jobs : ℕ) (keep_going : Bool) (course : Course)
+    : Type 0
+  where
+    pub sched : course.sched ≡ schedule_of plan jobs keep_going (none_decided plan)
+    pub jobs_are : course.jobs.items ≡ []
+    pub events : course.events ≡ []
+    pub last : course.last_shown ≡ None
+    pub failure : course.failure ≡ None
+
+-- from any beginning and with any output
+abbrev pub FromAny : (Moment → Option (List ℕ) → Type 0) → (Moment → Option (List ℕ) → Type 0)
+    → Type 0
+FromAny Before Then = (first : Moment) (out : Option (List ℕ)) → Before first out → Then first out
+
+-- how a node is decided, and why
+abbrev pub IsDecision : Work → ℕ → List Seen → Decision → Type 0
+IsDecision work node seen Keep = IsKept work node seen
+IsDecision work node seen (Refuse number what) = IsRefused work node seen number what
+IsDecision work node seen (Make task) = IsBegun work node seen task.lines × (0 < length task.lines)
+
+-- how many nodes are not decided
+abbrev pub undecided : List NodeState → ℕ
+undecided nodes = count_by is_undecided nodes

@@ -5,23 +5,24 @@ use Rattle.mk_driver.specs.Items.{Item, reported_all, outputs_of}
 use Rattle.mk_driver.specs.Output.{Printed, printed_all}
 use Rattle.mk_driver.specs.Progress.{Standing}
 use Rattle.mk_driver.specs.Runs as run
-use Rattle.mk_driver.specs.declared.event.Event.{Event}
 
 -- items that may be made next, and how they leave a build
-pub record GoesOn (work : Work) (tasks : run.Tasks) (build : Build) (failure : Option Event)
-    (own : List Item) (Stands : Standing) : Type 0 where
+pub record GoesOn (work : Work) (tasks : run.Tasks) (build : Build) (own : List Item)
+    (Stands : Standing) : Type 0 where
   pub makes : Makes work tasks build own
   pub stands : Stands tasks (build_after_all work tasks build own)
-      (run.or_next failure (run.first_failure tasks (reported_all own)))
 
--- what these items print behind all that was printed
+-- what these items print behind all that was printed, by the node whose piece was the last
 pub record PrintsOwn (work : Work) (tasks : run.Tasks) (cut : Bool) (now next : Moment)
-    (own : List Item) : Type 0 where
+    (last later : Option ℕ) (own : List Item) : Type 0 where
   pub text : List ℕ
   pub grows : Prints cut now next text
-  pub bytes : (outputs : List (List ℕ)) (p : Printed) → p.ended ≡ length outputs
+  pub bytes : (outputs : List (List ℕ)) (p : Printed) → p.ended ≡ length outputs → p.last ≡ last
       → (printed_all (job_of work tasks) (outputs ++ outputs_of own) p (reported_all own)).bytes
       ≡ p.bytes ++ text
   pub ended : (outputs : List (List ℕ)) (p : Printed) → p.ended ≡ length outputs
       → (printed_all (job_of work tasks) (outputs ++ outputs_of own) p (reported_all own)).ended
       ≡ length (outputs ++ outputs_of own)
+  pub last_is : (outputs : List (List ℕ)) (p : Printed) → p.ended ≡ length outputs → p.last ≡ last
+      → (printed_all (job_of work tasks) (outputs ++ outputs_of own) p (reported_all own)).last
+      ≡ later

@@ -1,41 +1,45 @@
 -- The test whether a node is out of date, by times alone.
 use Rattle.std.specs.Prelude.{ℕ, nat_lt, List, [], ◌∷◌, Bool, true, false, ◌||◌, if◌then◌else◌}
 use Rattle.std.specs.List.{list_any}
+use Rattle.mk_graph.specs.declared.attr.Marks.{Marks}
 use Rattle.mk_world.specs.declared.time.When.{When}
 use Rattle.mk_world.specs.declared.time.When.TheVariants.{Missing, At, Unknown}
 use Rattle.mk_world.specs.declared.time.Time.{Time}
+use Rattle.mk_driver.specs.Ages.{is_missing}
+use Rattle.mk_driver.specs.declared.age.Age.{Age}
+use Rattle.mk_driver.specs.declared.age.Age.TheVariants as aged
 
--- a source is newer than a time: it is missing, its time is not known, or it was changed later
-abbrev pub is_newer_than : Time → When → Bool
-is_newer_than target Missing = true
-is_newer_than target Unknown = true
-is_newer_than target (At source) = nat_lt target.0 source.0
+-- a source is newer than a time: it is new, or was changed later
+abbrev pub is_newer_than : Time → Age → Bool
+is_newer_than target aged.Old = false
+is_newer_than target (aged.At source) = nat_lt target.0 source.0
+is_newer_than target aged.New = true
 
 -- a target of unknown time is newer than every source that has a time
-abbrev pub is_new : When → Bool
-is_new Missing = true
-is_new Unknown = true
-is_new (At source) = false
+abbrev pub is_new : Age → Bool
+is_new aged.Old = false
+is_new (aged.At source) = false
+is_new aged.New = true
 
--- a source is newer than its target, or new
-abbrev pub is_newer : When → When → Bool
+-- a source is newer than its target, or new; every source is newer than a file that is missing
+abbrev pub is_newer : When → Age → Bool
 is_newer Missing source = true
 is_newer (At target) source = is_newer_than target source
 is_newer Unknown source = is_new source
 
-abbrev pub is_missing : When → Bool
-is_missing Missing = true
-is_missing (At time) = false
-is_missing Unknown = false
+-- a node that is made whatever stands there: it is phony, marked `.EXEC`, or stood before `!`
+abbrev pub is_always : Marks → Bool
+is_always marks = marks.phony || marks.exec || marks.remake
 
--- A node is out of date where its file is missing or a source is newer.
-abbrev pub is_stale : When → List When → Bool
-is_stale target sources = is_missing target || list_any (is_newer target) sources
+-- A node is out of date where it is always made, its file is missing, or a source is newer.
+abbrev pub is_stale : Marks → When → List Age → Bool
+is_stale marks target sources =
+    is_always marks || is_missing target || list_any (is_newer target) sources
 
 -- the names of the sources that are newer than the target, or of all where it is missing
-abbrev pub newer_names : When → List (List ℕ) → List When → List (List ℕ)
-newer_names target [] times = []
+abbrev pub newer_names : When → List (List ℕ) → List Age → List (List ℕ)
+newer_names target [] ages = []
 newer_names target (name ∷ names) [] = []
-newer_names target (name ∷ names) (time ∷ times) =
-    if is_newer target time then name ∷ newer_names target names times
-    else newer_names target names times
+newer_names target (name ∷ names) (one ∷ ages) =
+    if is_newer target one then name ∷ newer_names target names ages
+    else newer_names target names ages

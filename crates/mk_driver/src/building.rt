@@ -1,88 +1,229 @@
 //! A whole build.
-ghost use Rattle.std.specs.Prelude.{◌≡◌, ◌<◌, [], length, false, IfErr, OnOk};
-ghost use Rattle.mk_driver.specs.Builds.{IsBuild};
-ghost use Rattle.mk_driver.specs.Ends.{EndsBy};
+ghost use Rattle.std.specs.Prelude.{◌≡◌, ◌<◌, ◌≤◌, ◌^◌, [], length, nat_lt, false, true, IfErr, IfOk, OnOk};
+ghost use Rattle.mk_driver.specs.Builds.{IsBuild, Moment, jobs_of};
+ghost use Rattle.mk_driver.specs.Ends.{EndsBy, result_of};
 ghost use Rattle.mk_driver.specs.Makers.{work_of, work_on, moment};
-ghost use Rattle.mk_driver.specs.Progress.{FromReady, ReadyAt, EndedBy, StandsBy, is_cut};
+ghost use Rattle.mk_driver.specs.Progress.{EndedAt, Fits, GoingAt, HaltedAt, IsFirstCourse, StandsBy, is_cut, undecided};
 ghost use Rattle.mk_driver.specs.declared.result.BuildResult.TheVariants as ended;
+ghost use Rattle.mk_driver.specs.declared.result.Halt.TheVariants as halts;
+ghost use Rattle.mk_sched.specs.Next.{next_of};
+ghost use Rattle.mk_sched.specs.declared.sched.Next.TheVariants as next;
 ghost use Rattle.mk_world.specs.Causes.{HasCause};
 
+use crate::course::Course;
+use crate::ending::take_in;
 use crate::event::Events;
 use crate::maker::Maker;
-use crate::node::make_node;
-use crate::result::{BuildEnd, BuildResult};
+use crate::node::decide;
+use crate::result::{BuildEnd, BuildResult, Failure, Halt};
+use mk_bytes::NoMemory;
 use mk_flags::Flags;
 use mk_graph::Made;
 use mk_plan::Plan;
+use mk_sched::{Next, Sched};
 use mk_world::{Kids, Sink, World};
 use std::alloc::Global;
 
-// Decides and makes all nodes, up to the first that fails.
+// How many jobs may be open at once.
+fn jobs_in(maker: &Maker) -> u32
+    ensures { result ≡ jobs_of (work_of maker.now) }
+{
+    if maker.made.mode.one_job {
+        1
+    } else {
+        maker.flags.jobs
+    }
+}
+
+// Takes in children up to the next node that may be decided, or up to the last one.
+fn take_in_ready<W: World, S: Sink>(
+    maker: &Maker,
+    world: &mut W,
+    out: &mut S,
+    kids: &mut Kids<W::Kid>,
+    course: &mut Course,
+    many: bool,
+) -> Result<(), Halt>
+    requires exact { W.runs world.old kids.old.tickets }
+    requires fits { Fits (work_of maker.now) course.old kids.old.tickets kids.old.room 0 }
+    requires many { many ≡ nat_lt 1 (jobs_of (work_of maker.now)) }
+    ensures goes { OnOk result ((first : Moment)
+        → GoingAt W.meaning (work_of maker.now) (W.history world.old) course.old first (S.held out.old)
+        → GoingAt W.meaning (work_of maker.now) (W.history world.new) course.new first
+        (S.held out.new)) }
+    ensures halted { IfErr result (λ halt. (first : Moment)
+        → GoingAt W.meaning (work_of maker.now) (W.history world.old) course.old first (S.held out.old)
+        → HaltedAt W.meaning (work_of maker.now) halt (W.history world.new) course.new.events first
+        (S.held out.new)) }
+    ensures fits { OnOk result (Fits (work_of maker.now) course.new kids.new.tickets kids.new.room 0) }
+    ensures nodes { OnOk result (undecided course.new.sched.nodes ≡ undecided course.old.sched.nodes) }
+    ensures ready { OnOk result (next_of course.new.sched ≡ next.Wait → ⊥) }
+    ensures same_room { kids.new.room ≡ kids.old.room }
+    ensures world_cause { HasCause halts.World (W.faults world.old) (W.faults world.new) result }
+    ensures sink_cause { HasCause halts.Sink (S.faults out.old) (S.faults out.new) result }
+    ensures children { W.runs world.new kids.new.tickets }
+{
+    'waits: while course.sched.next() == Next::Wait {
+        take_in(maker, world, out, kids, course, many)?;
+    }
+    Ok(())
+}
+
+// One more node is decided, behind the children that have to be taken in before. Gives whether there
+// was one.
+fn make_next<W: World, S: Sink>(
+    maker: &Maker,
+    world: &mut W,
+    out: &mut S,
+    kids: &mut Kids<W::Kid>,
+    course: &mut Course,
+    many: bool,
+) -> Result<bool, Halt>
+    requires exact { W.runs world.old kids.old.tickets }
+    requires fits { Fits (work_of maker.now) course.old kids.old.tickets kids.old.room 0 }
+    requires many { many ≡ nat_lt 1 (jobs_of (work_of maker.now)) }
+    ensures goes { OnOk result ((first : Moment)
+        → GoingAt W.meaning (work_of maker.now) (W.history world.old) course.old first (S.held out.old)
+        → GoingAt W.meaning (work_of maker.now) (W.history world.new) course.new first
+        (S.held out.new)) }
+    ensures halted { IfErr result (λ halt. (first : Moment)
+        → GoingAt W.meaning (work_of maker.now) (W.history world.old) course.old first (S.held out.old)
+        → HaltedAt W.meaning (work_of maker.now) halt (W.history world.new) course.new.events first
+        (S.held out.new)) }
+    ensures fits { OnOk result (Fits (work_of maker.now) course.new kids.new.tickets kids.new.room 0) }
+    ensures nodes { IfOk result (λ more. more ≡ true
+        → undecided course.new.sched.nodes < undecided course.old.sched.nodes) }
+    ensures over { IfOk result (λ more. more ≡ false → next_of course.new.sched ≡ next.Over) }
+    ensures same_room { kids.new.room ≡ kids.old.room }
+    ensures world_cause { HasCause halts.World (W.faults world.old) (W.faults world.new) result }
+    ensures sink_cause { HasCause halts.Sink (S.faults out.old) (S.faults out.new) result }
+    ensures children { W.runs world.new kids.new.tickets }
+{
+    take_in_ready(maker, world, out, kids, course, many)?;
+    if let Next::Decide(node) = course.sched.next() {
+        decide(maker, world, kids, course, node)?;
+        return Ok(true);
+    }
+    Ok(false)
+}
+
+// Makes all nodes that can be made.
 fn make_all<W: World, S: Sink>(
     maker: &Maker,
     world: &mut W,
     out: &mut S,
     kids: &mut Kids<W::Kid>,
-    events: &mut Events,
-) -> Result<(), BuildResult>
-    requires one_job { maker.now.flags.now.jobs ≡ 1 }
-    requires stops { maker.now.flags.now.keep_going ≡ false }
-    requires none { W.runs world.old [] × (kids.old.tickets ≡ []) }
-    requires room { 0 < kids.old.room }
-    ensures made { OnOk result (FromReady W.meaning (work_of maker.now) 0
-        (moment (W.history world.old) (S.held out.old) events.old)
-        (λ first. ReadyAt W.meaning (work_of maker.now) (length maker.now.plan.now) first
-        (moment (W.history world.new) (S.held out.new) events.new))) }
-    ensures ended { IfErr result (λ fault. FromReady W.meaning (work_of maker.now) 0
-        (moment (W.history world.old) (S.held out.old) events.old)
-        (λ first. EndedBy W.meaning (work_of maker.now) fault first
-        (moment (W.history world.new) (S.held out.new) events.new))) }
-    ensures taken { OnOk result (kids.new.tickets ≡ []) }
-    ensures world_cause { HasCause ended.World (W.faults world.old) (W.faults world.new) result }
-    ensures sink_cause { HasCause ended.Sink (S.faults out.old) (S.faults out.new) result }
+    course: &mut Course,
+    many: bool,
+) -> Result<(), Halt>
+    requires exact { W.runs world.old kids.old.tickets }
+    requires fits { Fits (work_of maker.now) course.old kids.old.tickets kids.old.room 0 }
+    requires many { many ≡ nat_lt 1 (jobs_of (work_of maker.now)) }
+    ensures goes { OnOk result ((first : Moment)
+        → GoingAt W.meaning (work_of maker.now) (W.history world.old) course.old first (S.held out.old)
+        → GoingAt W.meaning (work_of maker.now) (W.history world.new) course.new first
+        (S.held out.new)) }
+    ensures halted { IfErr result (λ halt. (first : Moment)
+        → GoingAt W.meaning (work_of maker.now) (W.history world.old) course.old first (S.held out.old)
+        → HaltedAt W.meaning (work_of maker.now) halt (W.history world.new) course.new.events first
+        (S.held out.new)) }
+    ensures fits { OnOk result (Fits (work_of maker.now) course.new kids.new.tickets kids.new.room 0) }
+    ensures over { OnOk result (next_of course.new.sched ≡ next.Over) }
+    ensures world_cause { HasCause halts.World (W.faults world.old) (W.faults world.new) result }
+    ensures sink_cause { HasCause halts.Sink (S.faults out.old) (S.faults out.new) result }
     ensures children { W.runs world.new kids.new.tickets }
 {
-    let mut last_ticket = 0;
-    for node in 0..maker.plan.len() {
-        make_node(maker, world, out, kids, events, &mut last_ticket, node)?;
-    }
+    'nodes: while make_next(maker, world, out, kids, course, many)? {}
     Ok(())
 }
 
-// Decides and makes all nodes, and gives the end of the build.
+// The end of a build that is over, by its first failure.
+fn ended_by(failure: Option<Failure>) -> BuildResult
+    ensures { result ≡ result_of failure }
+{
+    match failure {
+        Some(failure) => BuildResult::from(failure),
+        None => BuildResult::Done,
+    }
+}
+
+// Makes all nodes that can be made, and gives the end of the build.
 fn make_to_end<W: World, S: Sink>(
     maker: &Maker,
     world: &mut W,
     out: &mut S,
     kids: &mut Kids<W::Kid>,
-    events: &mut Events,
+    course: &mut Course,
+    many: bool,
 ) -> BuildResult
-    requires one_job { maker.now.flags.now.jobs ≡ 1 }
-    requires stops { maker.now.flags.now.keep_going ≡ false }
-    requires none { W.runs world.old [] × (kids.old.tickets ≡ []) }
-    requires room { 0 < kids.old.room }
-    ensures ended { FromReady W.meaning (work_of maker.now) 0
-        (moment (W.history world.old) (S.held out.old) events.old)
-        (λ first. EndedBy W.meaning (work_of maker.now) result first
-        (moment (W.history world.new) (S.held out.new) events.new)) }
+    requires exact { W.runs world.old kids.old.tickets }
+    requires fits { Fits (work_of maker.now) course.old kids.old.tickets kids.old.room 0 }
+    requires many { many ≡ nat_lt 1 (jobs_of (work_of maker.now)) }
+    ensures ended { (first : Moment)
+        → GoingAt W.meaning (work_of maker.now) (W.history world.old) course.old first (S.held out.old)
+        → EndedAt W.meaning (work_of maker.now) result first
+        (moment (W.history world.new) (S.held out.new) course.new.events) }
     ensures world_cause { EndsBy ended.World (W.faults world.old) (W.faults world.new) result }
     ensures sink_cause { EndsBy ended.Sink (S.faults out.old) (S.faults out.new) result }
     ensures children { W.runs world.new kids.new.tickets }
 {
-    match make_all(maker, world, out, kids, events) {
-        Ok(()) => BuildResult::Done,
-        Err(result) => result,
+    match make_all(maker, world, out, kids, course, many) {
+        Ok(()) => ended_by(course.failure.take()),
+        Err(halt) => BuildResult::from(halt),
     }
 }
 
-/// Builds a plan with one job: each node in order is kept if it is up to date, and else made by the
-/// lines of its task, one after the other. The build ends with the first line that fails or could
-/// not be expanded. A node is out of date where its file is missing or a source is newer.
+// The start of a build.
+fn new_course<'p>(
+    alloc: Global,
+    plan: &'p Plan,
+    jobs: u32,
+    keep_going: bool,
+) -> Result<Course<'p>, NoMemory>
+    requires some { 1 ≤ jobs }
+    requires few { jobs ≤ 256 }
+    ensures begins { IfOk result (λ course. IsFirstCourse plan.now jobs keep_going course) }
+    ensures short { length plan.now < 2 ^ 32 }
+{
+    Ok(Course {
+        sched: Sched::new(alloc, plan, jobs, keep_going)?,
+        jobs: Vec::new(alloc),
+        events: Events::new(alloc),
+        last_ticket: 0,
+        last_shown: None,
+        failure: None,
+    })
+}
+
+// The report of a build.
+fn events_of(course: Course) -> Events
+    ensures { result ≡ course.entry.events }
+{
+    let Course { events, .. } = course;
+    events
+}
+
+// A build that did not begin. Takes no memory.
+fn no_memory(alloc: Global) -> BuildEnd
+    ensures { result ≡ record { result = ended.NoMemory; events = [] } }
+{
+    BuildEnd {
+        result: BuildResult::NoMemory,
+        events: Events::new(alloc),
+    }
+}
+
+/// Builds a plan with so many jobs at once: whenever a node may be decided it is, and is kept if it is
+/// up to date, and else made by the lines of its task, one after the other. A node is out of date where
+/// it is always made, its file is missing, or a source is new or newer; a source without a file may be
+/// as old as its own sources. Where no node may be decided, the next child that ends is taken in, and
+/// what its line printed is written. Behind the first line that fails or cannot be expanded no line is
+/// started, or, with `-k`, none of what depends on it.
 ///
-/// The report's events are a cut run, and a legal run where the build is `Done` or ended with a
-/// failing line. There is one list of items, of which the events are one side, and what happened in
-/// the world, where it tells, the other; each item has its reason. Standard output gains what the
-/// events print. `World` and `Sink` come only where that object's count of faults rose.
+/// The report's events are a cut run, and a legal run where the outside did not end the build. There is
+/// one list of items, of which the events are one side, and what happened in the world, where it tells,
+/// the other; each item has its reason. Standard output gains what the events print. `World` and `Sink`
+/// come only where that object's count of faults rose.
 pub fn build<W: World, S: Sink>(
     alloc: Global,
     plan: &Plan,
@@ -91,8 +232,8 @@ pub fn build<W: World, S: Sink>(
     world: &mut W,
     out: &mut S,
 ) -> BuildEnd
-    requires one_job { flags.now.jobs ≡ 1 }
-    requires stops { flags.now.keep_going ≡ false }
+    requires some_jobs { 1 ≤ flags.now.jobs }
+    requires few_jobs { flags.now.jobs ≤ 256 }
     requires idle { W.runs world.old [] }
     ensures built { IsBuild W.meaning (work_on plan.now made.now flags.now) (is_cut result.result)
         (moment (W.history world.old) (S.held out.old) [])
@@ -109,18 +250,19 @@ pub fn build<W: World, S: Sink>(
         made,
         flags,
     };
-    let mut events = Events::new(alloc);
-    let mut kids = match Kids::new(alloc, 1) {
-        Ok(kids) => kids,
-        Err(_) => {
-            return BuildEnd {
-                result: BuildResult::NoMemory,
-                events,
-            };
-        }
+    let jobs = jobs_in(&maker);
+    let Ok(mut kids) = Kids::new(alloc, jobs as usize) else {
+        return no_memory(alloc);
     };
-    let result = make_to_end(&maker, world, out, &mut kids, &mut events);
+    let Ok(mut course) = new_course(alloc, plan, jobs, flags.keep_going) else {
+        kids.finish();
+        return no_memory(alloc);
+    };
+    let result = make_to_end(&maker, world, out, &mut kids, &mut course, jobs > 1);
     world.abandon(&mut kids);
     kids.finish();
-    BuildEnd { result, events }
+    BuildEnd {
+        result,
+        events: events_of(course),
+    }
 }

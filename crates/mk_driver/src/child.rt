@@ -1,9 +1,12 @@
-//! Children: the command of a line is started, waited for, and what it printed is written.
-ghost use Rattle.std.specs.Prelude.{◌≡◌, ◌⊎◌, ◌<◌, [], ◌∷◌, ◌++◌, Some, false, IsTrue, IfOk, OnOk, OnErr};
+//! Children: the command of a line is started, one is waited for, and what it printed is written.
+ghost use Rattle.std.specs.Prelude.{◌≡◌, ◌⊎◌, ◌<◌, ℕ, [], ◌∷◌, ◌++◌, Option, Some, false, length, nat_eq, IsTrue, IfOk, OnOk, OnErr};
+ghost use Rattle.std.specs.List.{list_any};
 ghost use Rattle.mk_bytes.specs.Paths.{is_clean_directory};
 ghost use Rattle.mk_driver.specs.Calls.{Called, NoItem, StartItem, EndItem};
-ghost use Rattle.mk_driver.specs.Output.{echo};
+ghost use Rattle.mk_driver.specs.Output as spec;
+ghost use Rattle.mk_driver.specs.Runs.{is_empty};
 ghost use Rattle.mk_driver.specs.declared.event.Event.TheVariants as event;
+ghost use Rattle.mk_world.specs.Calls.{TakenOut};
 ghost use Rattle.mk_world.specs.Causes.{HasCause};
 ghost use Rattle.mk_world.specs.Sinks.{Gains, GainsPart};
 ghost use Rattle.mk_world.specs.declared.fault.SinkFault.TheVariants.{Failed as sink_failed};
@@ -11,6 +14,7 @@ ghost use Rattle.mk_world.specs.declared.fault.WorldFault.TheVariants.{Failed as
 
 use crate::event::{Event, Events};
 use mk_bytes::{Items, NoMemory, Text};
+use mk_plan::Plan;
 use mk_world::{
     Cmd, Ended, Kids, Sink, SinkFault, TaskLine, Ticket, Time, World, WorldFault, write_all,
 };
@@ -46,8 +50,9 @@ pub fn start_child<W: World>(
     ticket: u32,
     cmd: &Cmd,
 ) -> Result<(), WorldFault>
-    requires none { W.runs world.old [] × (kids.old.tickets ≡ []) }
-    requires room { 0 < kids.old.room }
+    requires exact { W.runs world.old kids.old.tickets }
+    requires room { length kids.old.tickets < kids.old.room }
+    requires fresh { list_any (nat_eq ticket) kids.old.tickets ≡ false }
     requires directory { IsTrue (is_clean_directory cmd.now.cwd) }
     ensures done { OnOk result (Called W.meaning (W.history world.old) (W.history world.new)
         (StartItem place.node place.number ticket 0 cmd.now)) }
@@ -56,8 +61,7 @@ pub fn start_child<W: World>(
     ensures told { OnOk result
         (events.new ≡ events.old ++ event.Start place.node place.number ∷ []) }
     ensures untold { OnErr result (events.new ≡ events.old) }
-    ensures held { OnOk result (kids.new.tickets ≡ ticket ∷ []) }
-    ensures unheld { OnErr result (kids.new.tickets ≡ []) }
+    ensures held { OnOk result (kids.new.tickets ≡ kids.old.tickets ++ ticket ∷ []) }
     ensures same_room { kids.new.room ≡ kids.old.room }
     ensures cause { HasCause world_failed (W.faults world.old) (W.faults world.new) result }
     ensures children { W.runs world.new kids.new.tickets }
@@ -71,70 +75,128 @@ pub fn start_child<W: World>(
 }
 
 // Tells of a wait, and of an end in the place of the one that is to come.
-fn expect_end(events: &mut Events, place: Place) -> Result<(), NoMemory>
-    ensures told { OnOk result (events.new
-        ≡ events.old ++ event.Wait ∷ event.End place.node place.number 0 ∷ []) }
+fn expect_end(events: &mut Events) -> Result<(), NoMemory>
+    ensures told { OnOk result (events.new ≡ events.old ++ event.Wait ∷ event.End 0 0 0 ∷ []) }
     ensures untold { OnErr result (events.new ≡ events.old) }
 {
     events.push(Event::Wait)?;
-    if events
-        .push(Event::End(place.node, place.number, 0))
-        .is_err()
-    {
+    if events.push(Event::End(0, 0, 0)).is_err() {
         events.drop_last();
         return Err(NoMemory);
     }
     Ok(())
 }
 
-/// Waits for the one child that runs, that of a line, takes it in and tells of it.
-pub fn take_in<W: World>(
+/// Waits for a child and takes it in. Tells of the wait, and of an end in the place of the child's.
+pub fn wait_child<W: World>(
     alloc: Global,
     world: &mut W,
     kids: &mut Kids<W::Kid>,
     events: &mut Events,
-    place: Place,
-    ticket: u32,
 ) -> Result<Ended, WorldFault>
     requires exact { W.runs world.old kids.old.tickets }
-    requires one { kids.old.tickets ≡ ticket ∷ [] }
-    ensures done { IfOk result (λ ended. Called W.meaning (W.history world.old)
-        (W.history world.new) (EndItem place.node place.number ended)) }
+    requires some { 0 < length kids.old.tickets }
+    ensures done { IfOk result (λ ended. (node number : ℕ) → Called W.meaning (W.history world.old)
+        (W.history world.new) (EndItem node number ended)) }
     ensures refused { OnErr result
         (Called W.meaning (W.history world.old) (W.history world.new) NoItem) }
-    ensures told { IfOk result (λ ended. events.new
-        ≡ events.old ++ event.Wait ∷ event.End place.node place.number ended.status ∷ []) }
+    ensures told { OnOk result
+        (events.new ≡ events.old ++ event.Wait ∷ event.End 0 0 0 ∷ []) }
     ensures untold { OnErr result
         ((events.new ≡ events.old) ⊎ (events.new ≡ events.old ++ event.Wait ∷ [])) }
-    ensures is_it { IfOk result (λ ended. ended.ticket.0 ≡ ticket) }
-    ensures taken { OnOk result (kids.new.tickets ≡ []) }
+    ensures taken { IfOk result
+        (λ ended. TakenOut ended.ticket.0 kids.old.tickets kids.new.tickets) }
     ensures same_room { kids.new.room ≡ kids.old.room }
     ensures cause { HasCause world_failed (W.faults world.old) (W.faults world.new) result }
     ensures children { W.runs world.new kids.new.tickets }
 {
-    expect_end(events, place)?;
+    expect_end(events)?;
     match world.wait_any(alloc, kids) {
         Err(fault) => {
             events.drop_last();
             Err(fault)
         }
-        Ok(ended) => {
-            events.set_last(Event::End(place.node, place.number, ended.status));
-            Ok(ended)
-        }
+        Ok(ended) => Ok(ended),
     }
 }
 
-/// Writes what the end of a line prints: its text unless it is silent, and its child's output.
-pub fn print_end<S: Sink>(out: &mut S, line: &TaskLine, output: &[u8]) -> Result<(), SinkFault>
+// Whether a node's piece was the last.
+fn is_last(node: u32, last: Option<u32>) -> bool
+    ensures { result ≡ spec.is_last node last }
+{
+    match last {
+        None => false,
+        Some(last) => node == last,
+    }
+}
+
+// Writes the marker in front of a piece, where it has one.
+fn print_marker<S: Sink>(
+    out: &mut S,
+    plan: &Plan,
+    many: bool,
+    last: Option<u32>,
+    node: u32,
+) -> Result<(), SinkFault>
+    requires { node < length plan.now }
     ensures done { OnOk result
-        (Gains (S.held out.old) (S.held out.new) (echo (Some line.now) ++ output.now)) }
+        (Gains (S.held out.old) (S.held out.new) (spec.marker plan.now many last node)) }
     ensures cut { OnErr result
-        (GainsPart (S.held out.old) (S.held out.new) (echo (Some line.now) ++ output.now)) }
+        (GainsPart (S.held out.old) (S.held out.new) (spec.marker plan.now many last node)) }
+    ensures cause { HasCause sink_failed (S.faults out.old) (S.faults out.new) result }
+{
+    if !many || is_last(node, last) {
+        return Ok(());
+    }
+    write_all(out, &[b"--- ", plan.name(node), b" ---\n"])
+}
+
+// Writes the text of a line unless it is silent, and its child's output.
+fn print_piece<S: Sink>(out: &mut S, line: &TaskLine, output: &[u8]) -> Result<(), SinkFault>
+    ensures done { OnOk result
+        (Gains (S.held out.old) (S.held out.new) (spec.echo (Some line.now) ++ output.now)) }
+    ensures cut { OnErr result
+        (GainsPart (S.held out.old) (S.held out.new) (spec.echo (Some line.now) ++ output.now)) }
     ensures cause { HasCause sink_failed (S.faults out.old) (S.faults out.new) result }
 {
     if line.silent {
         return write_all(out, &[output]);
     }
     write_all(out, &[line.text.bytes(), b"\n", output])
+}
+
+// Whether the end of a line prints nothing.
+fn prints_nothing(line: &TaskLine, output: &[u8]) -> bool
+    ensures { result ≡ is_empty (spec.echo (Some line.now) ++ output.now) }
+{
+    line.silent && output.is_empty()
+}
+
+/// Writes what the end of a line prints: its text unless it is silent, and its child's output, behind a
+/// marker where there are many jobs and the piece before was another node's.
+pub fn print_end<S: Sink>(
+    out: &mut S,
+    plan: &Plan,
+    many: bool,
+    last: &mut Option<u32>,
+    node: u32,
+    line: &TaskLine,
+    output: &[u8],
+) -> Result<(), SinkFault>
+    requires { node < length plan.now }
+    ensures done { OnOk result (Gains (S.held out.old) (S.held out.new)
+        (spec.shown plan.now many last.old node (spec.echo (Some line.now) ++ output.now))) }
+    ensures cut { OnErr result (GainsPart (S.held out.old) (S.held out.new)
+        (spec.shown plan.now many last.old node (spec.echo (Some line.now) ++ output.now))) }
+    ensures last { last.new
+        ≡ spec.last_behind last.old node (spec.echo (Some line.now) ++ output.now) }
+    ensures cause { HasCause sink_failed (S.faults out.old) (S.faults out.new) result }
+{
+    if prints_nothing(line, output) {
+        return Ok(());
+    }
+    let before = *last;
+    *last = Some(node);
+    print_marker(out, plan, many, before, node)?;
+    print_piece(out, line, output)
 }

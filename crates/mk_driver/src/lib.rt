@@ -1,12 +1,17 @@
 //! Builds: each node of a plan is decided, and what is out of date is made by its commands
 //! (NetBSD make(1), "FILE DEPENDENCY SPECIFICATIONS").
 //!
-//! One job makes one node after the other, by times alone.
+//! Several jobs run at once, and a node is tested by times alone.
 #![tactic(auto)]
 
+mod age;
 mod building;
 mod child;
+mod course;
+mod decision;
+mod ending;
 mod event;
+mod job;
 mod line;
 mod maker;
 mod node;

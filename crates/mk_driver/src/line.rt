@@ -1,34 +1,23 @@
-//! The lines of a job, one after the other.
-ghost use Rattle.std.specs.Prelude.{◌≡◌, ◌<◌, ◌+◌, ◌^◌, [], ◌∷◌, ◌++◌, length, Some, false, IfErr, OnOk, OnErr};
-ghost use Rattle.mk_driver.specs.Makers.{work_of, moment};
-ghost use Rattle.mk_driver.specs.Progress.{AtNode, FromPoised, FromBegun, BehindAt, EndedBy, IsReady, SoFar};
-ghost use Rattle.mk_driver.specs.Runs.{fails, is_empty};
+//! The lines of a job: empty ones are passed over, and for others children are started.
+ghost use Rattle.std.specs.Prelude.{◌≡◌, ◌<◌, ◌≤◌, ◌+◌, ◌-◌, ◌^◌, ℕ, [], ◌∷◌, ◌++◌, Some, true, false, length, OnOk, OnErr, IfOk, IfErr};
+ghost use Rattle.mk_driver.specs.Ends.{of_world};
+ghost use Rattle.mk_driver.specs.Jobs.{HasLine, HasToken, lines_left};
+ghost use Rattle.mk_driver.specs.Makers.{work_of};
+ghost use Rattle.mk_driver.specs.Progress.{BehindAt, Fits, FromAny, GoingAt, HaltedAt, IsUnstopped, undecided};
+ghost use Rattle.mk_driver.specs.Runs.{is_empty, line_of};
+ghost use Rattle.mk_driver.specs.Scenes.{Scene, IsOpenScene, BehindIn, HaltedIn};
 ghost use Rattle.mk_driver.specs.declared.event.Event.TheVariants as event;
-ghost use Rattle.mk_driver.specs.declared.result.BuildResult.TheVariants.{
-  World as world_failed,
-  Sink as sink_failed,
-};
 ghost use Rattle.mk_world.specs.Causes.{HasCause};
+ghost use Rattle.mk_world.specs.declared.fault.WorldFault.TheVariants.{Failed as world_failed};
+ghost use Rattle.mk_world.specs.declared.command.TaskLine.{TaskLine as Line};
 
-use crate::child::{Place, command, print_end, start_child, take_in};
+use crate::child::{Place, command, start_child};
+use crate::course::Course;
 use crate::event::{Event, Events};
+use crate::job::{Job, add_job, line_at, next_ticket};
 use crate::maker::Maker;
-use crate::result::BuildResult;
 use mk_bytes::NoMemory;
-use mk_world::{Kids, Sink, TaskLine, World};
-
-// The next ticket: tickets count from 1, and after the last number from 1 again.
-fn next_ticket(last: &mut u32) -> u32 {
-    *last = if *last == u32::MAX { 1 } else { *last + 1 };
-    *last
-}
-
-// Whether a line with this status has failed: a line that is ignored does not.
-fn line_fails(line: &TaskLine, status: u8) -> bool
-    ensures { result ≡ fails (Some line.now) status }
-{
-    status != 0 && !line.ignore
-}
+use mk_world::{Kids, Task, TaskLine, World, WorldFault};
 
 // An empty line begins and ends without a child.
 fn pass_line(events: &mut Events, place: Place) -> Result<(), NoMemory>
@@ -47,118 +36,141 @@ fn pass_line(events: &mut Events, place: Place) -> Result<(), NoMemory>
     Ok(())
 }
 
-// Runs the child of a line to its end, and prints what it has to print.
-fn run_child<W: World, S: Sink>(
-    maker: &Maker,
-    world: &mut W,
-    out: &mut S,
-    kids: &mut Kids<W::Kid>,
-    events: &mut Events,
-    last_ticket: &mut u32,
-    place: Place,
-    line: &TaskLine,
-) -> Result<(), BuildResult>
-    requires at { AtNode (work_of maker.now) place.node }
-    requires text { is_empty line.now.text ≡ false }
-    requires none { W.runs world.old [] × (kids.old.tickets ≡ []) }
-    requires room { 0 < kids.old.room }
-    ensures ran { OnOk result (FromPoised W.meaning (work_of maker.now) place.node place.number
-        line.now (moment (W.history world.old) (S.held out.old) events.old)
-        (BehindAt W.meaning (work_of maker.now) place.node place.number
-        (moment (W.history world.new) (S.held out.new) events.new))) }
-    ensures ended { IfErr result (λ fault. FromPoised W.meaning (work_of maker.now) place.node
-        place.number line.now (moment (W.history world.old) (S.held out.old) events.old)
-        (λ lines known first. EndedBy W.meaning (work_of maker.now) fault first
-        (moment (W.history world.new) (S.held out.new) events.new))) }
-    ensures taken { OnOk result (kids.new.tickets ≡ []) }
-    ensures same_room { kids.new.room ≡ kids.old.room }
-    ensures world_cause { HasCause world_failed (W.faults world.old) (W.faults world.new) result }
-    ensures sink_cause { HasCause sink_failed (S.faults out.old) (S.faults out.new) result }
-    ensures children { W.runs world.new kids.new.tickets }
+// Whether the line behind so many is there and is empty.
+fn is_next_empty(lines: &[TaskLine], done: u32) -> bool
+    requires { length lines.now < 2 ^ 32 }
+    ensures empty { result ≡ true → (one : Line) × (done < length lines.now)
+        × (line_of lines.now (done + 1) ≡ Some one) × (is_empty one.text ≡ true) }
+    ensures child { result ≡ false → done < length lines.now
+        → (one : Line) × HasLine lines.now (done + 1) one }
 {
-    let cmd = command(maker.alloc, line, maker.made.scopes.cwd())?;
-    let ticket = next_ticket(last_ticket);
-    start_child(maker.alloc, world, kids, events, place, ticket, &cmd)?;
-    let ended = take_in(maker.alloc, world, kids, events, place, ticket)?;
-    print_end(out, line, ended.output.bytes())?;
-    if line_fails(line, ended.status) {
-        return Err(BuildResult::JobFailed(place.node, place.number, ended.status));
+    match lines.get(done as usize) {
+        Some(line) => line.text.is_empty(),
+        None => false,
     }
-    Ok(())
 }
 
-// Runs a line: with a child, unless its text is empty.
-fn run_line<W: World, S: Sink>(
-    maker: &Maker,
-    world: &mut W,
-    out: &mut S,
-    kids: &mut Kids<W::Kid>,
+// Passes over the empty lines behind so many, and gives how many lines have then ended.
+fn pass_lines(
     events: &mut Events,
-    last_ticket: &mut u32,
-    place: Place,
-    line: &TaskLine,
-) -> Result<(), BuildResult>
-    requires at { AtNode (work_of maker.now) place.node }
-    requires none { W.runs world.old [] × (kids.old.tickets ≡ []) }
-    requires room { 0 < kids.old.room }
-    ensures ran { OnOk result (FromPoised W.meaning (work_of maker.now) place.node place.number
-        line.now (moment (W.history world.old) (S.held out.old) events.old)
-        (BehindAt W.meaning (work_of maker.now) place.node place.number
-        (moment (W.history world.new) (S.held out.new) events.new))) }
-    ensures ended { IfErr result (λ fault. FromPoised W.meaning (work_of maker.now) place.node
-        place.number line.now (moment (W.history world.old) (S.held out.old) events.old)
-        (λ lines known first. EndedBy W.meaning (work_of maker.now) fault first
-        (moment (W.history world.new) (S.held out.new) events.new))) }
-    ensures taken { OnOk result (kids.new.tickets ≡ []) }
-    ensures same_room { kids.new.room ≡ kids.old.room }
-    ensures world_cause { HasCause world_failed (W.faults world.old) (W.faults world.new) result }
-    ensures sink_cause { HasCause sink_failed (S.faults out.old) (S.faults out.new) result }
-    ensures children { W.runs world.new kids.new.tickets }
-{
-    if line.text.is_empty() {
-        pass_line(events, place)?;
-        return Ok(());
-    }
-    run_child(maker, world, out, kids, events, last_ticket, place, line)?;
-    Ok(())
-}
-
-/// Runs the lines of a task in order, up to the first that fails.
-pub fn run_lines<W: World, S: Sink>(
-    maker: &Maker,
-    world: &mut W,
-    out: &mut S,
-    kids: &mut Kids<W::Kid>,
-    events: &mut Events,
-    last_ticket: &mut u32,
     node: u32,
     lines: &[TaskLine],
-) -> Result<(), BuildResult>
-    requires at { AtNode (work_of maker.now) node }
-    requires none { W.runs world.old [] × (kids.old.tickets ≡ []) }
-    requires room { 0 < kids.old.room }
+    done: u32,
+) -> Result<u32, NoMemory>
     requires few { length lines.now < 2 ^ 32 }
-    ensures ran { OnOk result (FromBegun W.meaning (work_of maker.now) node lines.now
-        (moment (W.history world.old) (S.held out.old) events.old)
-        (λ known first. SoFar W.meaning (work_of maker.now) false first
-        (moment (W.history world.new) (S.held out.new) events.new) known
-        (IsReady (work_of maker.now) (node + 1)))) }
-    ensures ended { IfErr result (λ fault. FromBegun W.meaning (work_of maker.now) node lines.now
-        (moment (W.history world.old) (S.held out.old) events.old)
-        (λ known first. EndedBy W.meaning (work_of maker.now) fault first
-        (moment (W.history world.new) (S.held out.new) events.new))) }
-    ensures taken { OnOk result (kids.new.tickets ≡ []) }
-    ensures same_room { kids.new.room ≡ kids.old.room }
-    ensures world_cause { HasCause world_failed (W.faults world.old) (W.faults world.new) result }
-    ensures sink_cause { HasCause sink_failed (S.faults out.old) (S.faults out.new) result }
-    ensures children { W.runs world.new kids.new.tickets }
+    requires within { done ≤ length lines.now }
+    ensures within { IfOk result (λ passed. (done ≤ passed) × (passed ≤ length lines.now)) }
+    ensures next { IfOk result (λ passed. passed < length lines.now
+        → (one : Line) × HasLine lines.now (passed + 1) one) }
+    ensures behind { IfOk result (λ passed. (scene : Scene) → IsOpenScene scene node
+        → BehindIn scene events.old node lines.now done
+        → BehindIn scene events.new node lines.now passed) }
+    ensures halted { OnErr result ((scene : Scene) → IsOpenScene scene node
+        → BehindIn scene events.old node lines.now done → HaltedIn scene events.new) }
 {
-    for (done, line) in lines.iter().enumerate() {
+    let mut passed = done;
+    'lines: while is_next_empty(lines, passed) {
+        passed += 1;
         let place = Place {
             node,
-            number: done as u32 + 1,
+            number: passed,
         };
-        run_line(maker, world, out, kids, events, last_ticket, place, line)?;
+        pass_line(events, place)?;
     }
+    Ok(passed)
+}
+
+// Starts the child of a line of a node, which has a token.
+fn start_line<W: World>(
+    maker: &Maker,
+    world: &mut W,
+    kids: &mut Kids<W::Kid>,
+    course: &mut Course,
+    place: Place,
+    task: Task,
+) -> Result<(), WorldFault>
+    requires exact { W.runs world.old kids.old.tickets }
+    requires fits { Fits (work_of maker.now) course.old kids.old.tickets kids.old.room 1 }
+    requires token { HasToken course.old.sched.nodes course.old.jobs.items place.node }
+    requires line { (one : Line) × HasLine task.lines place.number one }
+    ensures goes { OnOk result (FromAny
+        (BehindAt W.meaning (work_of maker.now) (W.history world.old) course.old course.old.events
+        place.node task.lines (place.number - 1))
+        (GoingAt W.meaning (work_of maker.now) (W.history world.new) course.new)) }
+    ensures halted { IfErr result (λ fault. FromAny
+        (BehindAt W.meaning (work_of maker.now) (W.history world.old) course.old course.old.events
+        place.node task.lines (place.number - 1))
+        (HaltedAt W.meaning (work_of maker.now) (of_world fault) (W.history world.new) course.new.events)) }
+    ensures fits { OnOk result (Fits (work_of maker.now) course.new kids.new.tickets kids.new.room 0) }
+    ensures nodes { course.new.sched ≡ course.old.sched }
+    ensures left { OnOk result (lines_left course.new.jobs.items
+        ≡ lines_left course.old.jobs.items + (1 + length task.lines - place.number)) }
+    ensures same_room { kids.new.room ≡ kids.old.room }
+    ensures cause { HasCause world_failed (W.faults world.old) (W.faults world.new) result }
+    ensures children { W.runs world.new kids.new.tickets }
+{
+    let line = line_at(&task, place.number);
+    let cmd = command(maker.alloc, line, maker.made.scopes.cwd())?;
+    let ticket = next_ticket(kids, &mut course.last_ticket);
+    start_child(
+        maker.alloc,
+        world,
+        kids,
+        &mut course.events,
+        place,
+        ticket,
+        &cmd,
+    )?;
+    let job = Job {
+        ticket,
+        node: place.node,
+        number: place.number,
+        task,
+    };
+    add_job(&mut course.jobs, job)?;
     Ok(())
+}
+
+/// Goes on with a job of which so many lines have ended: its next line that has a child is started, or
+/// the job ends where there is none.
+pub fn run_on<W: World>(
+    maker: &Maker,
+    world: &mut W,
+    kids: &mut Kids<W::Kid>,
+    course: &mut Course,
+    node: u32,
+    task: Task,
+    done: u32,
+) -> Result<(), WorldFault>
+    requires exact { W.runs world.old kids.old.tickets }
+    requires fits { Fits (work_of maker.now) course.old kids.old.tickets kids.old.room 1 }
+    requires token { HasToken course.old.sched.nodes course.old.jobs.items node }
+    requires going { IsUnstopped (work_of maker.now) course.old }
+    requires within { done ≤ length task.lines }
+    ensures goes { OnOk result (FromAny
+        (BehindAt W.meaning (work_of maker.now) (W.history world.old) course.old course.old.events
+        node task.lines done)
+        (GoingAt W.meaning (work_of maker.now) (W.history world.new) course.new)) }
+    ensures halted { IfErr result (λ fault. FromAny
+        (BehindAt W.meaning (work_of maker.now) (W.history world.old) course.old course.old.events
+        node task.lines done)
+        (HaltedAt W.meaning (work_of maker.now) (of_world fault) (W.history world.new) course.new.events)) }
+    ensures fits { OnOk result (Fits (work_of maker.now) course.new kids.new.tickets kids.new.room 0) }
+    ensures nodes { OnOk result (undecided course.new.sched.nodes ≡ undecided course.old.sched.nodes) }
+    ensures left { OnOk result (lines_left course.new.jobs.items
+        ≤ lines_left course.old.jobs.items + (length task.lines - done)) }
+    ensures same_room { kids.new.room ≡ kids.old.room }
+    ensures cause { HasCause world_failed (W.faults world.old) (W.faults world.new) result }
+    ensures children { W.runs world.new kids.new.tickets }
+{
+    let passed = pass_lines(&mut course.events, node, task.lines.as_slice(), done)?;
+    if passed as usize >= task.lines.len() {
+        course.sched.ended(node, true);
+        return Ok(());
+    }
+    let place = Place {
+        node,
+        number: passed + 1,
+    };
+    start_line(maker, world, kids, course, place, task)
 }

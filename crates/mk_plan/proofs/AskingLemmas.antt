@@ -14,7 +14,7 @@ use Rattle.mk_world.specs.declared.time.When.{When}
 use Rattle.mk_world.proofs.CallLemmas.{no_steps, no_tickets}
 use Rattle.mk_world.proofs.IdleLemmas.{IsIdle, same_idle}
 use Rattle.mk_expand.specs.Facts.{AnsweredBy}
-use Rattle.mk_plan.specs.Asking.{Asking, LooksAll, LooksOnce, Seen, answers_by, as_asked}
+use Rattle.mk_plan.specs.Asking.{Asking, AskingBeside, AsksAll, LooksAll, LooksOnce, OwnQuestion, Seen, answers_by, as_asked}
 use Rattle.mk_plan.specs.Looks.{is_missing_time}
 
 same_history : (old new : History) → Same old new → new ≡ old
@@ -72,6 +72,31 @@ asking-timed meaning path when a b asked idle adds = record {
     from a None idle adds = tt
     from None (Some y) idle adds = absurd adds
     from (Some x) (Some y) idle adds = (y, once meaning path when x y (idle x refl) adds, refl)
+
+one_question : (meaning : Meaning) (one : Option Seen) (a b : Option History)
+    → Adds meaning a b (OwnQuestion one) → Told a b (AsksAll meaning (one ∷ []))
+one_question meaning one a None adds = tt
+one_question meaning one None (Some y) adds = absurd adds
+one_question meaning one (Some x) (Some y) adds = (y, adds, refl)
+
+-- while children may run
+pub beside-refused : (meaning : Meaning) (a b : Option History) (asked : List Asked)
+    → Adds meaning a b OwnNothing → AskingBeside meaning a b asked asked
+beside-refused meaning a b asked adds = record {
+  questions = None ∷ [];
+  added = sym (append-nil asked);
+  told = one_question meaning None a b adds;
+}
+
+pub beside-timed : (meaning : Meaning) (path : List ℕ) (when : When) (a b : Option History)
+    (asked : List Asked) → Adds meaning a b (OwnTime path when)
+    → AskingBeside meaning a b asked
+    (asked ++ record { path = path; answer = not (is_missing_time when) } ∷ [])
+beside-timed meaning path when a b asked adds = record {
+  questions = Some (record { path = path; when = when }) ∷ [];
+  added = refl;
+  told = one_question meaning (Some (record { path = path; when = when })) a b adds;
+}
 
 -- looks answer what was asked
 pub answered-all : (looked : List Seen) → AnsweredBy (answers_by looked) (map as_asked looked)

@@ -2,4 +2,7 @@ pub mod OodateLemmas
 pub mod AskingLemmas
 pub mod LookLemmas
 pub mod PlanLemmas
+pub mod PlanRows
 pub mod TaskLemmas
+pub mod FactLemmas
+pub mod ListLemmas

@@ -1,8 +1,6 @@
 -- Command lines that are expanded one after the other.
-use Rattle.std.proofs.Common.{◌≡◌, ◌∙◌, ◌⊎◌, ℕ, ◌+◌, ◌<◌, length, drop, get_or, List, [], ◌∷◌, ◌++◌, Ok, Err, Result, inl, inr, refl, length-append, arith, Bool, true, false, if◌then◌else◌}
-use Rattle.std.specs.List.{list_any}
+use Rattle.std.proofs.Common.{◌≡◌, ◌∙◌, ◌⊎◌, ℕ, ◌+◌, length, List, [], ◌∷◌, ◌++◌, Ok, Err, Result, inl, inr, refl, length-append, arith}
 use Rattle.std.proofs.lemmas.Grind.{common_steps}
-use Rattle.std.proofs.lemmas.Option.{slice_get-get_or}
 use Rattle.mk_bytes.specs.Agrees.{◌>>=◌}
 use Rattle.mk_expand.specs.Facts.{IsOutside}
 use Rattle.mk_expand.specs.declared.facts.Asked.{Asked}
@@ -12,88 +10,37 @@ use Rattle.mk_flags.specs.declared.Flags.{Flags}
 use Rattle.mk_scopes.specs.Scopes.{Variables}
 use Rattle.mk_world.specs.declared.command.Task.{Task}
 use Rattle.mk_world.specs.declared.command.TaskLine.{TaskLine}
-use Rattle.mk_plan.proofs.PlanLemmas.{drop-at}
 use Rattle.mk_plan.specs.Refusals.{IsTaskFault}
 use Rattle.mk_plan.specs.Plans.{node_at}
-use Rattle.mk_plan.specs.Tasks.{Setting, at_line, line_of, lines_from, locals_of, task_of, task_with, is_slash, last_component}
+use Rattle.mk_plan.specs.Tasks.{Setting, at_line, line_of, lines_from, locals_of, manner_of, task_of, task_with}
 use Rattle.mk_plan.specs.declared.plan.PlanNode.{PlanNode}
+use Rattle.mk_plan.specs.declared.tasks.Manner.{Manner}
 use Rattle.mk_plan.specs.declared.fault.TaskFault.{TaskFault}
 
-pub lines_from-end : (s : Setting) (l : Locals) (f : Flags) (lines : List TaskLine) (number : ℕ)
-    (asked : List Asked) → lines_from s l f lines number asked [] ≡ Ok (lines, asked)
+pub lines_from-end : (s : Setting) (l : Locals) (m : Manner) (lines : List TaskLine) (number : ℕ)
+    (asked : List Asked) → lines_from s l m lines number asked [] ≡ Ok (lines, asked)
 unfolding lines_from
-lines_from-end s l f lines number asked = refl
+lines_from-end s l m lines number asked = refl
 
 -- one line more
-pub lines_from-line : (s : Setting) (l : Locals) (f : Flags) (lines : List TaskLine) (number : ℕ)
+pub lines_from-line : (s : Setting) (l : Locals) (m : Manner) (lines : List TaskLine) (number : ℕ)
     (asked now : List Asked) (rest : List (List ℕ)) (raw : List ℕ) (more : List (List ℕ))
     (line : TaskLine)
-    → rest ≡ raw ∷ more → line_of s l f asked raw ≡ Ok (line, now)
-    → lines_from s l f lines number asked rest
-    ≡ lines_from s l f (lines ++ line ∷ []) (number + 1) now more
+    → rest ≡ raw ∷ more → line_of s l m asked raw ≡ Ok (line, now)
+    → lines_from s l m lines number asked rest
+    ≡ lines_from s l m (lines ++ line ∷ []) (number + 1) now more
 unfolding lines_from
-lines_from-line s l f lines number asked now rest raw more line are is = rw (are, is) refl
+lines_from-line s l m lines number asked now rest raw more line are is = rw (are, is) refl
 
 -- a line's fault is that of all
-pub lines_from-fault : (s : Setting) (l : Locals) (f : Flags) (lines : List TaskLine) (number : ℕ)
+pub lines_from-fault : (s : Setting) (l : Locals) (m : Manner) (lines : List TaskLine) (number : ℕ)
     (asked : List Asked) (rest : List (List ℕ)) (raw : List ℕ) (more : List (List ℕ))
     (what : ExpandFault)
-    → rest ≡ raw ∷ more → IsOutside what ⊎ (line_of s l f asked raw ≡ Err what)
-    → IsTaskFault (record { line = number; what = what }) (lines_from s l f lines number asked rest)
+    → rest ≡ raw ∷ more → IsOutside what ⊎ (line_of s l m asked raw ≡ Err what)
+    → IsTaskFault (record { line = number; what = what }) (lines_from s l m lines number asked rest)
 unfolding lines_from
-lines_from-fault s l f lines number asked rest raw more what are (inl free) = inl free
-lines_from-fault s l f lines number asked rest raw more what are (inr is) = rw (are, is) (inr refl)
-
--- the last component, by where it begins in the bytes so far and by the bytes that follow
-abbrev pub component_by : List ℕ → List ℕ → List ℕ
-component_by begun rest = if list_any is_slash rest then last_component rest else begun
-
-last_component-none : (path : List ℕ) → list_any is_slash path ≡ false
-    → last_component path ≡ path
-last_component-none [] none = refl
-last_component-none (byte ∷ bytes) none = rw none refl
-
-pub last_component-by : (path : List ℕ) → last_component path ≡ component_by path path
-last_component-by path = at (list_any is_slash path) refl
-  where
-    at : (any : Bool) → list_any is_slash path ≡ any
-        → last_component path ≡ (if any then last_component path else path)
-    at true is = refl
-    at false is = last_component-none path is
-
-component-slash : (begun : List ℕ) (byte : ℕ) (bytes : List ℕ) → is_slash byte ≡ true
-    → component_by begun (byte ∷ bytes) ≡ component_by bytes bytes
-component-slash begun byte bytes is = rw is (last_component-by bytes)
-
-component-other : (begun : List ℕ) (byte : ℕ) (bytes : List ℕ) → is_slash byte ≡ false
-    → component_by begun (byte ∷ bytes) ≡ component_by begun bytes
-component-other begun byte bytes is = at (list_any is_slash bytes) refl
-  where
-    at : (any : Bool) → list_any is_slash bytes ≡ any
-        → component_by begun (byte ∷ bytes) ≡ (if any then last_component bytes else begun)
-    at true none = rw (is, none) refl
-    at false none = rw (is, none) refl
-
-component-by_byte : (path : List ℕ) (start at next byte : ℕ) (slash : Bool)
-    → is_slash byte ≡ slash → drop at path ≡ byte ∷ drop (at + 1) path
-    → next ≡ (if is_slash byte then at + 1 else start)
-    → component_by (drop start path) (drop at path)
-    ≡ component_by (drop next path) (drop (at + 1) path)
-component-by_byte path start at next byte true slash are is =
-    let now : next ≡ at + 1 = is ∙ rw slash refl in
-    rw (are, now) (component-slash (drop start path) byte (drop (at + 1) path) slash)
-component-by_byte path start at next byte false other are is =
-    let now : next ≡ start = is ∙ rw other refl in
-    rw (are, now) (component-other (drop start path) byte (drop (at + 1) path) other)
-
--- one byte further
-pub component-step : (path : List ℕ) (start at next : ℕ) → at < length path
-    → next ≡ (if is_slash (get_or path at 0) then at + 1 else start)
-    → component_by (drop start path) (drop at path)
-    ≡ component_by (drop next path) (drop (at + 1) path)
-component-step path start at next within is =
-    component-by_byte path start at next (get_or path at 0) (is_slash (get_or path at 0)) refl
-    (drop-at path at (get_or path at 0) (slice_get-get_or path at 0 within)) is
+lines_from-fault s l m lines number asked rest raw more what are (inl free) = inl free
+lines_from-fault s l m lines number asked rest raw more what are (inr is) = rw (are, is) (inr refl)
 
 bind-ok : {A B E : Type 0} (first : Result A E) (next : A → Result B E) (value : B)
     → (first >>= next) ≡ Ok value → (given : A) × (first ≡ Ok given) × (next given ≡ Ok value)
@@ -108,32 +55,33 @@ task-lines v name lines asked now task result first second =
     let same : task ≡ task_with v name lines = grind (arith, common_steps) in rw same refl
 
 -- as many lines as commands
-lines_from-length : (s : Setting) (l : Locals) (f : Flags) (lines : List TaskLine) (number : ℕ)
+lines_from-length : (s : Setting) (l : Locals) (m : Manner) (lines : List TaskLine) (number : ℕ)
     (asked now : List Asked) (raws : List (List ℕ)) (all : List TaskLine)
-    → lines_from s l f lines number asked raws ≡ Ok (all, now)
+    → lines_from s l m lines number asked raws ≡ Ok (all, now)
     → length all ≡ length lines + length raws
 unfolding lines_from
-lines_from-length s l f lines number asked now [] all is =
+lines_from-length s l m lines number asked now [] all is =
     let same : lines ≡ all = grind (arith, common_steps) in rw (← same) (omega arith)
-lines_from-length s l f lines number asked now (raw ∷ raws) all is =
-    let parts = bind-ok (at_line number (line_of s l f asked raw))
-    (λ line. lines_from s l f (lines ++ line.0 ∷ []) (number + 1) line.1 raws) (all, now) is in
-    let more = lines_from-length s l f (lines ++ parts.0.0 ∷ []) (number + 1) parts.0.1 now raws all
+lines_from-length s l m lines number asked now (raw ∷ raws) all is =
+    let parts = bind-ok (at_line number (line_of s l m asked raw))
+    (λ line. lines_from s l m (lines ++ line.0 ∷ []) (number + 1) line.1 raws) (all, now) is in
+    let more = lines_from-length s l m (lines ++ parts.0.0 ∷ []) (number + 1) parts.0.1 now raws all
     parts.2 in
     more ∙ rw (length-append lines (parts.0.0 ∷ [])) (omega arith)
 
 -- the task of a node has a line for each of its commands
-pub task_of-length : (s : Setting) (nodes : List PlanNode) (n : ℕ) (oodate : List (List ℕ))
-    (f : Flags) (asked now : List Asked) (task : Task)
-    → task_of s nodes n oodate f asked ≡ Ok (task, now)
+pub task_of-length : (s : Setting) (suffixes : List (List ℕ)) (nodes : List PlanNode) (n : ℕ)
+    (oodate : List (List ℕ)) (f : Flags) (asked now : List Asked) (task : Task)
+    → task_of s suffixes nodes n oodate f asked ≡ Ok (task, now)
     → length task.lines ≡ length (node_at nodes n).commands
-task_of-length s nodes n oodate f asked now task is =
-    let parts = bind-ok
-    (lines_from s (locals_of nodes n oodate) f [] 1 asked (node_at nodes n).commands)
+task_of-length s suffixes nodes n oodate f asked now task is =
+    let locals = locals_of suffixes nodes n oodate in
+    let manner = manner_of f (node_at nodes n).marks in
+    let parts = bind-ok (lines_from s locals manner [] 1 asked (node_at nodes n).commands)
     (λ lines. Ok (task_with s.variables (node_at nodes n).name lines.0, lines.1)) (task, now) is in
     let lines_are : task.lines ≡ parts.0.0 =
     task-lines s.variables (node_at nodes n).name parts.0.0 parts.0.1 now task
     (Ok (task_with s.variables (node_at nodes n).name parts.0.0, parts.0.1)) refl parts.2 in
     rw lines_are
-    (lines_from-length s (locals_of nodes n oodate) f [] 1 asked parts.0.1
+    (lines_from-length s locals manner [] 1 asked parts.0.1
     (node_at nodes n).commands parts.0.0 parts.1 ∙ omega arith)

@@ -1,12 +1,15 @@
--- What questions of `exists` leave in a world that runs no child: looks at times.
+-- What questions of `exists` leave in a world: looks at times, and beside them steps of the children
+-- that run.
 use Rattle.std.specs.Prelude.{◌≡◌, ℕ, Bool, not, List, [], ◌∷◌, ◌++◌, map, Option, Some, None, false, slice_get}
 use Rattle.std.proofs.Common.{refl, sym, ap, subst, ◌∙◌, append_assoc}
 use Rattle.std.proofs.lemmas.List.{append-nil, map-append}
 use Rattle.mk_expand.specs.Facts.{Answers}
 use Rattle.mk_expand.specs.declared.facts.Asked.{Asked}
-use Rattle.mk_world.specs.Calls.{when_of}
-use Rattle.mk_world.specs.History.{state_of}
+use Rattle.mk_world.specs.Calls.{AddsEvents, OwnNothing, OwnTime, when_of}
+use Rattle.mk_world.specs.History.{State, state_of}
+use Rattle.mk_world.specs.Talks.{Meaning}
 use Rattle.mk_world.specs.Told.{Told}
+use Rattle.mk_world.specs.declared.history.Happening.{Happening}
 use Rattle.mk_world.specs.declared.history.Happening.TheVariants.{Look}
 use Rattle.mk_world.specs.declared.history.History.{History}
 use Rattle.mk_world.specs.declared.time.When.{When}
@@ -81,3 +84,77 @@ asking_then a b c old mid new first second = record {
       ∙ ap (λ l. old ++ l) (sym (map-append as_asked first.looked second.looked))));
   told = told-then a b c first.looked second.looked first.told second.told;
 }
+
+-- questions while children may run
+
+-- a question is a look, or a call that was refused
+abbrev pub OwnQuestion : Option Seen → State → List Happening → Type 0
+OwnQuestion None = OwnNothing
+OwnQuestion (Some one) = OwnTime one.path one.when
+
+-- the questions that were answered
+abbrev pub answered : List (Option Seen) → List Seen
+answered [] = []
+answered (None ∷ more) = answered more
+answered (Some one ∷ more) = one ∷ answered more
+
+-- make asked so, one question after the other
+abbrev pub AsksAll : Meaning → List (Option Seen) → History → History → Type 0
+AsksAll meaning [] old new = new ≡ old
+AsksAll meaning (one ∷ more) old new =
+    (mid : History) × AddsEvents meaning (OwnQuestion one) old mid × AsksAll meaning more mid new
+
+-- Each answered question was a look at the path's time, at a moment of its own. Children may have done
+-- steps before and behind it, and nothing else happened.
+pub record AskingBeside (meaning : Meaning) (before after : Option History) (old new : List Asked)
+    : Type 0
+  where
+    pub questions : List (Option Seen)
+    pub added : new ≡ old ++ map as_asked (answered questions)
+    pub told : Told before after (AsksAll meaning questions)
+
+told-none_beside : (meaning : Meaning) (told : Option History) → Told told told (AsksAll meaning [])
+told-none_beside meaning None = tt
+told-none_beside meaning (Some history) = refl
+
+pub beside_none : (meaning : Meaning) (told : Option History) (asked : List Asked)
+    → AskingBeside meaning told told asked asked
+beside_none meaning told asked =
+    record { questions = []; added = sym (append-nil asked); told = told-none_beside meaning told }
+
+asks-then : (meaning : Meaning) (a b c : History) (first second : List (Option Seen))
+    → AsksAll meaning first a b → AsksAll meaning second b c → AsksAll meaning (first ++ second) a c
+asks-then meaning a b c [] second same more = subst (λ h. AsksAll meaning second h c) same more
+asks-then meaning a b c (one ∷ first) second asks more =
+    (asks.0, asks.1, asks-then meaning asks.0 b c first second asks.2 more)
+
+told-then_beside : (meaning : Meaning) (a b c : Option History) (first second : List (Option Seen))
+    → Told a b (AsksAll meaning first) → Told b c (AsksAll meaning second)
+    → Told a c (AsksAll meaning (first ++ second))
+told-then_beside meaning a b None first second asks more = tt
+told-then_beside meaning a None (Some z) first second asks more = absurd more
+told-then_beside meaning None (Some y) (Some z) first second asks more = absurd asks
+told-then_beside meaning (Some x) (Some y) (Some z) first second asks more =
+    asks-then meaning x y z first second asks more
+
+answered-append : (first second : List (Option Seen))
+    → answered (first ++ second) ≡ answered first ++ answered second
+answered-append [] second = refl
+answered-append (None ∷ first) second = answered-append first second
+answered-append (Some one ∷ first) second = ap (λ l. one ∷ l) (answered-append first second)
+
+pub beside_then : (meaning : Meaning) (a b c : Option History) (old mid new : List Asked)
+    → AskingBeside meaning a b old mid → AskingBeside meaning b c mid new
+    → AskingBeside meaning a c old new
+beside_then meaning a b c old mid new first second =
+    let one = answered first.questions in
+    let more = answered second.questions in
+    record {
+      questions = first.questions ++ second.questions;
+      added = second.added ∙ (ap (λ l. l ++ map as_asked more) first.added
+          ∙ (append_assoc old (map as_asked one) (map as_asked more)
+          ∙ (ap (λ l. old ++ l) (sym (map-append as_asked one more))
+          ∙ ap (λ l. old ++ map as_asked l)
+          (sym (answered-append first.questions second.questions)))));
+      told = told-then_beside meaning a b c first.questions second.questions first.told second.told;
+    }

@@ -1,6 +1,7 @@
 pub mod Asking
 pub mod Deciding
 pub mod Facts
+pub mod Lists
 pub mod Looks
 pub mod Oodate
 pub mod Plans

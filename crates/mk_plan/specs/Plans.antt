@@ -1,87 +1,116 @@
--- The plan: which names are needed, in which order, and what is known of each.
-use Rattle.std.specs.Prelude.{ℕ, ◌+◌, ◌==◌, Bool, true, false, not, nat_lt, ◌&&◌, List, [], ◌∷◌, ◌++◌, length, position, unwrap_or, get_or, is_none, Option, Some, None, Result, Ok, Err, if◌then◌else◌}
+-- The plan: which nodes are made, in which order, and what is known of each.
+use Rattle.std.specs.Prelude.{ℕ, ◌+◌, Bool, true, false, nat_eq, nat_lt, ◌&&◌, List, [], ◌∷◌, ◌++◌}
+use Rattle.std.specs.Prelude.{length, map, get_or, codes, Option, Some, None, Result, Ok, Err}
+use Rattle.std.specs.Prelude.{if◌then◌else◌}
 use Rattle.std.specs.List.{list_all}
-use Rattle.std.specs.Str.{bytes_eq}
 use Rattle.mk_bytes.specs.Agrees.{◌>>=◌}
-use Rattle.mk_bytes.specs.declared.kind.Kind.TheVariants.{Names}
-use Rattle.mk_graph.specs.declared.Rule.{Rule}
-use Rattle.mk_pool.specs.Pool.{is_held}
-use Rattle.mk_pool.specs.declared.pool.TheConstants.{MAX_NAMES}
+use Rattle.mk_closure.specs.Members.{sources_in, planned_of, preds_in, all_preds, roots}
+use Rattle.mk_closure.specs.Members.{commands_in, implied_in, marks_in, numbers_from}
+use Rattle.mk_closure.specs.Names.{name_in}
+use Rattle.mk_closure.specs.Parts.{State}
+use Rattle.mk_closure.specs.Walks.{closed}
+use Rattle.mk_closure.specs.declared.fault.CloseFault.{CloseFault}
+use Rattle.mk_graph.specs.Marks.{no_marks, marked}
+use Rattle.mk_graph.specs.Nodes.{Node, number_of}
+use Rattle.mk_graph.specs.Nodes as graph
+use Rattle.mk_graph.specs.Walks.{depth_first}
+use Rattle.mk_graph.specs.declared.Made.{Made}
+use Rattle.mk_graph.specs.declared.attr.Attr.TheVariants.{Phony}
+use Rattle.mk_graph.specs.declared.walk.Ordered.{Ordered}
+use Rattle.mk_graph.specs.declared.walk.Ordered.TheVariants as walk
 use Rattle.mk_world.specs.Deeds.{Store}
+use Rattle.mk_plan.specs.Refusals.{of_closure}
 use Rattle.mk_plan.specs.declared.fault.PlanFault.{PlanFault}
-use Rattle.mk_plan.specs.declared.fault.PlanFault.TheVariants.{NoTarget, NoRule, Cycle, Limit}
+use Rattle.mk_plan.specs.declared.fault.PlanFault.TheVariants.{NoTarget, Cycle}
 use Rattle.mk_plan.specs.declared.plan.PlanNode.{PlanNode}
 
--- the names met so far, or the first refusal
-abbrev pub Walk : Type 0
-Walk = Result (List (List ℕ)) PlanFault
+-- what is made: the requested names, or where there are none the main targets
+abbrev pub wanted : List (List ℕ) → List (List ℕ) → List (List ℕ)
+wanted [] main = main
+wanted (name ∷ more) main = name ∷ more
 
-abbrev pub is_target : Option Rule → List ℕ → Bool
-is_target None name = false
-is_target (Some rule) name = bytes_eq rule.target name
+-- a refusal of the closure is one of the plan
+abbrev pub as_plan : {A : Type 0} → Result A CloseFault → Result A PlanFault
+as_plan (Ok given) = Ok given
+as_plan (Err fault) = Err (of_closure fault)
 
--- A name is met: it stands once, behind all that were met before it. One that is no target needs
--- its file.
-abbrev pub met : Store → Option Rule → List (List ℕ) → List ℕ → Walk
-met files rule names name =
-    if is_held names name then Ok names
-    else (if length names == MAX_NAMES then Err (Limit Names MAX_NAMES)
-    else (if not (is_target rule name) && is_none (files name) then Err (NoRule name)
-    else Ok (names ++ name ∷ [])))
+abbrev pub order_by : State → Ordered → Result (List ℕ) PlanFault
+order_by s (walk.Order order) = Ok order
+order_by s (walk.Cycle nodes) = Err (Cycle (map (name_in s) nodes))
 
-abbrev pub all_met : Store → Option Rule → List (List ℕ) → List (List ℕ) → Walk
-all_met files rule names [] = Ok names
-all_met files rule names (name ∷ more) =
-    met files rule names name >>= λ now. all_met files rule now more
+-- The planned nodes that are reached from the wanted ones, each behind its predecessors, or the
+-- first cycle.
+abbrev pub order_of : State → List (List ℕ) → Result (List ℕ) PlanFault
+order_of s names = order_by s (depth_first (all_preds s) (roots s names))
 
--- what a name is made from
-abbrev pub sources_of : Option Rule → List ℕ → List (List ℕ)
-sources_of None name = []
-sources_of (Some rule) name = if bytes_eq rule.target name then rule.sources else []
+-- the place of a node, where the first of these has this place
+abbrev pub place_from : ℕ → List ℕ → ℕ → ℕ
+place_from first [] n = 0
+place_from first (one ∷ more) n = if nat_eq n one then first else place_from (first + 1) more n
 
--- A wanted name is met behind what it is made from.
-abbrev pub wanted_met : Store → Option Rule → List (List ℕ) → List ℕ → Walk
-wanted_met files rule names name =
-    all_met files rule names (sources_of rule name) >>= λ now. met files rule now name
-
-abbrev pub all_wanted_met : Store → Option Rule → List (List ℕ) → List (List ℕ) → Walk
-all_wanted_met files rule names [] = Ok names
-all_wanted_met files rule names (name ∷ more) =
-    wanted_met files rule names name >>= λ now. all_wanted_met files rule now more
-
--- where none is requested, the first target is wanted
-abbrev pub main_met : Store → Option Rule → List (List ℕ) → Option Rule → Walk
-main_met files rule names None = Err NoTarget
-main_met files rule names (Some first) = wanted_met files rule names first.target
-
-abbrev pub requested_met : Store → Option Rule → List (List ℕ) → List (List ℕ) → Walk
-requested_met files rule names [] = main_met files rule names rule
-requested_met files rule names (name ∷ more) = all_wanted_met files rule names (name ∷ more)
-
--- the place of a name
-abbrev pub place_in : List (List ℕ) → List ℕ → ℕ
-place_in names name = unwrap_or (position (bytes_eq name) names) (length names)
-
-abbrev pub places_in : List (List ℕ) → List (List ℕ) → List ℕ
-places_in names [] = []
-places_in names (name ∷ more) = place_in names name ∷ places_in names more
-
-abbrev pub commands_of : Option Rule → List ℕ → List (List ℕ)
-commands_of None name = []
-commands_of (Some rule) name = if bytes_eq rule.target name then rule.commands else []
-
-abbrev pub node_of : List (List ℕ) → Option Rule → List ℕ → PlanNode
-node_of names rule name = record {
-  name = name;
-  sources = places_in names (sources_of rule name);
-  before = places_in names (sources_of rule name);
-  commands = commands_of rule name;
+-- a node, by the places of nodes; so many nodes stand before all others
+abbrev pub plan_node : State → (ℕ → ℕ) → ℕ → ℕ → PlanNode
+plan_node s place first n = record {
+  name = name_in s n;
+  sources = map place (planned_of s (sources_in s n));
+  before = map place (preds_in s n) ++ numbers_from 0 first;
+  commands = commands_in s n;
+  implied = implied_in s n;
+  marks = marks_in s n;
 }
 
--- the nodes of these names, which are among all the names
-abbrev pub nodes_of : List (List ℕ) → Option Rule → List (List ℕ) → List PlanNode
-nodes_of names rule [] = []
-nodes_of names rule (name ∷ more) = node_of names rule name ∷ nodes_of names rule more
+-- the nodes in their order
+abbrev pub inner_nodes : State → List ℕ → ℕ → List PlanNode
+inner_nodes s order first = map (plan_node s (place_from first order) first) order
+
+abbrev pub commands_at : List Node → Option ℕ → List (List ℕ)
+commands_at nodes None = []
+commands_at nodes (Some n) = (graph.node_at nodes n).commands
+
+-- the commands of `.BEGIN` or `.END`, which are left out where it is only asked what is to do
+abbrev pub frame_commands : List Node → List ℕ → Bool → List (List ℕ)
+frame_commands nodes name true = []
+frame_commands nodes name false = commands_at nodes (number_of nodes name)
+
+-- `.BEGIN` or `.END`: it is phony, and has nothing but its commands
+abbrev pub frame_node : List ℕ → List ℕ → List (List ℕ) → List PlanNode
+frame_node name before [] = []
+frame_node name before (command ∷ commands) =
+    record {
+      name = name;
+      sources = [];
+      before = before;
+      commands = command ∷ commands;
+      implied = [];
+      marks = marked no_marks Phony;
+    } ∷ []
+
+abbrev pub first_nodes : State → Bool → List PlanNode
+first_nodes s query = frame_node (codes ".BEGIN") [] (frame_commands s.nodes (codes ".BEGIN") query)
+
+-- `.END` stands behind all nodes
+abbrev pub with_end : State → Bool → List PlanNode → List PlanNode
+with_end s query nodes =
+    nodes ++ frame_node (codes ".END") (numbers_from 0 (length nodes))
+    (frame_commands s.nodes (codes ".END") query)
+
+-- `.BEGIN`, the nodes in their order, and `.END`
+abbrev pub nodes_of : State → Bool → List ℕ → List PlanNode
+nodes_of s query order =
+    with_end s query (first_nodes s query ++ inner_nodes s order (length (first_nodes s query)))
+
+abbrev pub plan_of : Bool → List (List ℕ) → State → Result (List PlanNode) PlanFault
+plan_of query names s = order_of s names >>= λ order. Ok (nodes_of s query order)
+
+abbrev pub named_plan : Store → Made → Bool → List (List ℕ) → Result (List PlanNode) PlanFault
+named_plan files made query [] = Err NoTarget
+named_plan files made query (name ∷ more) =
+    as_plan (closed files made.graph made.suffixes (name ∷ more))
+    >>= λ s. plan_of query (name ∷ more) s
+
+-- The plan of the requested names on these files, or the first refusal.
+abbrev pub planned : Store → Made → List (List ℕ) → Bool → Result (List PlanNode) PlanFault
+planned files made requested query = named_plan files made query (wanted requested made.main)
 
 -- all of these places are before a place
 abbrev pub is_behind : ℕ → List ℕ → Bool
@@ -92,25 +121,16 @@ abbrev pub are_ordered : ℕ → List PlanNode → Bool
 are_ordered place [] = true
 are_ordered place (node ∷ nodes) = is_behind place node.before && are_ordered (place + 1) nodes
 
-abbrev pub cycle_of : Option Rule → List (List ℕ)
-cycle_of None = []
-cycle_of (Some rule) = rule.target ∷ rule.target ∷ []
-
--- A target that does not stand behind its sources is one of them.
-abbrev pub unless_cycle : Option Rule → List PlanNode → Result (List PlanNode) PlanFault
-unless_cycle rule nodes = if are_ordered 0 nodes then Ok nodes else Err (Cycle (cycle_of rule))
-
-abbrev pub plan_of : Option Rule → List (List ℕ) → Result (List PlanNode) PlanFault
-plan_of rule names = unless_cycle rule (nodes_of names rule names)
-
--- The plan of the requested names on these files, or the first refusal.
-abbrev pub planned : Store → Option Rule → List (List ℕ) → Result (List PlanNode) PlanFault
-planned files rule requested =
-    requested_met files rule [] requested >>= λ names. plan_of rule names
-
 -- behind the last node there is none
 abbrev pub no_node : PlanNode
-no_node = record { name = []; sources = []; before = []; commands = [] }
+no_node = record {
+  name = [];
+  sources = [];
+  before = [];
+  commands = [];
+  implied = [];
+  marks = no_marks;
+}
 
 abbrev pub node_at : List PlanNode → ℕ → PlanNode
 node_at nodes n = get_or nodes n no_node

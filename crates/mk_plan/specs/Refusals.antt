@@ -3,11 +3,16 @@ use Rattle.std.specs.Prelude.{◌≡◌, ◌⊎◌, List, Result, Ok, Err}
 use Rattle.mk_world.specs.declared.fault.WorldFault.{WorldFault}
 use Rattle.mk_world.specs.declared.fault.WorldFault.TheVariants as world
 use Rattle.mk_bytes.specs.Agrees.{AgreesBut}
+use Rattle.mk_bytes.specs.declared.kind.Kind.TheVariants.{Names}
+use Rattle.mk_closure.specs.declared.fault.CloseFault.{CloseFault}
+use Rattle.mk_closure.specs.declared.fault.CloseFault.TheVariants as close
+use Rattle.mk_pool.specs.declared.pool.TheConstants.{MAX_NAMES}
 use Rattle.mk_expand.specs.Facts.{Answers, AnsweredBy, IsOutside as IsOutsideText}
 use Rattle.mk_expand.specs.declared.facts.Asked.{Asked}
 use Rattle.mk_expand.specs.declared.fault.ExpandFault.{ExpandFault}
 use Rattle.mk_expand.specs.declared.fault.ExpandFault.TheVariants as expand
 use Rattle.mk_plan.specs.declared.fault.PlanFault.{PlanFault}
+use Rattle.mk_plan.specs.declared.fault.PlanFault.TheVariants.{NoTarget, NoRule, Cycle, Limit}
 use Rattle.mk_plan.specs.declared.fault.PlanFault.TheVariants.{Failed, NoMemory}
 use Rattle.mk_plan.specs.declared.fault.TaskFault.{TaskFault}
 
@@ -15,6 +20,22 @@ use Rattle.mk_plan.specs.declared.fault.TaskFault.{TaskFault}
 abbrev pub of_world : WorldFault → PlanFault
 of_world world.Failed = Failed
 of_world world.NoMemory = NoMemory
+
+-- how a refusal of a closure is answered
+abbrev pub of_closure : CloseFault → PlanFault
+of_closure (close.NoRule name) = NoRule name
+of_closure close.Full = Limit Names MAX_NAMES
+of_closure close.Failed = Failed
+of_closure close.NoMemory = NoMemory
+
+-- a refusal that is not of the world
+abbrev pub IsOwnPlan : PlanFault → Type 0
+IsOwnPlan NoTarget = Unit {0}
+IsOwnPlan (NoRule name) = Unit {0}
+IsOwnPlan (Cycle names) = Unit {0}
+IsOwnPlan (Limit kind count) = Unit {0}
+IsOwnPlan Failed = ⊥
+IsOwnPlan NoMemory = Unit {0}
 
 -- a refusal that no makefile and no file causes
 abbrev pub IsOutside : PlanFault → Type 0

@@ -1,8 +1,8 @@
 -- Tasks: the command lines of a node, expanded.
-use Rattle.std.specs.Prelude.{ℕ, ◌+◌, ◌==◌, ◌||◌, Bool, true, false, not, List, [], ◌∷◌, ◌++◌, length, take, drop, position, unwrap_or, Result, Ok, Err, if◌then◌else◌}
+use Rattle.std.specs.Prelude.{ℕ, ◌+◌, ◌==◌, ◌||◌, Bool, true, false, not, List, [], ◌∷◌, ◌++◌, length, take, drop, position, unwrap_or, Result, Ok, Err}
 use Rattle.std.specs.List.{list_any}
 use Rattle.mk_bytes.specs.Agrees.{◌>>=◌}
-use Rattle.mk_bytes.specs.Bytes.{at_sign, minus, plus, slash, is_blank}
+use Rattle.mk_bytes.specs.Bytes.{at_sign, minus, plus, is_blank}
 use Rattle.mk_expand.specs.Texts.{parsed}
 use Rattle.mk_expand.specs.Facts.{Answers, Lists}
 use Rattle.mk_expand.specs.Value.{value}
@@ -10,13 +10,16 @@ use Rattle.mk_expand.specs.declared.facts.Asked.{Asked}
 use Rattle.mk_expand.specs.declared.fault.ExpandFault.{ExpandFault}
 use Rattle.mk_expand.specs.declared.local.Locals.{Locals}
 use Rattle.mk_flags.specs.declared.Flags.{Flags}
+use Rattle.mk_graph.specs.declared.attr.Marks.{Marks}
 use Rattle.mk_scopes.specs.Scopes.{Variables}
+use Rattle.mk_suffix.specs.Names.{prefix_of}
 use Rattle.mk_world.specs.declared.command.Task.{Task}
 use Rattle.mk_world.specs.declared.command.TaskLine.{TaskLine}
 use Rattle.mk_plan.specs.Oodate.{refers}
 use Rattle.mk_plan.specs.Plans.{node_at}
 use Rattle.mk_plan.specs.declared.fault.TaskFault.{TaskFault}
 use Rattle.mk_plan.specs.declared.plan.PlanNode.{PlanNode}
+use Rattle.mk_plan.specs.declared.tasks.Manner.{Manner}
 
 -- a byte that says something of the command behind it, or nothing
 abbrev pub is_mark : ℕ → Bool
@@ -31,12 +34,20 @@ marks_len text = unwrap_or (position is_no_mark text) (length text)
 abbrev pub holds : ℕ → List ℕ → Bool
 holds byte text = list_any (λ one. one == byte) text
 
+-- How all lines of a node are run: the options of the build and the node's attributes may make them
+-- ignored, and silent.
+abbrev pub manner_of : Flags → Marks → Manner
+manner_of flags marks = record {
+  ignore = flags.ignore || marks.ignore;
+  silent = flags.silent || marks.silent;
+}
+
 -- An expanded line: `@` before its text makes it silent, `-` ignored, `+` always run.
-abbrev pub line_as : Flags → Bool → List ℕ → TaskLine
-line_as flags compared value = record {
+abbrev pub line_as : Manner → Bool → List ℕ → TaskLine
+line_as manner compared value = record {
   text = drop (marks_len value) value;
-  ignore = flags.ignore || holds minus (take (marks_len value) value);
-  silent = flags.silent || holds at_sign (take (marks_len value) value);
+  ignore = manner.ignore || holds minus (take (marks_len value) value);
+  silent = manner.silent || holds at_sign (take (marks_len value) value);
   always = holds plus (take (marks_len value) value);
   compared = compared;
 }
@@ -52,12 +63,12 @@ setting_of variables lists answers = record { variables = variables; lists = lis
 
 -- A line whose raw text refers to the newer sources by that name is not compared: it has another
 -- text in each build. All others are. Behind it stand the questions of `exists` so far.
-abbrev pub line_of : Setting → Locals → Flags → List Asked → List ℕ
+abbrev pub line_of : Setting → Locals → Manner → List Asked → List ℕ
     → Result (TaskLine × List Asked) ExpandFault
-line_of k locals flags asked raw =
+line_of k locals manner asked raw =
     parsed raw
     >>= λ tree. value k.variables locals k.lists k.answers false asked tree
-    >>= λ v. Ok (line_as flags (not (refers tree)) v.0, v.1)
+    >>= λ v. Ok (line_as manner (not (refers tree)) v.0, v.1)
 
 -- the fault of a line has its number
 abbrev pub at_line : {A : Type 0} → ℕ → Result A ExpandFault → Result A TaskFault
@@ -65,34 +76,25 @@ at_line number (Ok line) = Ok line
 at_line number (Err what) = Err (record { line = number; what = what })
 
 -- the lines so far, and the others from this number on, up to the first fault
-unfoldable pub lines_from : Setting → Locals → Flags → List TaskLine → ℕ → List Asked
+unfoldable pub lines_from : Setting → Locals → Manner → List TaskLine → ℕ → List Asked
     → List (List ℕ) → Result (List TaskLine × List Asked) TaskFault
-lines_from k locals flags lines number asked [] = Ok (lines, asked)
-lines_from k locals flags lines number asked (raw ∷ more) =
-    at_line number (line_of k locals flags asked raw)
-    >>= λ line. lines_from k locals flags (lines ++ line.0 ∷ []) (number + 1) line.1 more
-
-abbrev pub is_slash : ℕ → Bool
-is_slash byte = byte == slash
-
--- what stands behind the last slash of a path
-abbrev pub last_component : List ℕ → List ℕ
-last_component [] = []
-last_component (byte ∷ bytes) =
-    if list_any is_slash (byte ∷ bytes) then last_component bytes else byte ∷ bytes
+lines_from k locals manner lines number asked [] = Ok (lines, asked)
+lines_from k locals manner lines number asked (raw ∷ more) =
+    at_line number (line_of k locals manner asked raw)
+    >>= λ line. lines_from k locals manner (lines ++ line.0 ∷ []) (number + 1) line.1 more
 
 abbrev pub names_at : List PlanNode → List ℕ → List (List ℕ)
 names_at nodes [] = []
 names_at nodes (place ∷ places) = (node_at nodes place).name ∷ names_at nodes places
 
--- What the local names stand for where a node is made. There are no suffixes yet, and no implied
--- source.
-abbrev pub locals_of : List PlanNode → ℕ → List (List ℕ) → Locals
-locals_of nodes n oodate = record {
+-- What the local names stand for where a node is made, by the known suffixes, the plan, the node and
+-- the sources that are newer.
+abbrev pub locals_of : List (List ℕ) → List PlanNode → ℕ → List (List ℕ) → Locals
+locals_of suffixes nodes n oodate = record {
   target = (node_at nodes n).name;
   all = names_at nodes (node_at nodes n).sources;
-  implied = [];
-  prefix = last_component (node_at nodes n).name;
+  implied = (node_at nodes n).implied;
+  prefix = prefix_of suffixes (node_at nodes n).name;
   oodate = oodate;
   some = true;
 }
@@ -103,8 +105,9 @@ task_with variables target lines =
 
 -- The task of a node, where these of its sources are newer than it, and the questions of `exists`
 -- behind it.
-abbrev pub task_of : Setting → List PlanNode → ℕ → List (List ℕ) → Flags → List Asked
+abbrev pub task_of : Setting → List (List ℕ) → List PlanNode → ℕ → List (List ℕ) → Flags → List Asked
     → Result (Task × List Asked) TaskFault
-task_of k nodes n oodate flags asked =
-    lines_from k (locals_of nodes n oodate) flags [] 1 asked (node_at nodes n).commands
+task_of k suffixes nodes n oodate flags asked =
+    lines_from k (locals_of suffixes nodes n oodate) (manner_of flags (node_at nodes n).marks) [] 1 asked
+    (node_at nodes n).commands
     >>= λ lines. Ok (task_with k.variables (node_at nodes n).name lines.0, lines.1)

@@ -1,25 +1,26 @@
 //! What conditions ask of the makefiles that were read and of the world.
-ghost use Rattle.std.specs.Prelude.{◌≡◌, [], true, false, IsTrue, IfOk, IfErr, OnErr};
+ghost use Rattle.std.specs.Prelude.{◌≡◌, ◌<◌, ℕ, List, Bool, [], true, false, length, is_none, IsTrue, IfOk, IfErr, IfSome, OnErr};
 ghost use Rattle.std.specs.List.{list_any};
 ghost use Rattle.mk_expand.specs.Facts.{IsTold, asked_with, is_fact, is_listed};
 ghost use Rattle.mk_expand.specs.declared.facts.FactFault.TheVariants.{Failed, Unbuilt};
 ghost use Rattle.mk_glob.specs.Patterns as patterns;
 ghost use Rattle.mk_cond.specs.declared.cond.Fun.TheVariants.{Exists as exists};
-ghost use Rattle.mk_plan.specs.Asking.{Asking};
+ghost use Rattle.mk_graph.specs.Nodes.{Node, node_at};
+ghost use Rattle.mk_plan.specs.Asking.{Asking, AskingBeside};
 ghost use Rattle.mk_plan.specs.Facts as spec;
 ghost use Rattle.mk_world.specs.Causes.{HasCause};
 
-use crate::making::is_missing_time;
+use crate::look::is_missing_time;
 use mk_bytes::{Text, Texts};
 use mk_cond::Fun;
 use mk_expand::{Asked, FactFault, Facts};
 use mk_glob::matches;
-use mk_graph::{Made, Rule};
+use mk_graph::{Attr, Graph, Made};
 use mk_world::{World, WorldFault};
 use std::alloc::Global;
 
-/// What conditions ask: `make` of the requested names, or of the main target where there is none,
-/// `target` and `commands` of the rules that were read, and `exists` of the world, where it is asked
+/// What conditions ask: `make` of the requested names, or of the main targets where there are none,
+/// `target` and `commands` of the nodes of the graph, and `exists` of the world, where it is asked
 /// for the time of a path. Its questions are kept with their answers.
 #[derive(Drop)]
 pub struct MadeFacts<'a, W: World> {
@@ -47,35 +48,46 @@ fn is_among(names: &Texts, pattern: &[u8]) -> bool
         .any(|name| matches(pattern, name.bytes()))
 }
 
-// Whether a pattern matches a requested name, or the main target where none is requested.
-fn is_wanted(rule: &Option<Rule>, requested: &Texts, pattern: &[u8]) -> bool
+// Whether a pattern matches a requested name, or a main target where none is requested.
+fn is_wanted(main: &Texts, requested: &Texts, pattern: &[u8]) -> bool
     ensures { result ≡ list_any (patterns.matches pattern.now)
-        (spec.wanted_of rule.now requested.now) }
+        (spec.wanted_of main.now requested.now) }
 {
-    if !requested.is_empty() {
-        return is_among(requested, pattern);
+    if requested.is_empty() {
+        return is_among(main, pattern);
     }
-    match rule {
-        Some(rule) => matches(pattern, rule.target.bytes()),
+    is_among(requested, pattern)
+}
+
+// The node of a name, in a graph, whose names differ.
+fn node_of(graph: &Graph, name: &[u8]) -> Option<u32>
+    ensures found { IfSome result (λ n. (n < length graph.now)
+        × ((is_so : Node → Bool) → is_so (node_at graph.now n)
+        ≡ is_listed (spec.names_where is_so graph.now) name.now)) }
+    ensures missing { is_none result ≡ true → (is_so : Node → Bool)
+        → is_listed (spec.names_where is_so graph.now) name.now ≡ false }
+{
+    if graph.len() == 0 {
+        return None;
+    }
+    graph.find(name)
+}
+
+fn is_target(graph: &Graph, name: &[u8]) -> bool
+    ensures { result ≡ is_listed (spec.names_where spec.is_target graph.now) name.now }
+{
+    match node_of(graph, name) {
+        Some(n) => graph.has(n, Attr::Target),
         None => false,
     }
 }
 
-fn is_target(rule: &Option<Rule>, name: &[u8]) -> bool
-    ensures { result ≡ is_listed (spec.targets_of rule.now) name.now }
+fn has_commands(graph: &Graph, name: &[u8]) -> bool
+    ensures { result ≡ is_listed (spec.names_where spec.has_commands graph.now) name.now }
 {
-    match rule {
-        Some(rule) => rule.target.bytes() == name,
+    match node_of(graph, name) {
+        Some(n) => !graph.commands(n).is_empty(),
         None => false,
-    }
-}
-
-fn has_commands(rule: &Option<Rule>, name: &[u8]) -> bool
-    ensures { result ≡ is_listed (spec.commanded_of rule.now) name.now }
-{
-    match rule {
-        Some(rule) if !rule.commands.is_empty() => rule.target.bytes() == name,
-        _ => false,
     }
 }
 
@@ -114,6 +126,10 @@ impl<'a, W: World> MadeFacts<'a, W> {
         ensures asking { W.runs self.old.world.now [] → Asking (W.history self.old.world.now)
             (W.history self.new.world.now) self.old.asked.now.items self.new.asked.now.items }
         ensures idle { W.runs self.old.world.now [] → W.runs self.new.world.now [] }
+        ensures beside { AskingBeside W.meaning (W.history self.old.world.now)
+            (W.history self.new.world.now) self.old.asked.now.items self.new.asked.now.items }
+        ensures children { (kids : List ℕ) → W.runs self.old.world.now kids
+            → W.runs self.new.world.now kids }
     {
         let path = Text::from_bytes(alloc, path)?;
         if self.asked.reserve(1).is_err() {
@@ -131,12 +147,12 @@ impl<'a, W: World> MadeFacts<'a, W> {
 }
 
 impl<'a, W: World> Facts for MadeFacts<'a, W> {
-    ghost use Rattle.std.specs.Prelude.{◌≡◌, []};
+    ghost use Rattle.std.specs.Prelude.{◌≡◌, ℕ, List, []};
     ghost use Rattle.std.proofs.Common.{refl, ◌∙◌};
     ghost use Rattle.mk_plan.specs.Facts.{lists_of};
-    ghost use Rattle.mk_plan.specs.Asking.{Asking, asking_none, asking_then};
+    ghost use Rattle.mk_plan.specs.Asking.{Asking, AskingBeside, asking_none, asking_then, beside_none, beside_then};
 
-    ghost lists = { λ facts. lists_of facts.made.now.rule facts.requested.now };
+    ghost lists = { λ facts. lists_of facts.made.now facts.requested.now };
 
     ghost asked = { λ facts. facts.asked.now.items };
 
@@ -144,43 +160,51 @@ impl<'a, W: World> Facts for MadeFacts<'a, W> {
 
     ghost leads = { λ old new. (new.world.ghost_name ≡ old.world.ghost_name)
         × (W.runs old.world.now [] → Asking (W.history old.world.now) (W.history new.world.now)
-        old.asked.now.items new.asked.now.items × W.runs new.world.now []) };
+        old.asked.now.items new.asked.now.items × W.runs new.world.now [])
+        × AskingBeside W.meaning (W.history old.world.now) (W.history new.world.now)
+        old.asked.now.items new.asked.now.items
+        × ((kids : List ℕ) → W.runs old.world.now kids → W.runs new.world.now kids) };
 
     fn fact(&mut self, alloc: Global, fun: Fun, argument: &[u8]) -> Result<bool, FactFault>
         requires { IsTrue (is_fact fun) }
         ensures told { IfOk result (λ answer.
-            IsTold (spec.lists_of self.old.made.now.rule self.old.requested.now) fun argument.now answer) }
+            IsTold (spec.lists_of self.old.made.now self.old.requested.now) fun argument.now answer) }
         ensures asked { IfOk result (λ answer.
             self.new.asked.now.items ≡ asked_with self.old.asked.now.items fun argument.now answer) }
         ensures refused { OnErr result (self.new.asked.now.items ≡ self.old.asked.now.items) }
         ensures built { IfOk result (λ answer.
-            (spec.lists_of self.old.made.now.rule self.old.requested.now).built ≡ true) }
+            (spec.lists_of self.old.made.now self.old.requested.now).built ≡ true) }
         ensures unbuilt { IfErr result (λ fault. fault ≡ Unbuilt
-            → (spec.lists_of self.old.made.now.rule self.old.requested.now).built ≡ false) }
-        ensures lists { spec.lists_of self.new.made.now.rule self.new.requested.now
-            ≡ spec.lists_of self.old.made.now.rule self.old.requested.now }
+            → (spec.lists_of self.old.made.now self.old.requested.now).built ≡ false) }
+        ensures lists { spec.lists_of self.new.made.now self.new.requested.now
+            ≡ spec.lists_of self.old.made.now self.old.requested.now }
         ensures cause { HasCause Failed (W.faults self.old.world.now) (W.faults self.new.world.now) result }
         ensures leads { (self.new.world.ghost_name ≡ self.old.world.ghost_name)
             × (W.runs self.old.world.now [] → Asking (W.history self.old.world.now)
             (W.history self.new.world.now) self.old.asked.now.items self.new.asked.now.items
-            × W.runs self.new.world.now []) }
+            × W.runs self.new.world.now [])
+            × AskingBeside W.meaning (W.history self.old.world.now) (W.history self.new.world.now)
+            self.old.asked.now.items self.new.asked.now.items
+            × ((kids : List ℕ) → W.runs self.old.world.now kids → W.runs self.new.world.now kids) }
     {
         match fun {
-            Fun::Make => Ok(is_wanted(&self.made.rule, self.requested, argument)),
+            Fun::Make => Ok(is_wanted(&self.made.main, self.requested, argument)),
             Fun::Exists => self.exists(alloc, argument),
-            Fun::Target => Ok(is_target(&self.made.rule, argument)),
-            Fun::Commands => Ok(has_commands(&self.made.rule, argument)),
+            Fun::Target => Ok(is_target(&self.made.graph, argument)),
+            Fun::Commands => Ok(has_commands(&self.made.graph, argument)),
             Fun::Defined => Ok(false),
             Fun::Empty => Ok(false),
         }
     }
 
-    ghost stays = { λ facts. (refl, λ idle. (asking_none _ _, idle)) };
+    ghost stays = { λ facts. (refl, λ idle. (asking_none _ _, idle), beside_none _ _ _, λ kids runs. runs) };
 
     ghost goes_on = { λ a b c first second. (
       second.0 ∙ first.0,
       λ idle.
           let one = first.1 idle in let more = second.1 one.1 in
           (asking_then _ _ _ _ _ _ one.0 more.0, more.1),
+      beside_then _ _ _ _ _ _ _ first.2 second.2,
+      λ kids runs. second.3 kids (first.3 kids runs),
     ) };
 }

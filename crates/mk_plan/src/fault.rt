@@ -1,5 +1,7 @@
 use mk_bytes::{Kind, NoMemory, Text, Texts};
+use mk_closure::CloseFault;
 use mk_expand::ExpandFault;
+use mk_pool::MAX_NAMES;
 use mk_world::WorldFault;
 
 /// Why there is no plan.
@@ -40,6 +42,22 @@ impl From<WorldFault> for PlanFault {
         match fault {
             WorldFault::Failed => PlanFault::Failed,
             WorldFault::NoMemory => PlanFault::NoMemory,
+        }
+    }
+}
+
+impl From<CloseFault> for PlanFault {
+    ghost use Rattle.std.specs.Prelude.{◌≡◌};
+    ghost use Rattle.mk_plan.specs.Refusals.{of_closure};
+
+    ghost from_gives = { λ given fault. fault ≡ of_closure given };
+
+    fn from(fault: CloseFault) -> PlanFault {
+        match fault {
+            CloseFault::NoRule(name) => PlanFault::NoRule(name),
+            CloseFault::Full => PlanFault::Limit(Kind::Names, MAX_NAMES as u64),
+            CloseFault::Failed => PlanFault::Failed,
+            CloseFault::NoMemory => PlanFault::NoMemory,
         }
     }
 }

@@ -1,12 +1,13 @@
 //! What is to be made, in which order, and with which commands (NetBSD make(1), "FILE DEPENDENCY
 //! SPECIFICATIONS").
 //!
-//! A plan has the nodes that the wanted names need, each behind those that it is made from. There
-//! is one rule today; every other name is a file that has to be there.
+//! A plan has the nodes that the wanted names need, each behind those that it is made from.
 #![tactic(auto)]
 
+mod copies;
 mod facts;
 mod fault;
+mod look;
 mod making;
 mod oodate;
 mod plan;

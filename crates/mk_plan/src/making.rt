@@ -1,318 +1,288 @@
 //! Making a plan.
-ghost use Rattle.std.specs.Prelude.{◌≡◌, [], is_none, Ok, IfOk, IfErr, OnErr};
-ghost use Rattle.mk_bytes.specs.Agrees.{Agrees, AgreesBut};
-ghost use Rattle.mk_plan.specs.Looks.{OnLooks, OnlyLooked};
+ghost use Rattle.std.specs.Prelude.{◌≡◌, ℕ, ◌+◌, ◌<◌, ◌≤◌, ◌^◌, [], ◌++◌, length, map, get_or, IsTrue, Ok, IfOk, IfErr, OnOk};
+ghost use Rattle.mk_bytes.specs.Agrees.{Agrees};
+ghost use Rattle.mk_closure.specs.Members.{numbers_from, all_preds};
+ghost use Rattle.mk_closure.specs.Names.{name_in};
+ghost use Rattle.mk_graph.specs.Numbers.{AreBelow};
+ghost use Rattle.mk_graph.specs.Orders.{IsOrder};
+ghost use Rattle.mk_plan.specs.Looks.{OnLooks};
 ghost use Rattle.mk_plan.specs.Looks as looks;
 ghost use Rattle.mk_plan.specs.Plans as spec;
-ghost use Rattle.mk_plan.specs.Refusals.{IsRefusedBy};
+ghost use Rattle.mk_plan.specs.Refusals.{IsOwnPlan, IsRefusedBy};
 ghost use Rattle.mk_plan.specs.declared.fault.PlanFault.TheVariants.{
   Failed as failed,
   NoMemory as no_memory,
 };
 ghost use Rattle.mk_world.specs.Causes.{HasCause};
-ghost use Rattle.mk_world.specs.declared.fault.WorldFault.TheVariants.{Failed as world_failed};
 
+use crate::copies::copied;
 use crate::fault::PlanFault;
 use crate::plan::{Nodes, Plan, PlanNode};
-use mk_bytes::{Items, Kind, NoMemory, Text, Texts};
-use mk_graph::{Made, Rule};
-use mk_pool::{MAX_NAMES, Name, Pool};
-use mk_world::{When, World, WorldFault};
+use mk_bytes::{Items, NoMemory, Text, Texts};
+use mk_closure::{Closure, close};
+use mk_graph::{Attr, Graph, Made, Marks, Ordered, depth_first};
+use mk_world::World;
 use std::alloc::Global;
 
-fn is_target(rule: &Option<Rule>, name: &[u8]) -> bool
-    ensures { result ≡ spec.is_target rule.now name.now }
+fn wanted<'m>(requested: &'m Texts, main: &'m Texts) -> &'m [Text]
+    ensures { result.now ≡ spec.wanted requested.now main.now }
 {
-    match rule {
-        Some(rule) => rule.target.bytes() == name,
-        None => false,
+    if requested.is_empty() {
+        return main.as_slice();
     }
+    requested.as_slice()
 }
 
-/// Whether there is no file, by its time.
-pub fn is_missing_time(when: &When) -> bool
-    ensures { result ≡ looks.is_missing_time when.now }
+// The name of a number, or nothing where there is no such number.
+fn name_of<'c>(closure: &'c Closure<'_>, n: u32) -> &'c [u8]
+    ensures { result.now ≡ name_in closure.now n }
 {
-    match when {
-        When::Missing => true,
-        When::At(_) | When::Unknown => false,
+    if (n as usize) < closure.len() {
+        return closure.name(n);
     }
+    b""
 }
 
-fn is_missing<W: World>(alloc: Global, world: &mut W, name: &[u8]) -> Result<bool, WorldFault>
-    requires idle { W.runs world.old [] }
-    ensures told { IfOk result (λ missing. OnLooks (W.history world.old) (W.history world.new)
-        (λ files. missing ≡ is_none (files name.now))) }
-    ensures refused { OnErr result (OnlyLooked (W.history world.old) (W.history world.new)) }
-    ensures cause { HasCause world_failed (W.faults world.old) (W.faults world.new) result }
-    ensures idle { W.runs world.new [] }
+fn names_of(alloc: Global, closure: &Closure<'_>, nodes: &[u32]) -> Result<Texts, NoMemory>
+    ensures { IfOk result (λ names. names ≡ map (name_in closure.now) nodes.now) }
 {
-    let when = world.time(alloc, name)?;
-    Ok(is_missing_time(&when))
-}
-
-// Meets a name.
-fn meet<W: World>(
-    alloc: Global,
-    world: &mut W,
-    rule: &Option<Rule>,
-    names: &mut Pool,
-    name: &[u8],
-) -> Result<(), PlanFault>
-    requires idle { W.runs world.old [] }
-    ensures met { IfOk result (λ _. OnLooks (W.history world.old) (W.history world.new)
-        (λ files. spec.met files rule.now names.old name.now ≡ Ok names.new)) }
-    ensures refused { IfErr result (λ fault. OnLooks (W.history world.old) (W.history world.new)
-        (λ files. IsRefusedBy fault (spec.met files rule.now names.old name.now))) }
-    ensures cause { HasCause failed (W.faults world.old) (W.faults world.new) result }
-    ensures idle { W.runs world.new [] }
-{
-    if names.find(name).is_some() {
-        return Ok(());
-    }
-    if names.len() == MAX_NAMES {
-        return Err(PlanFault::Limit(Kind::Names, MAX_NAMES as u64));
-    }
-    if !is_target(rule, name) && is_missing(alloc, world, name)? {
-        return Err(PlanFault::NoRule(Text::from_bytes(alloc, name)?));
-    }
-    match names.intern(name) {
-        Ok(_) => Ok(()),
-        Err(_) => Err(PlanFault::NoMemory),
-    }
-}
-
-// Meets several names, one after the other.
-fn meet_all<W: World>(
-    alloc: Global,
-    world: &mut W,
-    rule: &Option<Rule>,
-    names: &mut Pool,
-    more: &[Text],
-) -> Result<(), PlanFault>
-    requires idle { W.runs world.old [] }
-    ensures met { IfOk result (λ _. OnLooks (W.history world.old) (W.history world.new)
-        (λ files. spec.all_met files rule.now names.old more.now ≡ Ok names.new)) }
-    ensures refused { IfErr result (λ fault. OnLooks (W.history world.old) (W.history world.new)
-        (λ files. IsRefusedBy fault (spec.all_met files rule.now names.old more.now))) }
-    ensures cause { HasCause failed (W.faults world.old) (W.faults world.new) result }
-    ensures idle { W.runs world.new [] }
-{
-    for name in more {
-        meet(alloc, world, rule, names, name.bytes())?;
-    }
-    Ok(())
-}
-
-fn sources_of<'r>(rule: &'r Option<Rule>, name: &[u8]) -> &'r [Text]
-    ensures { result.now ≡ spec.sources_of rule.now name.now }
-{
-    match rule {
-        Some(rule) if rule.target.bytes() == name => rule.sources.as_slice(),
-        _ => &[],
-    }
-}
-
-fn commands_of<'r>(rule: &'r Option<Rule>, name: &[u8]) -> &'r [Text]
-    ensures { result.now ≡ spec.commands_of rule.now name.now }
-{
-    match rule {
-        Some(rule) if rule.target.bytes() == name => rule.commands.as_slice(),
-        _ => &[],
-    }
-}
-
-// Meets a wanted name behind what it is made from.
-fn meet_wanted<W: World>(
-    alloc: Global,
-    world: &mut W,
-    rule: &Option<Rule>,
-    names: &mut Pool,
-    name: &[u8],
-) -> Result<(), PlanFault>
-    requires idle { W.runs world.old [] }
-    ensures met { IfOk result (λ _. OnLooks (W.history world.old) (W.history world.new)
-        (λ files. spec.wanted_met files rule.now names.old name.now ≡ Ok names.new)) }
-    ensures refused { IfErr result (λ fault. OnLooks (W.history world.old) (W.history world.new)
-        (λ files. IsRefusedBy fault (spec.wanted_met files rule.now names.old name.now))) }
-    ensures cause { HasCause failed (W.faults world.old) (W.faults world.new) result }
-    ensures idle { W.runs world.new [] }
-{
-    meet_all(alloc, world, rule, names, sources_of(rule, name))?;
-    meet(alloc, world, rule, names, name)?;
-    Ok(())
-}
-
-// Meets all wanted names, each behind what it is made from.
-fn meet_all_wanted<W: World>(
-    alloc: Global,
-    world: &mut W,
-    rule: &Option<Rule>,
-    names: &mut Pool,
-    wanted: &[Text],
-) -> Result<(), PlanFault>
-    requires idle { W.runs world.old [] }
-    ensures met { IfOk result (λ _. OnLooks (W.history world.old) (W.history world.new)
-        (λ files. spec.all_wanted_met files rule.now names.old wanted.now ≡ Ok names.new)) }
-    ensures refused { IfErr result (λ fault. OnLooks (W.history world.old) (W.history world.new)
-        (λ files. IsRefusedBy fault (spec.all_wanted_met files rule.now names.old wanted.now))) }
-    ensures cause { HasCause failed (W.faults world.old) (W.faults world.new) result }
-    ensures idle { W.runs world.new [] }
-{
-    for name in wanted {
-        meet_wanted(alloc, world, rule, names, name.bytes())?;
-    }
-    Ok(())
-}
-
-fn place_in(names: &Pool, name: &[u8]) -> u32
-    ensures { result ≡ spec.place_in names.now name.now }
-{
-    match names.find(name) {
-        Some(found) => found.0,
-        None => names.len() as u32,
-    }
-}
-
-fn places_in(alloc: Global, names: &Pool, more: &[Text]) -> Result<Nodes, NoMemory>
-    ensures { IfOk result (λ places. places ≡ spec.places_in names.now more.now) }
-{
-    let mut places = Items::new(alloc, more.len())?;
-    for name in more {
-        places.push(place_in(names, name.bytes()))?;
-    }
-    Ok(places)
-}
-
-/// Copies of texts.
-pub fn copied(alloc: Global, texts: &[Text]) -> Result<Texts, NoMemory>
-    ensures { IfOk result (λ copies. copies ≡ texts.now) }
-{
-    let mut copies = Items::new(alloc, texts.len())?;
-    for text in texts {
-        copies.push(text.copy(alloc)?)?;
-    }
-    Ok(copies)
-}
-
-fn node_of(
-    alloc: Global,
-    names: &Pool,
-    rule: &Option<Rule>,
-    name: &[u8],
-) -> Result<PlanNode, NoMemory>
-    ensures { IfOk result (λ node. node ≡ spec.node_of names.now rule.now name.now) }
-{
-    Ok(PlanNode {
-        name: Text::from_bytes(alloc, name)?,
-        sources: places_in(alloc, names, sources_of(rule, name))?,
-        before: places_in(alloc, names, sources_of(rule, name))?,
-        commands: copied(alloc, commands_of(rule, name))?,
-    })
-}
-
-fn nodes_of(alloc: Global, names: &Pool, rule: &Option<Rule>) -> Result<Items<PlanNode>, NoMemory>
-    ensures { IfOk result (λ nodes. nodes ≡ spec.nodes_of names.now rule.now names.now) }
-{
-    let mut nodes = Items::new(alloc, names.len())?;
-    for place in 0..names.len() {
-        let name = names.text(Name(place as u32));
-        nodes.push(node_of(alloc, names, rule, name)?)?;
-    }
-    Ok(nodes)
-}
-
-fn is_behind(place: usize, before: &[u32]) -> bool
-    ensures { result ≡ spec.is_behind place before.now }
-{
-    before.iter().all(|one| (*one as usize) < place)
-}
-
-fn are_ordered(nodes: &[PlanNode]) -> bool
-    ensures { result ≡ spec.are_ordered 0 nodes.now }
-{
-    for (place, node) in nodes.iter().enumerate() {
-        if !is_behind(place, node.before.as_slice()) {
-            return false;
-        }
-    }
-    true
-}
-
-fn cycle_of(alloc: Global, rule: &Option<Rule>) -> Result<Texts, NoMemory>
-    ensures { IfOk result (λ names. names ≡ spec.cycle_of rule.now) }
-{
-    let mut names = Items::new(alloc, 2)?;
-    if let Some(rule) = rule {
-        names.push(rule.target.copy(alloc)?)?;
-        names.push(rule.target.copy(alloc)?)?;
+    let mut names = Items::new(alloc, nodes.len())?;
+    for n in nodes {
+        names.push(Text::from_bytes(alloc, name_of(closure, *n))?)?;
     }
     Ok(names)
 }
 
-fn unless_cycle(
-    alloc: Global,
-    rule: &Option<Rule>,
-    nodes: Items<PlanNode>,
-) -> Result<Plan, PlanFault>
-    ensures { Agrees no_memory (λ plan. plan) result (spec.unless_cycle rule.now nodes) }
+// The planned nodes, each behind its predecessors.
+fn order_of(alloc: Global, closure: &Closure<'_>, names: &[Text]) -> Result<Nodes, PlanFault>
+    ensures value { Agrees no_memory (λ order. order) result (spec.order_of closure.now names.now) }
+    ensures own { IfErr result IsOwnPlan }
+    ensures order { IfOk result (IsOrder (all_preds closure.now)) }
 {
-    if are_ordered(nodes.as_slice()) {
-        return Ok(Plan::of(nodes));
+    let preds = closure.all_preds(alloc)?;
+    let roots = closure.roots(alloc, names)?;
+    match depth_first(alloc, &preds, &roots)? {
+        Ordered::Order(order) => Ok(order),
+        Ordered::Cycle(nodes) => Err(PlanFault::Cycle(names_of(alloc, closure, nodes.as_slice())?)),
     }
-    Err(PlanFault::Cycle(cycle_of(alloc, rule)?))
 }
 
-// Meets the requested names, or where there are none the first target.
-fn meet_requested<W: World>(
-    alloc: Global,
-    world: &mut W,
-    rule: &Option<Rule>,
-    names: &mut Pool,
-    requested: &[Text],
-) -> Result<(), PlanFault>
-    requires idle { W.runs world.old [] }
-    ensures met { IfOk result (λ _. OnLooks (W.history world.old) (W.history world.new)
-        (λ files. spec.requested_met files rule.now names.old requested.now ≡ Ok names.new)) }
-    ensures refused { IfErr result (λ fault. OnLooks (W.history world.old) (W.history world.new)
-        (λ files. IsRefusedBy fault
-        (spec.requested_met files rule.now names.old requested.now))) }
-    ensures cause { HasCause failed (W.faults world.old) (W.faults world.new) result }
-    ensures idle { W.runs world.new [] }
+// The place of each node by its number, where the first of the order has this place.
+fn places_of(alloc: Global, count: usize, order: &[u32], first: usize) -> Result<Vec<u32>, NoMemory>
+    requires within { AreBelow count order.now }
+    requires short { first + length order.now ≤ 2 ^ 32 }
+    ensures { IfOk result (λ places. (n : ℕ) → get_or places.items n 0
+        ≡ spec.place_from first order.now n) }
 {
-    if requested.is_empty() {
-        let Some(first) = rule else {
-            return Err(PlanFault::NoTarget);
-        };
-        meet_wanted(alloc, world, rule, names, first.target.bytes())?;
-        return Ok(());
+    let mut places = vec![in alloc; 0u32; count]?;
+    let mut left = order.len();
+    'order: while left > 0 {
+        left -= 1;
+        places[order[left] as usize] = (first + left) as u32;
     }
-    meet_all_wanted(alloc, world, rule, names, requested)?;
+    Ok(places)
+}
+
+fn place_in(places: &[u32], n: u32) -> u32
+    ensures { result ≡ get_or places.now n 0 }
+{
+    match places.get(n as usize) {
+        Some(place) => *place,
+        None => 0,
+    }
+}
+
+fn places_in(alloc: Global, places: &[u32], nodes: &[u32]) -> Result<Nodes, NoMemory>
+    ensures { IfOk result (λ found. found ≡ map (λ n. get_or places.now n 0) nodes.now) }
+{
+    let mut found = Items::new(alloc, nodes.len())?;
+    for n in nodes {
+        found.push(place_in(places, *n))?;
+    }
+    Ok(found)
+}
+
+// Adds the places before a place.
+fn add_earlier(places: &mut Nodes, count: usize) -> Result<(), NoMemory>
+    requires { count < 2 ^ 32 }
+    ensures { OnOk result (places.new ≡ places.old ++ numbers_from 0 count) }
+{
+    for place in 0..count {
+        places.push(place as u32)?;
+    }
     Ok(())
 }
 
-/// The plan of the requested names, or where there are none of the first target: each node once,
-/// behind what it is made from. `NoTarget` exactly where no name is requested and there is no
-/// target; `NoRule` where a name, the first that is met so, is no target and has no file; `Limit`
-/// where a 1,048,577th name would be met; `Cycle` where a target is among its own sources. `Failed`
-/// comes only where the world's count of faults rose or is at its end.
+fn before_of(
+    alloc: Global,
+    closure: &Closure<'_>,
+    places: &[u32],
+    first: usize,
+    n: u32,
+) -> Result<Nodes, NoMemory>
+    requires within { n < length closure.now.parts }
+    requires short { first < 2 ^ 32 }
+    ensures { IfOk result (λ before. before
+        ≡ (spec.plan_node closure.now (λ m. get_or places.now m 0) first n).before) }
+{
+    let preds = closure.preds(alloc, n)?;
+    let mut before = places_in(alloc, places, preds.as_slice())?;
+    add_earlier(&mut before, first)?;
+    Ok(before)
+}
+
+fn plan_node(
+    alloc: Global,
+    closure: &Closure<'_>,
+    places: &[u32],
+    first: usize,
+    n: u32,
+) -> Result<PlanNode, NoMemory>
+    requires within { n < length closure.now.parts }
+    requires short { first < 2 ^ 32 }
+    ensures { IfOk result (λ node. node
+        ≡ spec.plan_node closure.now (λ m. get_or places.now m 0) first n) }
+{
+    let sources = closure.planned_sources(alloc, n)?;
+    Ok(PlanNode {
+        name: Text::from_bytes(alloc, closure.name(n))?,
+        sources: places_in(alloc, places, sources.as_slice())?,
+        before: before_of(alloc, closure, places, first, n)?,
+        commands: copied(alloc, closure.commands(n))?,
+        implied: Text::from_bytes(alloc, closure.implied(n))?,
+        marks: closure.marks(n),
+    })
+}
+
+// Adds the nodes in their order.
+fn add_nodes(
+    alloc: Global,
+    closure: &Closure<'_>,
+    order: &[u32],
+    nodes: &mut Items<PlanNode>,
+) -> Result<(), NoMemory>
+    requires within { AreBelow (length closure.now.parts) order.now }
+    requires short { length nodes.old + length order.now ≤ 2 ^ 32 }
+    ensures { OnOk result (nodes.new
+        ≡ nodes.old ++ spec.inner_nodes closure.now order.now (length nodes.old)) }
+{
+    let first = nodes.len();
+    let places = places_of(alloc, closure.len(), order, first)?;
+    for n in order {
+        nodes.push(plan_node(alloc, closure, &places, first, *n)?)?;
+    }
+    Ok(())
+}
+
+fn frame_commands<'g>(graph: &'g Graph, name: &[u8], query: bool) -> &'g [Text]
+    ensures { result.now ≡ spec.frame_commands graph.now name.now query }
+{
+    if query {
+        return &[];
+    }
+    match graph.find(name) {
+        Some(n) => graph.commands(n).as_slice(),
+        None => &[],
+    }
+}
+
+// Adds `.BEGIN` or `.END` behind all nodes so far, if it has commands.
+fn add_frame(
+    alloc: Global,
+    nodes: &mut Items<PlanNode>,
+    name: &[u8],
+    commands: &[Text],
+) -> Result<(), NoMemory>
+    ensures { OnOk result (nodes.new
+        ≡ nodes.old ++ spec.frame_node name.now (numbers_from 0 (length nodes.old)) commands.now) }
+{
+    if commands.is_empty() {
+        return Ok(());
+    }
+    let mut before = Items::new(alloc, nodes.len())?;
+    add_earlier(&mut before, nodes.len())?;
+    nodes.push(PlanNode {
+        name: Text::from_bytes(alloc, name)?,
+        sources: Items::new(alloc, 0)?,
+        before,
+        commands: copied(alloc, commands)?,
+        implied: Text::from_bytes(alloc, b"")?,
+        marks: Marks::none().with(Attr::Phony),
+    })?;
+    Ok(())
+}
+
+// The nodes in their order, between `.BEGIN` and `.END`.
+fn nodes_of(
+    alloc: Global,
+    closure: &Closure<'_>,
+    order: &[u32],
+    query: bool,
+) -> Result<Items<PlanNode>, NoMemory>
+    requires within { AreBelow (length closure.now.parts) order.now }
+    requires short { length order.now < 2 ^ 32 }
+    ensures { IfOk result (λ nodes. nodes ≡ spec.nodes_of closure.now query order.now) }
+{
+    let graph = closure.graph();
+    let mut nodes = Items::new(alloc, order.len())?;
+    let begin = b".BEGIN".as_slice();
+    add_frame(
+        alloc,
+        &mut nodes,
+        begin,
+        frame_commands(graph, begin, query),
+    )?;
+    add_nodes(alloc, closure, order, &mut nodes)?;
+    let end = b".END".as_slice();
+    add_frame(alloc, &mut nodes, end, frame_commands(graph, end, query))?;
+    Ok(nodes)
+}
+
+fn plan_of(
+    alloc: Global,
+    closure: &Closure<'_>,
+    names: &[Text],
+    query: bool,
+) -> Result<Plan, PlanFault>
+    ensures value { Agrees no_memory (λ plan. plan) result
+        (spec.plan_of query names.now closure.now) }
+    ensures own { IfErr result IsOwnPlan }
+{
+    let order = order_of(alloc, closure, names)?;
+    let nodes = nodes_of(alloc, closure, order.as_slice(), query)?;
+    Ok(Plan::of(nodes))
+}
+
+/// The plan of the requested names, or where there are none of the main targets: the nodes of their
+/// closure, each behind its predecessors, which are its sources and then the nodes that are ordered
+/// before it; in the order in which a walk over these from the names on is done with them. `.BEGIN`
+/// with commands stands first and before all others, and `.END` with commands last and behind all,
+/// unless it is only asked (`query`) what is to do.
+///
+/// `NoTarget` exactly where no name is requested and there is no main target; then `NoRule` and
+/// `Limit`, as the closure is refused first; then `Cycle` for the first closed walk over
+/// predecessors, its first name repeated at the end. `Failed` comes only where the world's count of
+/// faults rose or is at its end.
 pub fn make_plan<W: World>(
     alloc: Global,
     made: &Made,
     requested: &Texts,
+    query: bool,
     world: &mut W,
 ) -> Result<Plan, PlanFault>
     requires idle { W.runs world.old [] }
     ensures planned { IfOk result (λ plan. OnLooks (W.history world.old) (W.history world.new)
-        (λ files. spec.planned files made.now.rule requested.now ≡ Ok plan)) }
+        (λ files. spec.planned files made.now requested.now query ≡ Ok plan)) }
     ensures refused { IfErr result (λ fault. OnLooks (W.history world.old) (W.history world.new)
-        (λ files. IsRefusedBy fault (spec.planned files made.now.rule requested.now))) }
+        (λ files. IsRefusedBy fault (spec.planned files made.now requested.now query))) }
     ensures cause { HasCause failed (W.faults world.old) (W.faults world.new) result }
     ensures idle { W.runs world.new [] }
 {
-    let mut names = Pool::new(alloc)?;
-    meet_requested(alloc, world, &made.rule, &mut names, requested.as_slice())?;
-    let nodes = nodes_of(alloc, &names, &made.rule)?;
-    let plan = unless_cycle(alloc, &made.rule, nodes)?;
+    let names = wanted(requested, &made.main);
+    if names.is_empty() {
+        return Err(PlanFault::NoTarget);
+    }
+    let closure = close(alloc, &made.graph, &made.suffixes, names, world)?;
+    let plan = plan_of(alloc, &closure, names, query)?;
     Ok(plan)
 }

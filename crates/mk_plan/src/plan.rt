@@ -1,7 +1,9 @@
 ghost use Rattle.std.specs.Prelude.{◌≡◌, ◌<◌, ◌^◌, length, IsTrue};
+ghost use Rattle.mk_graph.specs.Marks.{has};
 ghost use Rattle.mk_plan.specs.Plans.{are_ordered, node_at};
 
 use mk_bytes::{Items, Text, Texts};
+use mk_graph::{Attr, Marks};
 use std::marker::Model;
 
 /// How a node of a plan stands in a run.
@@ -31,6 +33,10 @@ pub struct PlanNode {
     pub before: Nodes,
     /// Its command lines as they are written.
     pub commands: Texts,
+    /// The cleaned path of its implied source, or nothing where it has none.
+    pub implied: Text,
+    /// Its attributes.
+    pub marks: Marks,
 }
 
 /// Nodes in the order in which one job would make them: each stands behind its predecessors.
@@ -108,5 +114,21 @@ impl Plan {
         ensures { result.now ≡ (node_at self.now n).commands }
     {
         &self.nodes.get(n as usize).commands
+    }
+
+    /// The cleaned path of a node's implied source, or nothing where it has none.
+    pub fn implied(&self, n: u32) -> &[u8]
+        requires { n < length self.now }
+        ensures { result.now ≡ (node_at self.now n).implied }
+    {
+        self.nodes.get(n as usize).implied.bytes()
+    }
+
+    /// Whether a node is so marked.
+    pub fn has(&self, n: u32, attr: Attr) -> bool
+        requires { n < length self.now }
+        ensures { result ≡ has (node_at self.now n).marks attr }
+    {
+        self.nodes.get(n as usize).marks.has(attr)
     }
 }

@@ -4,22 +4,43 @@ ghost use Rattle.mk_bytes.specs.Agrees.{Agrees};
 ghost use Rattle.mk_expand.specs.Calls.{Asks};
 ghost use Rattle.mk_expand.specs.Facts.{Means};
 ghost use Rattle.mk_expand.specs.declared.fault.ExpandFault.TheVariants.{NoMemory as no_memory};
+ghost use Rattle.mk_plan.specs.Plans.{node_at};
 ghost use Rattle.mk_plan.specs.Refusals.{MeansLines, without_line};
 ghost use Rattle.mk_plan.specs.Tasks as spec;
 ghost use Rattle.mk_plan.specs.Tasks.{setting_of};
 
+use crate::copies::copied;
 use crate::fault::TaskFault;
-use crate::making::copied;
 use crate::oodate::refers;
 use crate::plan::{Nodes, Plan};
 use mk_ast::parse;
 use mk_bytes::{Items, NoMemory, Text, Texts};
 use mk_expand::{ExpandFault, Facts, Locals, expand};
 use mk_flags::Flags;
-use mk_graph::Made;
+use mk_graph::{Attr, Made};
 use mk_scopes::Scopes;
+use mk_suffix::prefix_of;
 use mk_world::{Lines, Task, TaskLine};
 use std::alloc::Global;
+
+/// How all lines of a node are run, whatever stands before their texts.
+#[derive(Clone, Copy)]
+pub struct Manner {
+    /// Their failures are ignored.
+    pub ignore: bool,
+    /// Their texts are not printed.
+    pub silent: bool,
+}
+
+fn manner_of(plan: &Plan, n: u32, flags: &Flags) -> Manner
+    requires { n < length plan.now }
+    ensures { result ≡ spec.manner_of flags.now (node_at plan.now n).marks }
+{
+    Manner {
+        ignore: flags.ignore || plan.has(n, Attr::Ignore),
+        silent: flags.silent || plan.has(n, Attr::Silent),
+    }
+}
 
 fn is_mark(byte: u8) -> bool
     ensures { result ≡ spec.is_mark byte }
@@ -40,14 +61,19 @@ fn holds(wanted: u8, text: &[u8]) -> bool
     text.iter().any(|byte| *byte == wanted)
 }
 
-fn line_as(alloc: Global, flags: &Flags, compared: bool, value: &[u8]) -> Result<TaskLine, NoMemory>
-    ensures { IfOk result (λ line. line ≡ spec.line_as flags.now compared value.now) }
+fn line_as(
+    alloc: Global,
+    manner: Manner,
+    compared: bool,
+    value: &[u8],
+) -> Result<TaskLine, NoMemory>
+    ensures { IfOk result (λ line. line ≡ spec.line_as manner compared value.now) }
 {
     let (marks, text) = value.split_at(marks_end(value).unwrap_or(value.len()));
     Ok(TaskLine {
         text: Text::from_bytes(alloc, text)?,
-        ignore: flags.ignore || holds(b'-', marks),
-        silent: flags.silent || holds(b'@', marks),
+        ignore: manner.ignore || holds(b'-', marks),
+        silent: manner.silent || holds(b'@', marks),
         always: holds(b'+', marks),
         compared,
     })
@@ -57,39 +83,39 @@ fn line_of<F: Facts>(
     alloc: Global,
     scopes: &Scopes,
     locals: &Locals,
-    flags: &Flags,
+    manner: Manner,
     raw: &[u8],
     facts: &mut F,
 ) -> Result<TaskLine, ExpandFault>
     ensures line { Means (F.asked facts.new) (λ line. (line, F.asked facts.new)) result
-        (λ answers. spec.line_of (setting_of scopes.now (F.lists facts.old) answers) locals.now flags.now
+        (λ answers. spec.line_of (setting_of scopes.now (F.lists facts.old) answers) locals.now manner
         (F.asked facts.old) raw.now) }
     ensures facts { Asks (F.leads facts.old facts.new) (F.lists facts.old) (F.lists facts.new)
         (F.asked facts.old) (F.asked facts.new) (F.faults facts.old) (F.faults facts.new) result }
 {
     let tree = parse(alloc, raw)?;
     let value = expand(alloc, scopes, locals, &tree, facts, false)?;
-    Ok(line_as(alloc, flags, !refers(&tree), value.bytes())?)
+    Ok(line_as(alloc, manner, !refers(&tree), value.bytes())?)
 }
 
 fn lines_of<F: Facts>(
     alloc: Global,
     scopes: &Scopes,
     locals: &Locals,
-    flags: &Flags,
+    manner: Manner,
     commands: &Texts,
     facts: &mut F,
 ) -> Result<Lines, TaskFault>
     ensures lines { MeansLines (F.asked facts.new) (λ lines. (lines, F.asked facts.new)) result
         (λ answers. spec.lines_from (setting_of scopes.now (F.lists facts.old) answers) locals.now
-        flags.now [] 1 (F.asked facts.old) commands.now) }
+        manner [] 1 (F.asked facts.old) commands.now) }
     ensures facts { Asks (F.leads facts.old facts.new) (F.lists facts.old) (F.lists facts.new)
         (F.asked facts.old) (F.asked facts.new) (F.faults facts.old) (F.faults facts.new)
         (without_line result) }
 {
     let mut lines = Items::new(alloc, commands.len())?;
     for (place, raw) in commands.as_slice().iter().enumerate() {
-        match line_of(alloc, scopes, locals, flags, raw.bytes(), facts) {
+        match line_of(alloc, scopes, locals, manner, raw.bytes(), facts) {
             Ok(line) => lines.push(line)?,
             Err(what) => {
                 let line = place as u32 + 1;
@@ -98,12 +124,6 @@ fn lines_of<F: Facts>(
         }
     }
     Ok(lines)
-}
-
-fn is_slash(byte: u8) -> bool
-    ensures { result ≡ spec.is_slash byte }
-{
-    byte == b'/'
 }
 
 /// The names of the nodes at these places.
@@ -117,33 +137,22 @@ pub fn names_at(alloc: Global, plan: &Plan, places: &Nodes) -> Result<Texts, NoM
     Ok(names)
 }
 
-// Where the last component begins, by where it begins in the bytes before `at` and the byte there.
-fn start_behind(start: usize, at: usize, byte: u8) -> usize
-    requires { at < 2 ^ 63 }
-    ensures { result ≡ (if spec.is_slash byte then at + 1 else start) }
-{
-    if is_slash(byte) { at + 1 } else { start }
-}
-
-fn last_component(path: &[u8]) -> &[u8]
-    ensures { result.now ≡ spec.last_component path.now }
-{
-    let mut start = 0;
-    for (at, byte) in path.iter().enumerate() {
-        start = start_behind(start, at, *byte);
-    }
-    &path[start..]
-}
-
-fn locals_of(alloc: Global, plan: &Plan, n: u32, oodate: &Texts) -> Result<Locals, NoMemory>
+fn locals_of(
+    alloc: Global,
+    suffixes: &Texts,
+    plan: &Plan,
+    n: u32,
+    oodate: &Texts,
+) -> Result<Locals, NoMemory>
     requires { n < length plan.now }
-    ensures { IfOk result (λ locals. locals ≡ spec.locals_of plan.now n oodate.now) }
+    ensures { IfOk result
+        (λ locals. locals ≡ spec.locals_of suffixes.now plan.now n oodate.now) }
 {
     Ok(Locals {
         target: Text::from_bytes(alloc, plan.name(n))?,
         all: names_at(alloc, plan, plan.sources(n))?,
-        implied: Text::new(alloc),
-        prefix: Text::from_bytes(alloc, last_component(plan.name(n)))?,
+        implied: Text::from_bytes(alloc, plan.implied(n))?,
+        prefix: Text::from_bytes(alloc, prefix_of(suffixes, plan.name(n)))?,
         oodate: copied(alloc, oodate.as_slice())?,
         some: true,
     })
@@ -151,7 +160,7 @@ fn locals_of(alloc: Global, plan: &Plan, n: u32, oodate: &Texts) -> Result<Local
 
 /// The task of a node of a plan: its command lines, expanded with its local names, where these of
 /// its sources are newer than it. `@` before a line's text makes it silent, `-` ignored and `+`
-/// always run. A line whose raw text has a reference with the plain name `.OODATE` or `?` anywhere
+/// always run; the options and the attributes `.SILENT` and `.IGNORE` make all lines so. A line whose raw text has a reference with the plain name `.OODATE` or `?` anywhere
 /// in it is not compared with that of another build. A fault has the number of its line, the first
 /// such, counted from 1; it is `Failed` only where the count of the facts rose in this call or is
 /// at its end.
@@ -166,14 +175,22 @@ pub fn task<F: Facts>(
 ) -> Result<Task, TaskFault>
     requires { n < length plan.now }
     ensures task { MeansLines (F.asked facts.new) (λ task. (task, F.asked facts.new)) result
-        (λ answers. spec.task_of (setting_of made.now.scopes (F.lists facts.old) answers) plan.now n
-        oodate.now flags.now (F.asked facts.old)) }
+        (λ answers. spec.task_of (setting_of made.now.scopes (F.lists facts.old) answers)
+        made.now.suffixes plan.now n oodate.now flags.now (F.asked facts.old)) }
     ensures facts { Asks (F.leads facts.old facts.new) (F.lists facts.old) (F.lists facts.new)
         (F.asked facts.old) (F.asked facts.new) (F.faults facts.old) (F.faults facts.new)
         (without_line result) }
 {
-    let locals = locals_of(alloc, plan, n, oodate)?;
-    let lines = lines_of(alloc, &made.scopes, &locals, flags, plan.commands(n), facts)?;
+    let locals = locals_of(alloc, &made.suffixes, plan, n, oodate)?;
+    let manner = manner_of(plan, n, flags);
+    let lines = lines_of(
+        alloc,
+        &made.scopes,
+        &locals,
+        manner,
+        plan.commands(n),
+        facts,
+    )?;
     Ok(Task {
         lines,
         cwd: Text::from_bytes(alloc, made.scopes.cwd())?,

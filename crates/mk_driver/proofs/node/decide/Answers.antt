@@ -1,221 +1,78 @@
-use Rattle.std.proofs.Common.{◌≡◌, ◌∙◌, ◌<◌, [], ◌∷◌, ◌++◌, length, true, false, inr, refl, sym}
+use Rattle.std.proofs.Common.{refl}
 use Rattle.std.proofs.lemmas.Result.{err_from_is_err_and}
-use Rattle.mk_plan.proofs.TaskLemmas.{task_of-length}
-use Rattle.mk_plan.specs.Asking.{answers_by}
-use Rattle.mk_plan.specs.Tasks.{setting_of}
-use Rattle.mk_driver.specs.Builds.{source_names, HasTask, IsBegun, IsKept}
+use Rattle.mk_sched.proofs.DecideLemmas.{decided}
+use Rattle.mk_driver.specs.Builds.{rules_of}
+use Rattle.mk_driver.specs.Ends.{of_world}
 use Rattle.mk_driver.specs.Makers.{work_of, moment}
-use Rattle.mk_driver.specs.Progress.{IsSeen}
-use Rattle.mk_driver.specs.Sights.{seen_of}
-use Rattle.mk_driver.specs.Tests.{is_stale, newer_names}
-use Rattle.mk_driver.proofs.AskLemmas.{told-looks}
-use Rattle.mk_driver.proofs.DecideLemmas.{sight-of, so_far-looks_more, ended-fault, begun-at, ready-made, ready-kept}
-use Rattle.mk_driver.proofs.EventLemmas.{called-none}
-use Rattle.mk_driver.proofs.LineLemmas.{ended-outside, so_far-nothing}
+use Rattle.mk_driver.proofs.DecideLemmas.{so_far-looks}
+use Rattle.mk_driver.proofs.EndingLemmas.{within-plan}
+use Rattle.mk_driver.proofs.LineLemmas.{halted}
+use Rattle.mk_driver.proofs.NodeLemmas.{may_decide-of}
+use Rattle.mk_driver.proofs.PieceLemmas.{on_ok, if_err}
 use Rattle.mk_driver.proofs.node.decide.Goals as goal
 
-pub returns-in_err-names-clause-ended : goal.returns-in_err-names-clause-ended
-returns-in_err-names-clause-ended g c =
+pub decide_on-requires : goal.decide_on-requires
+decide_on-requires g c =
+    let d = decided c.args.course.now.sched c.args.node c.requires.next in
+    record {
+      within = within-plan (work_of c.args.maker.now) c.args.course.now.sched _ _ _ _ _ _ c.requires.fits
+          d.within;
+    }
+
+pub returns-in_err-decision-clause-halted : goal.returns-in_err-decision-clause-halted
+returns-in_err-decision-clause-halted g c =
     let p = err_from_is_err_and c.from_residual.result c.from_residual.ensures.1 in
-    let times = c.args.times.now in
     let work = work_of c.args.maker.now in
-    rw p.1 (λ known first long so.
-    ended-outside g.W.World.meaning work p.0 first _ known
-    (IsSeen work c.args.node (seen_of work.plan c.args.node times.target times.sources)) (inr p.2)
-    so)
+    let course = c.args.course.now in
+    let d = decided course.sched c.args.node c.requires.next in
+    let may = may_decide-of (rules_of work) course.sched c.args.node c.requires.fits.rules_are
+    c.requires.next in
+    let some = c.in_err-decision.ensures.halted in
+    rw p.1 (λ first out at.
+    halted g.W.World.meaning work (of_world p.0) first (g.W.World.history c.decide_on.new.world) out
+    course.events course.last_shown at.0 _
+    (so_far-looks g.W.World.meaning work at.0 course.sched.nodes course.jobs.items course.failure
+    c.args.node some.seen course.last_shown first
+    (moment (g.W.World.history c.args.world.now) out course.events)
+    (moment (g.W.World.history c.decide_on.new.world) out course.events) at.2 d.undecided may some.looked
+    refl refl))
 
-pub returns-in_err-newer-clause-ended : goal.returns-in_err-newer-clause-ended
-returns-in_err-newer-clause-ended g c =
-    let p = err_from_is_err_and c.from_residual-in_err-newer.result
-    c.from_residual-in_err-newer.ensures.1 in
-    let times = c.args.times.now in
+pub returns-clause-goes : goal.returns-clause-goes
+returns-clause-goes g c =
     let work = work_of c.args.maker.now in
-    rw p.1 (λ known first long so.
-    ended-outside g.W.World.meaning work p.0 first _ known
-    (IsSeen work c.args.node (seen_of work.plan c.args.node times.target times.sources)) (inr p.2)
-    so)
+    let course = c.args.course.now in
+    let d = decided course.sched c.args.node c.requires.next in
+    let may = may_decide-of (rules_of work) course.sched c.args.node c.requires.fits.rules_are
+    c.requires.next in
+    let dec = c.in_ok-decision.ensures.decided in
+    on_ok c.carry_out.result (λ goes first out at.
+    goes dec.0 dec.2 first out (
+      at.0,
+      at.1,
+      so_far-looks g.W.World.meaning work at.0 course.sched.nodes course.jobs.items course.failure
+          c.args.node dec.0 course.last_shown first
+          (moment (g.W.World.history c.args.world.now) out course.events)
+          (moment (g.W.World.history c.decide_on.new.world) out course.events) at.2 d.undecided may dec.1
+          refl refl,
+    ))
+    c.carry_out.ensures.goes
 
-pub returns-in-Err-clause-ended : goal.returns-in-Err-clause-ended
-returns-in-Err-clause-ended g c =
-    let times = c.args.times.now in
+pub returns-clause-halted : goal.returns-clause-halted
+returns-clause-halted g c =
     let work = work_of c.args.maker.now in
-    let n = c.args.node in
-    let out = g.S.Sink.held c.args.out.now in
-    let now = moment (g.W.World.history c.args.world.now) out c.args.events.now in
-    let asked_at = moment (g.W.World.history c.task_in.new.world) out c.args.events.now in
-    let next = moment (g.W.World.history c.task_in.new.world) out c.refuse.new.events in
-    let newer : c.in_ok-newer.newer
-    ≡ newer_names times.target (source_names work n) times.sources =
-    rw (
-      c.as_slice-sources.ensures.value,
-      c.as_slice.ensures.value,
-      c.in_ok-names.ensures,
-      c.sources.ensures,
-    ) at c.in_ok-newer.ensures in
-    let asked = c.in-Err.ensures.task in
-    λ known first long so.
-    ended-fault g.W.World.meaning work n c.in-Err.fault c.refuse.result times.target times.sources
-    asked.looked known first asked_at next c.requires.at
-    (so_far-looks_more g.W.World.meaning work n (seen_of work.plan n times.target times.sources)
-    asked.looked known first now asked_at c.requires.at so
-    (told-looks g.W.World.meaning n asked.looked _ _ asked.told) refl refl)
-    c.requires.each (rw newer at asked.task) refl refl c.refuse.ensures
-
-pub returns-in_err-run_lines-in-Ok-clause-ended : goal.returns-in_err-run_lines-in-Ok-clause-ended
-returns-in_err-run_lines-in-Ok-clause-ended g c =
-    let p = err_from_is_err_and c.from_residual-in_err-run_lines-in-Ok.result
-    c.from_residual-in_err-run_lines-in-Ok.ensures.1 in
-    let times = c.args.times.now in
-    let work = work_of c.args.maker.now in
-    let n = c.args.node in
-    let sighted = seen_of work.plan n times.target times.sources in
-    let lines = c.as_slice-lines.result.now in
-    let now = moment (g.W.World.history c.args.world.now) (g.S.Sink.held c.args.out.now)
-    c.args.events.now in
-    let asked_at = moment (g.W.World.history c.task_in.new.world) (g.S.Sink.held c.args.out.now)
-    c.args.events.now in
-    let newer : c.in_ok-newer.newer
-    ≡ newer_names times.target (source_names work n) times.sources =
-    rw (
-      c.as_slice-sources.ensures.value,
-      c.as_slice.ensures.value,
-      c.in_ok-names.ensures,
-      c.sources.ensures,
-    ) at c.in_ok-newer.ensures in
-    let asked = c.in-Ok.ensures.task in
-    let task : HasTask work n times.target times.sources asked.looked c.in-Ok.task =
-    rw newer at asked.task in
-    let stale : is_stale times.target times.sources ≡ true =
-    rw c.as_slice-sources.ensures.value at (sym c.is_stale.ensures ∙ c.if-is_stale.true) in
-    let begun : IsBegun work n (sighted ++ asked.looked) lines = (
-      sight-of work n times.target times.sources asked.looked c.requires.each,
-      c.in-Ok.task,
-      task,
-      stale,
-      c.as_slice-lines.ensures.value,
-    ) in
-    let some : 0 < length lines =
-    rw (
-      c.as_slice-lines.ensures.value,
-      task_of-length (setting_of work.variables work.lists (answers_by asked.looked)) work.plan n
-          (newer_names times.target (source_names work n) times.sources) work.flags [] _
-          c.in-Ok.task task,
-    )
-    c.requires.some in
-    rw (p.1, p.2) (λ known first long so.
-    c.in_err-run_lines-in-Ok.ensures.ended (known ++ lines ∷ []) first
-    (begun-at g.W.World.meaning work n (sighted ++ asked.looked) lines known first asked_at
-    c.requires.at long
-    (so_far-looks_more g.W.World.meaning work n sighted asked.looked known first now asked_at
-    c.requires.at so (told-looks g.W.World.meaning n asked.looked _ _ asked.told) refl refl)
-    some begun))
-
-pub returns-then-is_stale-clause-made : goal.returns-then-is_stale-clause-made
-returns-then-is_stale-clause-made g c =
-    let times = c.args.times.now in
-    let work = work_of c.args.maker.now in
-    let n = c.args.node in
-    let sighted = seen_of work.plan n times.target times.sources in
-    let lines = c.as_slice-lines.result.now in
-    let now = moment (g.W.World.history c.args.world.now) (g.S.Sink.held c.args.out.now)
-    c.args.events.now in
-    let asked_at = moment (g.W.World.history c.task_in.new.world) (g.S.Sink.held c.args.out.now)
-    c.args.events.now in
-    let next = moment (g.W.World.history c.run_lines.new.world) (g.S.Sink.held c.run_lines.new.out)
-    c.run_lines.new.events in
-    let newer : c.in_ok-newer.newer
-    ≡ newer_names times.target (source_names work n) times.sources =
-    rw (
-      c.as_slice-sources.ensures.value,
-      c.as_slice.ensures.value,
-      c.in_ok-names.ensures,
-      c.sources.ensures,
-    ) at c.in_ok-newer.ensures in
-    let asked = c.in-Ok.ensures.task in
-    let task : HasTask work n times.target times.sources asked.looked c.in-Ok.task =
-    rw newer at asked.task in
-    let stale : is_stale times.target times.sources ≡ true =
-    rw c.as_slice-sources.ensures.value at (sym c.is_stale.ensures ∙ c.if-is_stale.true) in
-    let begun : IsBegun work n (sighted ++ asked.looked) lines = (
-      sight-of work n times.target times.sources asked.looked c.requires.each,
-      c.in-Ok.task,
-      task,
-      stale,
-      c.as_slice-lines.ensures.value,
-    ) in
-    let some : 0 < length lines =
-    rw (
-      c.as_slice-lines.ensures.value,
-      task_of-length (setting_of work.variables work.lists (answers_by asked.looked)) work.plan n
-          (newer_names times.target (source_names work n) times.sources) work.flags [] _
-          c.in-Ok.task task,
-    )
-    c.requires.some in
-    λ known first long so.
-    ready-made g.W.World.meaning work n lines known first next long
-    (c.in_ok-run_lines-in-Ok.ensures.ran (known ++ lines ∷ []) first
-    (begun-at g.W.World.meaning work n (sighted ++ asked.looked) lines known first asked_at
-    c.requires.at long
-    (so_far-looks_more g.W.World.meaning work n sighted asked.looked known first now asked_at
-    c.requires.at so (told-looks g.W.World.meaning n asked.looked _ _ asked.told) refl refl)
-    some begun))
-
-pub returns-in_err-push-in-Ok-clause-ended : goal.returns-in_err-push-in-Ok-clause-ended
-returns-in_err-push-in-Ok-clause-ended g c =
-    let p = err_from_is_err_and c.from_residual-in_err-push-in-Ok.result
-    c.from_residual-in_err-push-in-Ok.ensures.1 in
-    let times = c.args.times.now in
-    let work = work_of c.args.maker.now in
-    let n = c.args.node in
-    let sighted = seen_of work.plan n times.target times.sources in
-    let history = g.W.World.history c.task_in.new.world in
-    let out = g.S.Sink.held c.args.out.now in
-    let now = moment (g.W.World.history c.args.world.now) out c.args.events.now in
-    let asked_at = moment history out c.args.events.now in
-    let next = moment history out c.push.new.self in
-    let asked = c.in-Ok.ensures.task in
-    rw p.1 (λ known first long so.
-    ended-outside g.W.World.meaning work p.0 first next known
-    (IsSeen work n (sighted ++ asked.looked)) (inr p.2)
-    (so_far-nothing g.W.World.meaning work first asked_at next known _
-    (so_far-looks_more g.W.World.meaning work n sighted asked.looked known first now asked_at
-    c.requires.at so (told-looks g.W.World.meaning n asked.looked _ _ asked.told) refl refl)
-    (called-none g.W.World.meaning history) c.in_err-push-in-Ok.ensures.err refl))
-
-pub returns-clause-made : goal.returns-clause-made
-returns-clause-made g c =
-    let times = c.args.times.now in
-    let work = work_of c.args.maker.now in
-    let n = c.args.node in
-    let sighted = seen_of work.plan n times.target times.sources in
-    let history = g.W.World.history c.task_in.new.world in
-    let out = g.S.Sink.held c.args.out.now in
-    let now = moment (g.W.World.history c.args.world.now) out c.args.events.now in
-    let asked_at = moment history out c.args.events.now in
-    let next = moment history out c.push.new.self in
-    let newer : c.in_ok-newer.newer
-    ≡ newer_names times.target (source_names work n) times.sources =
-    rw (
-      c.as_slice-sources.ensures.value,
-      c.as_slice.ensures.value,
-      c.in_ok-names.ensures,
-      c.sources.ensures,
-    ) at c.in_ok-newer.ensures in
-    let asked = c.in-Ok.ensures.task in
-    let task : HasTask work n times.target times.sources asked.looked c.in-Ok.task =
-    rw newer at asked.task in
-    let fresh : is_stale times.target times.sources ≡ false =
-    rw c.as_slice-sources.ensures.value at (sym c.is_stale.ensures ∙ c.if-is_stale.false) in
-    let kept : IsKept work n (sighted ++ asked.looked) = inr (
-      sight-of work n times.target times.sources asked.looked c.requires.each,
-      c.in-Ok.task,
-      task,
-      fresh,
-    ) in
-    λ known first long so.
-    ready-kept g.W.World.meaning work n (sighted ++ asked.looked) known first asked_at next
-    c.requires.at long
-    (so_far-looks_more g.W.World.meaning work n sighted asked.looked known first now asked_at
-    c.requires.at so (told-looks g.W.World.meaning n asked.looked _ _ asked.told) refl refl)
-    kept refl
-    c.in_ok-push-in-Ok.ensures.ok refl
+    let course = c.args.course.now in
+    let d = decided course.sched c.args.node c.requires.next in
+    let may = may_decide-of (rules_of work) course.sched c.args.node c.requires.fits.rules_are
+    c.requires.next in
+    let dec = c.in_ok-decision.ensures.decided in
+    if_err c.carry_out.result (λ fault halts first out at.
+    halts dec.0 dec.2 first out (
+      at.0,
+      at.1,
+      so_far-looks g.W.World.meaning work at.0 course.sched.nodes course.jobs.items course.failure
+          c.args.node dec.0 course.last_shown first
+          (moment (g.W.World.history c.args.world.now) out course.events)
+          (moment (g.W.World.history c.decide_on.new.world) out course.events) at.2 d.undecided may dec.1
+          refl refl,
+    ))
+    c.carry_out.ensures.halted

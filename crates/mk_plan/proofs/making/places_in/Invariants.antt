@@ -1,8 +1,8 @@
-use Rattle.std.proofs.Common.{◌≡◌, ◌++◌, drop}
-use Rattle.mk_plan.specs.Plans as spec
+use Rattle.std.proofs.Common.{◌≡◌, ◌++◌, drop, map, get_or}
 use Rattle.mk_plan.proofs.making.places_in.Given as goal
 
--- the places so far, and those of the other names
-abbrev pub invariant-loop-name : goal.invariant-loop-name
-invariant-loop-name l =
-    spec.places_in l.names l.more ≡ l.places ++ spec.places_in l.names (drop l.name-index l.more)
+-- the places so far, and those of the other nodes
+abbrev pub invariant-loop-n : goal.invariant-loop-n
+invariant-loop-n l =
+    map (λ n. get_or l.places n 0) l.nodes
+    ≡ l.found ++ map (λ n. get_or l.places n 0) (drop l.n-index l.nodes)

@@ -19,7 +19,7 @@ returns-in-Err-clause-lines g c =
     let line = rw l.invariant.facts.lists at (c.in-Err.ensures.line answers by) in
     subst (IsTaskFault (record { line = place + 1; what = c.in-Err.what }))
     (sym (l.invariant.same answers before))
-    (lines_from-fault setting c.args.locals.now c.args.flags.now l.lines (place + 1)
+    (lines_from-fault setting c.args.locals.now c.args.manner l.lines (place + 1)
     (g.F.Facts.asked l.facts) (drop place commands) raw (drop (place + 1) commands) c.in-Err.what are
     line)
 
@@ -36,7 +36,7 @@ loop-place-preserved g c =
           let setting = setting_of c.args.scopes.now (g.F.Facts.lists c.args.facts.now) answers in
           let line = rw l.invariant.facts.lists at (c.in-Ok.ensures.line answers by) in
           rw c.in_ok-push-in-Ok.ensures.ok (l.invariant.same answers before
-          ∙ lines_from-line setting c.args.locals.now c.args.flags.now l.lines (place + 1)
+          ∙ lines_from-line setting c.args.locals.now c.args.manner l.lines (place + 1)
           (g.F.Facts.asked l.facts) (g.F.Facts.asked c.line_of.new.facts) (drop place commands) raw
           (drop (place + 1) commands) c.in-Ok.line are line);
       facts = Asks-then (g.met.F.Facts.goes_on _ _ _) l.invariant.facts
@@ -52,4 +52,4 @@ returns-clause-lines g c =
     λ answers by.
     l.invariant.same answers by ∙ rw none
     (lines_from-end (setting_of c.args.scopes.now (g.F.Facts.lists c.args.facts.now) answers)
-    c.args.locals.now c.args.flags.now l.lines (l.place + 1) (g.F.Facts.asked l.facts))
+    c.args.locals.now c.args.manner l.lines (l.place + 1) (g.F.Facts.asked l.facts))

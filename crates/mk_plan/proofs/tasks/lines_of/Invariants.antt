@@ -9,9 +9,9 @@ use Rattle.mk_plan.proofs.tasks.lines_of.Given as goal
 abbrev pub invariant-loop-place : goal.invariant-loop-place
 invariant-loop-place g l = record {
   same : (answers : Answers) → AnsweredBy answers (g.F.Facts.asked l.facts)
-      → spec.lines_from (setting_of l.scopes (g.F.Facts.lists l.initial.facts) answers) l.locals l.flags
+      → spec.lines_from (setting_of l.scopes (g.F.Facts.lists l.initial.facts) answers) l.locals l.manner
       [] 1 (g.F.Facts.asked l.initial.facts) l.commands
-      ≡ spec.lines_from (setting_of l.scopes (g.F.Facts.lists l.initial.facts) answers) l.locals l.flags
+      ≡ spec.lines_from (setting_of l.scopes (g.F.Facts.lists l.initial.facts) answers) l.locals l.manner
       l.lines (l.place + 1) (g.F.Facts.asked l.facts) (drop l.place l.commands);
   facts : Asks {A = Unit {0}} (g.F.Facts.leads l.initial.facts l.facts)
       (g.F.Facts.lists l.initial.facts) (g.F.Facts.lists l.facts)

@@ -1,0 +1,85 @@
+use Rattle.std.proofs.Common.{◌≡◌, ◌∙◌, ◌||◌, nat_le, true, false, length, refl, sym}
+use Rattle.mk_plan.specs.Deciding.{is_stopped}
+use Rattle.mk_sched.proofs.DecideLemmas.{open_within}
+use Rattle.mk_driver.specs.Builds.{rules_of}
+use Rattle.mk_driver.specs.Makers.{work_of}
+use Rattle.mk_driver.specs.Runs as run
+use Rattle.mk_driver.proofs.EndingLemmas.{behind-ended, going-settled, not-last, not-stopped}
+use Rattle.mk_driver.proofs.JobLemmas.{fits-settled, stopped-there}
+use Rattle.mk_driver.proofs.NodeLemmas.{undecided-same}
+use Rattle.mk_driver.proofs.PieceLemmas.{ok_from, on_ok, if_err}
+use Rattle.mk_driver.proofs.ending.end_line.Goals as goal
+
+pub returns-then-ends_job-clause-goes : goal.returns-then-ends_job-clause-goes
+returns-then-ends_job-clause-goes g c =
+    let work = work_of c.args.maker.now in
+    let course = c.args.course.now in
+    let job = c.args.job in
+    let fine : run.fails (run.line_of job.task.lines job.number) c.args.status ≡ false =
+    rw c.line_at.ensures (sym c.line_fails.ensures ∙ c.if-line_fails.false) in
+    let stops : (nat_le (length job.task.lines) job.number
+    || is_stopped (rules_of work) course.sched.nodes) ≡ true =
+    rw (← stopped-there (rules_of work) course.sched _ _ _ _ _ c.requires.fits)
+    (sym c.ends_job.ensures ∙ c.if-ends_job.true) in
+    λ first out at.
+    going-settled g.W.World.meaning work _ course c.ended.new.self job c.args.status first out
+    c.requires.token.open_now fine stops c.ended.ensures at
+
+pub returns-then-ends_job-clause-fits : goal.returns-then-ends_job-clause-fits
+returns-then-ends_job-clause-fits g c =
+    rw c.ended.ensures (fits-settled _ _ _ _ _ _ _ c.requires.fits c.requires.token)
+
+pub returns-then-ends_job-clause-nodes : goal.returns-then-ends_job-clause-nodes
+returns-then-ends_job-clause-nodes g c =
+    let course = c.args.course.now in
+    rw c.ended.ensures (undecided-same course.sched.nodes c.args.job.node _
+    (open_within course.sched.nodes c.args.job.node c.requires.token.open_now)
+    c.requires.token.open_now refl)
+
+pub run_on-requires-clause-going : goal.run_on-requires-clause-going
+run_on-requires-clause-going g c =
+    let work = work_of c.args.maker.now in
+    let course = c.args.course.now in
+    let job = c.args.job in
+    let goes : (nat_le (length job.task.lines) job.number
+    || is_stopped (rules_of work) course.sched.nodes) ≡ false =
+    rw (← stopped-there (rules_of work) course.sched _ _ _ _ _ c.requires.fits)
+    (sym c.ends_job.ensures ∙ c.if-ends_job.false) in
+    not-stopped (length job.task.lines) job.number _ goes
+
+pub run_on-requires-clause-within : goal.run_on-requires-clause-within
+run_on-requires-clause-within g c = c.requires.line.1.within
+
+pub returns-clause-goes : goal.returns-clause-goes
+returns-clause-goes g c =
+    let work = work_of c.args.maker.now in
+    let course = c.args.course.now in
+    let job = c.args.job in
+    let fine : run.fails (run.line_of job.task.lines job.number) c.args.status ≡ false =
+    rw c.line_at.ensures (sym c.line_fails.ensures ∙ c.if-line_fails.false) in
+    let goes : (nat_le (length job.task.lines) job.number
+    || is_stopped (rules_of work) course.sched.nodes) ≡ false =
+    rw (← stopped-there (rules_of work) course.sched _ _ _ _ _ c.requires.fits)
+    (sym c.ends_job.ensures ∙ c.if-ends_job.false) in
+    on_ok c.run_on.result (λ runs first out at.
+    runs first out (behind-ended g.W.World.meaning work _ course job c.args.status first out fine goes
+    (not-last (length job.task.lines) job.number _ goes) at)) c.run_on.ensures.goes
+
+pub returns-clause-halted : goal.returns-clause-halted
+returns-clause-halted g c =
+    let work = work_of c.args.maker.now in
+    let course = c.args.course.now in
+    let job = c.args.job in
+    let fine : run.fails (run.line_of job.task.lines job.number) c.args.status ≡ false =
+    rw c.line_at.ensures (sym c.line_fails.ensures ∙ c.if-line_fails.false) in
+    let goes : (nat_le (length job.task.lines) job.number
+    || is_stopped (rules_of work) course.sched.nodes) ≡ false =
+    rw (← stopped-there (rules_of work) course.sched _ _ _ _ _ c.requires.fits)
+    (sym c.ends_job.ensures ∙ c.if-ends_job.false) in
+    if_err c.run_on.result (λ fault halts first out at.
+    halts first out (behind-ended g.W.World.meaning work _ course job c.args.status first out fine goes
+    (not-last (length job.task.lines) job.number _ goes) at)) c.run_on.ensures.halted
+
+pub returns-then-line_fails-clause-fits : goal.returns-then-line_fails-clause-fits
+returns-then-line_fails-clause-fits g c =
+    ok_from c.fail_job.result (c.fail_job.ensures.fits _ _ c.requires.fits)

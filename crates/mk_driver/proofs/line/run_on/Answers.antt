@@ -1,0 +1,89 @@
+use Rattle.std.proofs.Common.{◌≡◌, ◌+◌, ◌-◌, ◌≤◌, ℕ, length, sym, subst, arith}
+use Rattle.std.proofs.lemmas.Grind.{common_steps}
+use Rattle.std.proofs.lemmas.Result.{err_from_is_err_and}
+use Rattle.mk_driver.specs.Makers.{work_of}
+use Rattle.mk_driver.specs.Progress.{BehindAt}
+use Rattle.mk_driver.proofs.EndingLemmas.{going-behind}
+use Rattle.mk_driver.proofs.JobLemmas.{fits-settled}
+use Rattle.mk_driver.proofs.PieceLemmas.{on_ok, if_err}
+use Rattle.mk_driver.proofs.line.run_on.Goals as goal
+
+back : (n : ℕ) → n + 1 - 1 ≡ n
+back n = omega arith
+
+pub returns-in_err-passed-clause-halted : goal.returns-in_err-passed-clause-halted
+returns-in_err-passed-clause-halted g c =
+    let p = err_from_is_err_and c.from_residual.result c.from_residual.ensures.1 in
+    let halts = rw c.as_slice.ensures.value at c.in_err-passed.ensures.halted in
+    rw (p.1, p.2) (λ first out at.
+    halts
+    (record {
+      meaning = g.W.World.meaning;
+      work = work_of c.args.maker.now;
+      history = g.W.World.history c.args.world.now;
+      course = c.args.course.now;
+      first = first;
+      out = out;
+    })
+    (record { unstopped = c.requires.going; token = c.requires.token }) at)
+
+pub returns-then-passed-len-clause-goes : goal.returns-then-passed-len-clause-goes
+returns-then-passed-len-clause-goes g c = λ first out at.
+    let behind = rw c.as_slice.ensures.value at c.in_ok-passed.ensures.behind in
+    let none : length c.args.task.lines ≤ c.in_ok-passed.passed = grind (arith, common_steps) in
+    going-behind g.W.World.meaning (work_of c.args.maker.now) _ c.args.course.now c.ended.new.self
+    c.pass_lines.new.events c.args.node c.args.task.lines c.in_ok-passed.passed first out
+    c.requires.token.open_now none c.ended.ensures
+    (behind
+    (record {
+      meaning = g.W.World.meaning;
+      work = work_of c.args.maker.now;
+      history = g.W.World.history c.args.world.now;
+      course = c.args.course.now;
+      first = first;
+      out = out;
+    })
+    (record { unstopped = c.requires.going; token = c.requires.token }) at)
+
+pub returns-then-passed-len-clause-fits : goal.returns-then-passed-len-clause-fits
+returns-then-passed-len-clause-fits g c =
+    rw c.ended.ensures (fits-settled _ _ _ _ _ _ _ c.requires.fits c.requires.token)
+
+pub returns-clause-goes : goal.returns-clause-goes
+returns-clause-goes g c =
+    let behind = rw c.as_slice.ensures.value at c.in_ok-passed.ensures.behind in
+    on_ok c.start_line.result (λ goes first out at.
+    goes first out
+    (subst (λ k. BehindAt g.W.World.meaning (work_of c.args.maker.now)
+    (g.W.World.history c.args.world.now) c.args.course.now c.pass_lines.new.events c.args.node
+    c.args.task.lines k first out) (sym (back c.in_ok-passed.passed))
+    (behind
+    (record {
+      meaning = g.W.World.meaning;
+      work = work_of c.args.maker.now;
+      history = g.W.World.history c.args.world.now;
+      course = c.args.course.now;
+      first = first;
+      out = out;
+    })
+    (record { unstopped = c.requires.going; token = c.requires.token }) at))) c.start_line.ensures.goes
+
+pub returns-clause-halted : goal.returns-clause-halted
+returns-clause-halted g c =
+    let behind = rw c.as_slice.ensures.value at c.in_ok-passed.ensures.behind in
+    if_err c.start_line.result (λ fault halts first out at.
+    halts first out
+    (subst (λ k. BehindAt g.W.World.meaning (work_of c.args.maker.now)
+    (g.W.World.history c.args.world.now) c.args.course.now c.pass_lines.new.events c.args.node
+    c.args.task.lines k first out) (sym (back c.in_ok-passed.passed))
+    (behind
+    (record {
+      meaning = g.W.World.meaning;
+      work = work_of c.args.maker.now;
+      history = g.W.World.history c.args.world.now;
+      course = c.args.course.now;
+      first = first;
+      out = out;
+    })
+    (record { unstopped = c.requires.going; token = c.requires.token }) at)))
+    c.start_line.ensures.halted

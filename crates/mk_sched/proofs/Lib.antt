@@ -1,0 +1,6 @@
+pub mod LeastLemmas
+pub mod CountLemmas
+pub mod DecideLemmas
+pub mod StartLemmas
+pub mod NextRows
+pub mod RunLemmas

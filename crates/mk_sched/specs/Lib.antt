@@ -1,0 +1,5 @@
+pub mod Schedule
+pub mod Next
+pub mod Counts
+pub mod Least
+pub mod Kept
