@@ -1,5 +1,4 @@
--- Options that no run carries out yet: `-j`, `-B`, `-i`, `-k`, `-n`, `-q`, `-s`, `-r`, `-S` and
--- `--generate`.
+-- Options that no run carries out yet: `-n`, `-q`, `-r` and `--generate`.
 use Rattle.std.specs.Prelude.{ℕ, ◌+◌, Bool, true, false, not, ◌&&◌, ◌||◌, List, [], ◌∷◌, drop}
 use Rattle.std.specs.Prelude.{Option, Some, None, Ok, Err, if◌then◌else◌}
 use Rattle.mk_cli.specs.Letters.{letter_of}
@@ -15,12 +14,13 @@ use Rattle.mk_cli.specs.declared.reading.Expected.{Expected}
 use Rattle.mk_cli.specs.declared.reading.Expected.TheVariants.{Any}
 
 abbrev pub is_built_flag : Flag → Bool
-is_built_flag flag.EnvFirst = true
-is_built_flag other = false
+is_built_flag flag.Dry = false
+is_built_flag flag.Query = false
+is_built_flag flag.NoBuiltin = false
+is_built_flag other = true
 
 abbrev pub is_built_argument : Argument → Bool
 is_built_argument takes.Generate = false
-is_built_argument takes.Jobs = false
 is_built_argument other = true
 
 -- One letter, and whether one of those behind it is not built. What stands behind an unknown letter

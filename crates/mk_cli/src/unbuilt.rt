@@ -15,13 +15,13 @@ use mk_bytes::Texts;
 fn is_built_flag(flag: Flag) -> bool
     ensures { result ≡ spec.is_built_flag flag }
 {
-    matches!(flag, Flag::EnvFirst)
+    !matches!(flag, Flag::Dry | Flag::Query | Flag::NoBuiltin)
 }
 
 fn is_built_argument(argument: Argument) -> bool
     ensures { result ≡ spec.is_built_argument argument }
 {
-    !matches!(argument, Argument::Generate | Argument::Jobs)
+    !matches!(argument, Argument::Generate)
 }
 
 // Whether one of the letters of a word is an option that is not built.
@@ -137,8 +137,8 @@ fn behind(place: u32, expected: Expected, word: &[u8]) -> Option<Expected>
 }
 
 /// The place, counted from 0, of the first word that asks for an option that no run carries out
-/// yet: `-j`, `-B`, `-i`, `-k`, `-n`, `-q`, `-s`, `-r`, `-S` or `--generate`. The words are read as
-/// [`words`](crate::words) reads them, up to the first that is refused. Takes no memory.
+/// yet: `-n`, `-q`, `-r` or `--generate`. The words are read as [`words`](crate::words) reads them, up to
+/// the first that is refused. Takes no memory.
 pub fn first_unbuilt(words: &Texts) -> Option<u32>
     ensures { result ≡ spec.first_unbuilt words.now }
 {

@@ -1,7 +1,8 @@
 -- Calls of a reader.
 use Rattle.std.proofs.Common.{◌≡◌, ◌⊎◌, ℕ, List, [], ◌∷◌, ◌++◌, Option, Some, None, Result, Ok, Err}
 use Rattle.std.proofs.Common.{refl, sym, ap, subst, ◌∙◌, inl, inr, arith}
-use Rattle.std.proofs.lemmas.List.{append-nil}
+use Rattle.std.proofs.lemmas.List.{append-nil, map-append}
+use Rattle.mk_blocks.specs.Acts.{Act, wrote}
 use Rattle.mk_blocks.specs.Outcomes.{done, refused}
 use Rattle.mk_blocks.specs.Ties.{Does}
 use Rattle.mk_expand.specs.Facts as expand
@@ -9,24 +10,24 @@ use Rattle.mk_expand.specs.declared.facts.Asked.{Asked}
 use Rattle.mk_expand.specs.declared.fault.ExpandFault.{ExpandFault}
 use Rattle.mk_expand.specs.declared.fault.ExpandFault.TheVariants as expand_fault
 use Rattle.mk_world.specs.Causes.{HasCause}
-use Rattle.mk_world.specs.Runs.{RanAtMost, Same}
+use Rattle.mk_world.specs.Runs.{Same}
 use Rattle.mk_world.specs.Sinks.{Gains, GainsPart}
-use Rattle.mk_world.specs.Talks.{Meaning as WorldMeaning}
 use Rattle.mk_world.specs.Told.{Told}
-use Rattle.mk_world.specs.declared.command.Cmd.{Cmd}
 use Rattle.mk_world.specs.declared.fault.SinkFault.{SinkFault}
 use Rattle.mk_world.specs.declared.fault.SinkFault.TheVariants as sink_fault
 use Rattle.mk_world.specs.declared.fault.WorldFault.{WorldFault}
 use Rattle.mk_world.specs.declared.fault.WorldFault.TheVariants as world_fault
 use Rattle.mk_world.specs.declared.history.History.{History}
-use Rattle.mk_world.proofs.SinkLemmas.{Gains-nothing, GainsPart-more}
+use Rattle.mk_world.proofs.SinkLemmas.{Gains-nothing}
+use Rattle.mk_reader.specs.Acts.{Did, Did-nothing, DidPart-more, DidPart-whole, acts_of, acts_of-append, asked_in, written}
+use Rattle.mk_reader.specs.Leads.{told-none}
 use Rattle.mk_reader.specs.Messages.{said}
 use Rattle.mk_reader.specs.Moments.{Doing, Moment, moment_of}
 use Rattle.mk_reader.specs.Notes.{question_of, questions_in}
-use Rattle.mk_reader.specs.Questions.{Answers, AreAsked, IsAsked, Question}
+use Rattle.mk_reader.specs.Questions.{Answers, AreAsked, IsAsked, Question, cuts_in}
 use Rattle.mk_reader.specs.Refusals.{of_expand, of_world, sorted}
-use Rattle.mk_reader.specs.Ties.{Asks, Cut, Evaluated, GainsPart-whole, Leads, Outer, all_bytes, asks_nothing, ended, idle}
-use Rattle.mk_reader.specs.Ties.{has_answered, no_cause, reader_ties, writes, writes_part}
+use Rattle.mk_reader.specs.Ties.{Evaluated, IsWhole, Leads, Outer, acts_at, did, did_part, ended, has_answered, idle}
+use Rattle.mk_reader.specs.Ties.{no_cause, reader_ties}
 use Rattle.mk_reader.specs.declared.fault.Outside.{Outside}
 use Rattle.mk_reader.specs.declared.fault.Outside.TheVariants as outside
 use Rattle.mk_reader.specs.declared.fault.Refusal.{Refusal}
@@ -38,7 +39,7 @@ use Rattle.mk_reader.specs.declared.note.Note.{Note}
 use Rattle.mk_reader.specs.declared.reader.Reader.{Reader}
 use Rattle.mk_reader.specs.declared.state.State.{State}
 use Rattle.mk_reader.proofs.MomentLemmas.{moment-asked}
-use Rattle.mk_reader.proofs.QuestionLemmas.{told_one}
+use Rattle.mk_reader.proofs.QuestionLemmas.{cuts_in-none, told_nothing, told_one}
 
 -- a fault that the outside does not cause
 abbrev IsOwn : ExpandFault → Type 0
@@ -92,35 +93,6 @@ rose_by {A} fault before after failed cause = record {
   rose = λ is. cause.rose (err_of A fault failed);
 }
 
-any_cmd : Cmd
-any_cmd = record { text = []; cwd = []; exports = [] }
-
--- a command that was not answered, if there was one
-abbrev pub Unanswered : WorldMeaning → Type 0 → Option History → Option History → Type 0
-Unanswered meaning idle before after =
-    idle → Told before after (λ old new. (cmd : Cmd) × RanAtMost meaning cmd old new)
-
-pub unanswered-same : (meaning : WorldMeaning) (idle : Type 0) (before after : Option History)
-    → (idle → Told before after Same) → Unanswered meaning idle before after
-unanswered-same meaning idle before after same = λ is. from before after (same is)
-  where
-    from : (before after : Option History) → Told before after Same
-        → Told before after (λ old new. (cmd : Cmd) × RanAtMost meaning cmd old new)
-    from before None told = tt
-    from None (Some new) told = absurd told
-    from (Some old) (Some new) told = (any_cmd, inl told)
-
-pub unanswered-ran : (meaning : WorldMeaning) (idle : Type 0) (before after : Option History)
-    (cmd : Cmd)
-    → (idle → Told before after (RanAtMost meaning cmd)) → Unanswered meaning idle before after
-unanswered-ran meaning idle before after cmd ran = λ is. from before after (ran is)
-  where
-    from : (before after : Option History) → Told before after (RanAtMost meaning cmd)
-        → Told before after (λ old new. (cmd : Cmd) × RanAtMost meaning cmd old new)
-    from before None told = tt
-    from None (Some new) told = absurd told
-    from (Some old) (Some new) told = (cmd, told)
-
 -- a call of the world that went well
 pub world-cause : {C : Type 0} (given : C) (before after : ℕ)
     → HasCause world_fault.Failed before after (Ok given)
@@ -131,6 +103,21 @@ world-cause given before after cause = record {
   rose = λ is. absurd cc;
 }
 
+-- how the outside failed in a call of the world
+outside_of : WorldFault → Outside
+outside_of world_fault.Failed = outside.World
+outside_of world_fault.NoMemory = outside.NoMemory
+
+of_world-failed : (fault : WorldFault) → Failed (outside_of fault) ≡ of_world fault
+unfolding outside_of
+of_world-failed world_fault.Failed = refl
+of_world-failed world_fault.NoMemory = refl
+
+no_sink : (fault : WorldFault) → Some (outside_of fault) ≡ Some outside.Sink → ⊥
+unfolding outside_of
+no_sink world_fault.Failed is = absurd cc
+no_sink world_fault.NoMemory is = absurd cc
+
 -- what a call gives of a whole definition
 abbrev pub Given : {W S A B : Type 0} → Outer W S → Reader W S → Reader W S → (A → B)
     → Result A Refusal → (Answers → Doing B) → Type 0
@@ -139,35 +126,91 @@ Given o x y view answer whole =
     (λ answers found. done (view found, moment_of y.state.now y.order.now)) answer whole
 
 module _ {W S : Type 0} (o : Outer W S) where
-  pub nothing_written : (x y : Reader W S) → y.err.now ≡ x.err.now → writes o x y []
-  nothing_written x y same =
-      subst (λ s. Gains (o.held x.err.now) (o.held s) []) (sym same)
-      (Gains-nothing (o.held x.err.now))
+  -- only questions of `exists` were asked, and nothing was written
+  did_nothing : (x y : Reader W S) → y.err.now ≡ x.err.now → acts_at o y ≡ acts_at o x
+      → did o x y []
+  did_nothing x y same asked =
+      subst (λ s. Did (o.held x.err.now) (o.held s) (acts_at o x) (acts_at o y) []) (sym same)
+      (subst (λ l. Did (o.held x.err.now) (o.held x.err.now) (acts_at o x) l []) (sym asked)
+      (Did-nothing (o.held x.err.now) (acts_at o x)))
 
-  part_written : (x y : Reader W S) (messages : List (List ℕ)) → y.err.now ≡ x.err.now
-      → writes_part o x y messages
-  part_written x y messages same =
-      GainsPart-more (o.held x.err.now) (o.held y.err.now) [] (all_bytes messages)
-      (GainsPart-whole (o.held x.err.now) (o.held y.err.now) [] (nothing_written x y same))
+  pub nothing_done : (x y : Reader W S) → y.err.now ≡ x.err.now
+      → y.state.now.notes.items ≡ x.state.now.notes.items → did o x y []
+  nothing_done x y same noted = did_nothing x y same (ap (λ l. acts_of (questions_in l)) noted)
+
+  -- an act of asking was done, and nothing was written
+  acts-noted : (x y : Reader W S) (note : Note)
+      → y.state.now.notes.items ≡ x.state.now.notes.items ++ note ∷ []
+      → acts_at o y ≡ acts_at o x ++ acts_of (question_of note ∷ [])
+  acts-noted x y note noted =
+      ap (λ l. acts_of (questions_in l)) noted
+      ∙ ap acts_of (map-append question_of x.state.now.notes.items (note ∷ []))
+      ∙ acts_of-append (questions_in x.state.now.notes.items) (question_of note ∷ [])
+
+  asked_done : (x y : Reader W S) (note : Note) (acts : List Act) → y.err.now ≡ x.err.now
+      → y.state.now.notes.items ≡ x.state.now.notes.items ++ note ∷ []
+      → acts_of (question_of note ∷ []) ≡ asked_in acts → written acts ≡ []
+      → did o x y acts
+  asked_done x y note acts same noted asks silent = record {
+    gains =
+        subst (λ s. Gains (o.held x.err.now) (o.held s) (written acts)) (sym same)
+        (subst (Gains (o.held x.err.now) (o.held x.err.now)) (sym silent)
+        (Gains-nothing (o.held x.err.now)));
+    asks = acts-noted x y note noted ∙ ap (λ l. acts_at o x ++ l) asks;
+  }
+
+  -- a first part of anything was done where nothing was
+  part_done : (x y : Reader W S) (acts : List Act) → did o x y [] → did_part o x y acts
+  part_done x y acts nothing =
+      DidPart-more (o.held x.err.now) (o.held y.err.now) (acts_at o x) (acts_at o y) [] acts
+      (DidPart-whole (o.held x.err.now) (o.held y.err.now) (acts_at o x) (acts_at o y) [] nothing)
+
+  -- an answer behind these acts
+  pub gave-given : {A B : Type 0} (x y : Reader W S) (view : A → B) (whole : Answers → Doing B)
+      (acts : List Act) → did o x y acts → (found : A) → Leads o None x y
+      → ((answers : Answers) → has_answered o answers y
+      → whole answers
+      ≡ record { acts = acts; answer = Ok (view found, moment_of y.state.now y.order.now) })
+      → Given o x y view (Ok found) whole
+  gave-given x y view whole acts done found leads is = record {
+    leads = leads;
+    gives = λ answers by. record {
+      acts = acts;
+      did = done;
+      is = is answers by
+          ∙ ap (λ (l : List Act). record {
+            acts = l;
+            answer = Ok (view found, moment_of y.state.now y.order.now);
+          }) (sym (append-nil acts));
+    };
+  }
+
+  -- an answer to one question
+  pub gave-asked : {A B : Type 0} (x y : Reader W S) (view : A → B) (whole : Answers → Doing B)
+      (acts : List Act) (note : Note) → y.err.now ≡ x.err.now
+      → y.state.now.notes.items ≡ x.state.now.notes.items ++ note ∷ []
+      → acts_of (question_of note ∷ []) ≡ asked_in acts → written acts ≡ []
+      → (found : A) → Leads o None x y
+      → ((answers : Answers) → has_answered o answers y
+      → whole answers
+      ≡ record { acts = acts; answer = Ok (view found, moment_of y.state.now y.order.now) })
+      → Given o x y view (Ok found) whole
+  gave-asked x y view whole acts note same noted asks silent found leads is =
+      gave-given x y view whole acts (asked_done x y note acts same noted asks silent) found leads is
+
+  -- a failure of the outside behind a first part of the acts
+  pub gave-failed : {A B : Type 0} (x y : Reader W S) (view : A → B) (whole : Answers → Doing B)
+      (failure : Outside) → Leads o (Some failure) x y
+      → ((answers : Answers) → did_part o x y (whole answers).acts)
+      → Given o x y view (Err (Failed failure)) whole
+  gave-failed x y view whole failure leads part = record {
+    leads = leads;
+    gives = λ answers by. part answers;
+  }
 
   module _ {A B : Type 0} (x y : Reader W S) (view : A → B) (whole : Answers → Doing B)
-      (same : y.err.now ≡ x.err.now)
+      (nothing : did o x y [])
     where
-      -- an answer without a message
-      pub gave-given : (found : A) → Leads o None x y
-          → ((answers : Answers) → has_answered o answers y
-          → whole answers
-          ≡ done (view found, moment_of y.state.now y.order.now))
-          → Given o x y view (Ok found) whole
-      gave-given found leads is = record {
-        leads = leads;
-        gives = λ answers by. record {
-          messages = [];
-          written = nothing_written x y same;
-          is = is answers by;
-        };
-      }
-
       -- a fault of the definition
       pub gave-wrong : (what : What) → Leads o None x y
           → ((answers : Answers) → has_answered o answers y
@@ -175,44 +218,23 @@ module _ {W S : Type 0} (o : Outer W S) where
           → Given o x y view (Err (Wrong what)) whole
       gave-wrong what leads is = record {
         leads = leads;
-        gives = λ answers by. record {
-          messages = [];
-          written = nothing_written x y same;
-          is = is answers by;
-        };
+        gives = λ answers by. record { acts = []; did = nothing; is = is answers by };
       }
 
       -- want of memory
       pub gave-want : Leads o None x y → Given o x y view (Err NoMemory) whole
       gave-want leads = record {
         leads = leads;
-        gives = λ answers by.
-            part_written x y (whole answers).messages same;
-      }
-
-      -- a failure of the outside
-      pub gave-failed : (failure : Outside) → Leads o (Some failure) x y
-          → Given o x y view (Err (Failed failure)) whole
-      gave-failed failure leads = record {
-        leads = leads;
-        gives = λ answers by.
-            part_written x y (whole answers).messages same;
+        gives = λ answers by. part_done x y (whole answers).acts nothing;
       }
 
   -- Evaluations
 
-  uncut : (failure : Option Outside) (history : History) → Cut o.meaning failure history history
-  uncut None history = refl
-  uncut (Some outside.Sink) history = refl
-  uncut (Some outside.World) history = (any_cmd, inl (record { base = refl; events = refl }))
-  uncut (Some outside.NoMemory) history = (any_cmd, inl (record { base = refl; events = refl }))
-
-  pub asks_whole : (failure : Option Outside) (before after : Option History)
-      (questions : List Question) → Told before after (AreAsked o.meaning questions)
-      → Told before after (Asks o.meaning failure questions)
-  asks_whole failure before None questions asked = tt
-  asks_whole failure None (Some new) questions asked = absurd asked
-  asks_whole failure (Some old) (Some new) questions asked = (new, asked, uncut failure new)
+  -- where all commands were answered, no failure is needed
+  pub whole_anyway : (failure : Option Outside) (questions : List Question)
+      → cuts_in questions ≡ [] → IsWhole failure questions
+  whole_anyway None questions none = none
+  whole_anyway (Some failure) questions none = tt
 
   -- the same references to the same outside, and the same order
   pub record Stays (x y : Reader W S) : Type 0 where
@@ -266,20 +288,29 @@ module _ {W S : Type 0} (o : Outer W S) where
         order = stays.order;
         more = evaluated.led.more;
         noted = evaluated.led.added;
-        told = λ is.
-            asks_whole failure (o.history x.world.now) (o.history y.world.now)
-            (questions_in evaluated.led.more) (evaluated.led.told is);
+        told = evaluated.led.told;
+        whole = whole_anyway failure (questions_in evaluated.led.more)
+            (cuts_in-none (questions_in evaluated.led.more) evaluated.led.no_act);
         stays_idle = evaluated.stays_idle;
         world_cause = cause;
         sink_cause = no_loss failure x y stays.same none;
       }
+
+      nothing : (answer : Result A ExpandFault) → Evaluates answer → did o x y []
+      nothing answer evaluated =
+          did_nothing x y stays.same
+          (ap (λ l. acts_of (questions_in l)) evaluated.led.added
+          ∙ ap acts_of (map-append question_of x.state.now.notes.items evaluated.led.more)
+          ∙ acts_of-append (questions_in x.state.now.notes.items)
+          (questions_in evaluated.led.more)
+          ∙ ap (λ l. acts_at o x ++ l) evaluated.led.no_act ∙ append-nil (acts_at o x))
 
       pub gave-evaluated : (found : A) → Evaluates (Ok found)
           → HasCause expand_fault.Failed (o.faults x.world.now) (o.faults y.world.now)
           (Ok found)
           → Given o x y view (Ok found) whole
       gave-evaluated found evaluated cause =
-          gave-given x y view whole stays.same found
+          gave-given x y view whole [] (nothing (Ok found) evaluated) found
           (leads-evaluated (Ok found) None evaluated
           (no_rise-ok found (o.faults x.world.now) (o.faults y.world.now) cause) (λ none. absurd cc))
           (λ answers by. is answers
@@ -288,14 +319,14 @@ module _ {W S : Type 0} (o : Outer W S) where
           ∙ ap (λ (m : Moment). done (view found, m))
           (moment-asked x.state.now y.state.now x.order.now y.order.now evaluated.led.more
           evaluated.made evaluated.in_group stays.order evaluated.led.added
-          evaluated.led.no_reading evaluated.led.no_running))
+          evaluated.led.no_act))
 
       own_fault : (fault : ExpandFault) → IsOwn fault → Evaluates (Err fault)
           → HasCause {T = A} expand_fault.Failed (o.faults x.world.now)
           (o.faults y.world.now) (Err fault)
           → Given o x y view (Err (Wrong (Expand fault))) whole
       own_fault fault own evaluated cause =
-          gave-wrong x y view whole stays.same (Expand fault)
+          gave-wrong x y view whole (nothing (Err fault) evaluated) (Expand fault)
           (leads-evaluated (Err fault) None evaluated
           (no_rise-err fault (o.faults x.world.now) (o.faults y.world.now) own.1 cause)
           (λ none. absurd cc))
@@ -309,17 +340,18 @@ module _ {W S : Type 0} (o : Outer W S) where
           → Given o x y view (Err (of_expand fault)) whole
       by_sort fault (inl want) evaluated cause =
           subst (λ (r : Refusal). Given o x y view (Err r) whole) (sym (ap of_expand want))
-          (gave-want x y view whole stays.same
+          (gave-want x y view whole (nothing (Err fault) evaluated)
           (leads-evaluated (Err fault) None evaluated
           (no_rise-err fault (o.faults x.world.now) (o.faults y.world.now)
           (λ failed. let never = sym want ∙ failed in absurd cc) cause)
           (λ none. absurd cc)))
       by_sort fault (inr (inl failed)) evaluated cause =
           subst (λ (r : Refusal). Given o x y view (Err r) whole) (sym (ap of_expand failed))
-          (gave-failed x y view whole stays.same outside.World
+          (gave-failed x y view whole outside.World
           (leads-evaluated (Err fault) (Some outside.World) evaluated
           (rose_by fault (o.faults x.world.now) (o.faults y.world.now) failed cause)
-          (λ none. absurd cc)))
+          (λ none. absurd cc))
+          (λ answers. part_done x y (whole answers).acts (nothing (Err fault) evaluated)))
       by_sort fault (inr (inr own)) evaluated cause =
           subst (λ (r : Refusal). Given o x y view (Err r) whole) (sym own.0)
           (own_fault fault own.1 evaluated cause)
@@ -331,15 +363,6 @@ module _ {W S : Type 0} (o : Outer W S) where
       gave-fault fault evaluated cause = by_sort fault (sort_of fault) evaluated cause
 
   -- Calls of the world
-
-  asks_unanswered : (failure : Option Outside) (before after : Option History)
-      → ((old new : History) → (cmd : Cmd) × RanAtMost o.meaning cmd old new
-      → Cut o.meaning failure old new)
-      → Told before after (λ old new. (cmd : Cmd) × RanAtMost o.meaning cmd old new)
-      → Told before after (Asks o.meaning failure [])
-  asks_unanswered failure before None cut told = tt
-  asks_unanswered failure None (Some new) cut told = absurd told
-  asks_unanswered failure (Some old) (Some new) cut told = (old, refl, cut old new told)
 
   module _ (x y : Reader W S) (stays : Stays x y) where
     -- nothing was asked
@@ -353,8 +376,9 @@ module _ {W S : Type 0} (o : Outer W S) where
       more = [];
       noted = noted ∙ sym (append-nil x.state.now.notes.items);
       told = λ is.
-          subst (λ w. Told (o.history x.world.now) (o.history w) (Asks o.meaning None []))
-          (sym world) (asks_nothing o.meaning (o.history x.world.now));
+          subst (λ w. Told (o.history x.world.now) (o.history w) (AreAsked o.meaning []))
+          (sym world) (told-none o.meaning (o.history x.world.now));
+      whole = refl;
       stays_idle = λ is. subst (λ w. o.runs w []) (sym world) is;
       world_cause =
           subst (λ w. HasCause outside.World (o.faults x.world.now) (o.faults w) (ended None))
@@ -362,39 +386,17 @@ module _ {W S : Type 0} (o : Outer W S) where
       sink_cause = no_loss None x y stays.same (λ none. absurd cc);
     }
 
-    leads-unanswered : (failure : Option Outside)
-        → y.state.now.notes.items ≡ x.state.now.notes.items
-        → ((old new : History) → (cmd : Cmd) × RanAtMost o.meaning cmd old new
-        → Cut o.meaning failure old new)
-        → Unanswered o.meaning (idle o x) (o.history x.world.now) (o.history y.world.now)
+    -- one question was asked, which may have been cut off where the outside failed
+    leads-asked : (failure : Option Outside) (note : Note)
+        → y.state.now.notes.items ≡ x.state.now.notes.items ++ note ∷ []
+        → (idle o x → Told (o.history x.world.now) (o.history y.world.now)
+        (IsAsked o.meaning (question_of note)))
+        → IsWhole failure (questions_in (note ∷ []))
         → (idle o x → idle o y)
         → HasCause outside.World (o.faults x.world.now) (o.faults y.world.now) (ended failure)
         → (failure ≡ Some outside.Sink → ⊥)
         → Leads o failure x y
-    leads-unanswered failure noted cut unanswered stays_idle cause none = record {
-      world = stays.world;
-      err = stays.err;
-      state = stays.state;
-      order = stays.order;
-      more = [];
-      noted = noted ∙ sym (append-nil x.state.now.notes.items);
-      told = λ is.
-          asks_unanswered failure (o.history x.world.now) (o.history y.world.now) cut
-          (unanswered is);
-      stays_idle = stays_idle;
-      world_cause = cause;
-      sink_cause = no_loss failure x y stays.same none;
-    }
-
-    -- one question was asked
-    pub leads-noted : (note : Note)
-        → y.state.now.notes.items ≡ x.state.now.notes.items ++ note ∷ []
-        → (idle o x → Told (o.history x.world.now) (o.history y.world.now)
-        (IsAsked o.meaning (question_of note)))
-        → (idle o x → idle o y)
-        → HasCause outside.World (o.faults x.world.now) (o.faults y.world.now) (ended None)
-        → Leads o None x y
-    leads-noted note noted asked stays_idle cause = record {
+    leads-asked failure note noted asked whole stays_idle cause none = record {
       world = stays.world;
       err = stays.err;
       state = stays.state;
@@ -402,44 +404,102 @@ module _ {W S : Type 0} (o : Outer W S) where
       more = note ∷ [];
       noted = noted;
       told = λ is.
-          asks_whole None (o.history x.world.now) (o.history y.world.now)
-          (questions_in (note ∷ []))
-          (told_one o.meaning (question_of note) (o.history x.world.now)
-          (o.history y.world.now) (asked is));
+          told_one o.meaning (question_of note) (o.history x.world.now)
+          (o.history y.world.now) (asked is);
+      whole = whole;
       stays_idle = stays_idle;
       world_cause = cause;
-      sink_cause = no_loss None x y stays.same (λ none. absurd cc);
+      sink_cause = no_loss failure x y stays.same none;
     }
 
-    -- a refused call of the world
-    pub gave-unanswered : {A B C : Type 0} (view : A → B) (whole : Answers → Doing B)
+    pub leads-noted : (note : Note)
+        → y.state.now.notes.items ≡ x.state.now.notes.items ++ note ∷ []
+        → (idle o x → Told (o.history x.world.now) (o.history y.world.now)
+        (IsAsked o.meaning (question_of note)))
+        → IsWhole None (questions_in (note ∷ []))
+        → (idle o x → idle o y)
+        → HasCause outside.World (o.faults x.world.now) (o.faults y.world.now) (ended None)
+        → Leads o None x y
+    leads-noted note noted asked whole stays_idle cause =
+        leads-asked None note noted asked whole stays_idle cause (λ none. absurd cc)
+
+    -- a file that could not be read
+    leads-unread : (failure : Outside)
+        → y.state.now.notes.items ≡ x.state.now.notes.items
+        → (idle o x → Told (o.history x.world.now) (o.history y.world.now) Same)
+        → (idle o x → idle o y)
+        → HasCause outside.World (o.faults x.world.now) (o.faults y.world.now)
+        (ended (Some failure))
+        → (Some failure ≡ Some outside.Sink → ⊥)
+        → Leads o (Some failure) x y
+    leads-unread failure noted same stays_idle cause none = record {
+      world = stays.world;
+      err = stays.err;
+      state = stays.state;
+      order = stays.order;
+      more = [];
+      noted = noted ∙ sym (append-nil x.state.now.notes.items);
+      told = λ is.
+          told_nothing o.meaning (o.history x.world.now) (o.history y.world.now) (same is);
+      whole = tt;
+      stays_idle = stays_idle;
+      world_cause = cause;
+      sink_cause = no_loss (Some failure) x y stays.same none;
+    }
+
+    cause_in : {C : Type 0} (fault : WorldFault) → HasCause {T = C} world_fault.Failed
+        (o.faults x.world.now) (o.faults y.world.now) (Err fault)
+        → HasCause outside.World (o.faults x.world.now) (o.faults y.world.now)
+        (ended (Some (outside_of fault)))
+    unfolding outside_of
+    cause_in world_fault.Failed cause =
+        record { kept = cause.kept; answered = λ rose. refl; rose = λ is. cause.rose refl }
+    cause_in world_fault.NoMemory cause = record {
+      kept = cause.kept;
+      answered = λ rose. let is = cause.answered rose in absurd cc;
+      rose = λ is. absurd cc;
+    }
+
+    -- a file was not read
+    pub gave-unread : {A B C : Type 0} (view : A → B) (whole : Answers → Doing B)
         (fault : WorldFault)
         → y.state.now.notes.items ≡ x.state.now.notes.items
-        → Unanswered o.meaning (idle o x) (o.history x.world.now) (o.history y.world.now)
+        → (idle o x → Told (o.history x.world.now) (o.history y.world.now) Same)
         → (idle o x → idle o y)
         → HasCause {T = C} world_fault.Failed (o.faults x.world.now) (o.faults y.world.now)
         (Err fault)
         → Given o x y view (Err (of_world fault)) whole
-    gave-unanswered view whole world_fault.Failed noted unanswered stays_idle cause =
-        gave-failed x y view whole stays.same outside.World
-        (leads-unanswered (Some outside.World) noted (λ old new cut. cut) unanswered stays_idle
-        (record { kept = cause.kept; answered = λ rose. refl; rose = λ is. cause.rose refl })
-        (λ none. absurd cc))
-    gave-unanswered view whole world_fault.NoMemory noted unanswered stays_idle cause =
-        gave-failed x y view whole stays.same outside.NoMemory
-        (leads-unanswered (Some outside.NoMemory) noted (λ old new cut. cut) unanswered stays_idle
-        (record {
-          kept = cause.kept;
-          answered = λ rose. let is = cause.answered rose in absurd cc;
-          rose = λ is. absurd cc;
-        })
-        (λ none. absurd cc))
+    gave-unread view whole fault noted same stays_idle cause =
+        subst (λ (r : Refusal). Given o x y view (Err r) whole) (of_world-failed fault)
+        (gave-failed x y view whole (outside_of fault)
+        (leads-unread (outside_of fault) noted same stays_idle (cause_in fault cause)
+        (no_sink fault))
+        (λ answers. part_done x y (whole answers).acts (nothing_done x y stays.same noted)))
+
+    -- a command was not answered
+    pub gave-cut_off : {A B C : Type 0} (view : A → B) (whole : Answers → Doing B)
+        (fault : WorldFault) (note : Note) (act : Act) (more : Answers → List Act)
+        → y.state.now.notes.items ≡ x.state.now.notes.items ++ note ∷ []
+        → acts_of (question_of note ∷ []) ≡ asked_in (act ∷ []) → written (act ∷ []) ≡ []
+        → ((answers : Answers) → (whole answers).acts ≡ act ∷ more answers)
+        → (idle o x → Told (o.history x.world.now) (o.history y.world.now)
+        (IsAsked o.meaning (question_of note)))
+        → (idle o x → idle o y)
+        → HasCause {T = C} world_fault.Failed (o.faults x.world.now) (o.faults y.world.now)
+        (Err fault)
+        → Given o x y view (Err (of_world fault)) whole
+    gave-cut_off view whole fault note act more noted asks silent is asked stays_idle cause =
+        subst (λ (r : Refusal). Given o x y view (Err r) whole) (of_world-failed fault)
+        (gave-failed x y view whole (outside_of fault)
+        (leads-asked (Some (outside_of fault)) note noted asked tt stays_idle
+        (cause_in fault cause) (no_sink fault))
+        (λ answers. subst (did_part o x y) (sym (is answers))
+        (DidPart-more (o.held x.err.now) (o.held y.err.now) (acts_at o x) (acts_at o y)
+        (act ∷ []) (more answers)
+        (DidPart-whole (o.held x.err.now) (o.held y.err.now) (acts_at o x) (acts_at o y)
+        (act ∷ []) (asked_done x y note (act ∷ []) stays.same noted asks silent)))))
 
   -- Messages
-
-  told_nothing : (told : Option History) → Told told told (AreAsked o.meaning [])
-  told_nothing None = tt
-  told_nothing (Some history) = refl
 
   module _ (x y : Reader W S) (world : y.world.ghost_name ≡ x.world.ghost_name)
       (err : y.err.ghost_name ≡ x.err.ghost_name) (state : y.state.ghost_name ≡ x.state.ghost_name)
@@ -460,16 +520,20 @@ module _ {W S : Type 0} (o : Outer W S) where
         noted = ap (λ (s : State). s.notes.items) unchanged
             ∙ sym (append-nil x.state.now.notes.items);
         told = λ is.
-            subst (λ w. Told (o.history x.world.now) (o.history w) (Asks o.meaning failure []))
-            (sym same)
-            (asks_whole failure (o.history x.world.now) (o.history x.world.now) []
-            (told_nothing (o.history x.world.now)));
+            subst (λ w. Told (o.history x.world.now) (o.history w) (AreAsked o.meaning []))
+            (sym same) (told-none o.meaning (o.history x.world.now));
+        whole = whole_anyway failure [] refl;
         stays_idle = λ is. subst (λ w. o.runs w []) (sym same) is;
         world_cause =
             subst (λ w. HasCause outside.World (o.faults x.world.now) (o.faults w) (ended failure))
             (sym same) (no_rise outside.World failure (o.faults x.world.now) none);
         sink_cause = cause;
       }
+
+      asked_as_before : acts_at o y ≡ acts_at o x ++ []
+      asked_as_before =
+          ap (λ (s : State). acts_of (questions_in s.notes.items)) unchanged
+          ∙ sym (append-nil (acts_at o x))
 
       -- a message was written
       pub gave-said : (done : Unit {0}) → Gains (o.held x.err.now) (o.held y.err.now) line
@@ -483,8 +547,12 @@ module _ {W S : Type 0} (o : Outer W S) where
               rose = λ is. absurd cc;
             });
         gives = λ answers by. record {
-          messages = line ∷ [];
-          written = subst (Gains (o.held x.err.now) (o.held y.err.now)) (sym (append-nil line)) gains;
+          acts = wrote line ∷ [];
+          did = record {
+            gains =
+                subst (Gains (o.held x.err.now) (o.held y.err.now)) (sym (append-nil line)) gains;
+            asks = asked_as_before;
+          };
           is = is answers
               ∙ rw (← unchanged, ← order) refl;
         };
@@ -503,7 +571,14 @@ module _ {W S : Type 0} (o : Outer W S) where
               rose = λ is. cause.rose refl;
             });
         gives = λ answers by.
-            subst (λ (ms : List (List ℕ)). writes_part o x y ms)
-            (sym (ap (λ (w : Doing (Unit {0})). w.messages) (is answers)))
-            (subst (GainsPart (o.held x.err.now) (o.held y.err.now)) (sym (append-nil line)) part);
+            subst (λ (acts : List Act). did_part o x y acts)
+            (sym (ap (λ (w : Doing (Unit {0})). w.acts) (is answers)))
+            (record {
+              gains = subst (GainsPart (o.held x.err.now) (o.held y.err.now))
+                  (sym (append-nil line)) part;
+              part = [];
+              rest = [];
+              whole = refl;
+              asks = asked_as_before;
+            });
       }

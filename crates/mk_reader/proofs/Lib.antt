@@ -1,12 +1,17 @@
 mod CondLemmas
+mod DependencyLemmas
 mod FileLemmas
+mod FirstLemmas
 mod GaveLemmas
 mod LineLemmas
+mod ListLemmas
+mod ModeLemmas
 mod MomentLemmas
 mod QuestionLemmas
 mod ReadByLemmas
 mod ReadLemmas
 mod Rows
+mod SemicolonLemmas
 mod SignLemmas
 mod StepLemmas
 mod TieLemmas

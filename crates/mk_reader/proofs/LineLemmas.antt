@@ -1,5 +1,5 @@
 -- What single lines do, by cases.
-use Rattle.std.proofs.Common.{◌≡◌, ◌⊎◌, ℕ, ◌==◌, ◌%◌, length, true, false, is_some, List, [], ◌∷◌, Option, Some, None}
+use Rattle.std.proofs.Common.{◌≡◌, ◌⊎◌, ℕ, ◌==◌, ◌%◌, length, true, false, List, [], ◌∷◌}
 use Rattle.std.proofs.Common.{Result, Ok, Err, inl, inr, refl, arith}
 use Rattle.std.proofs.lemmas.Bool.Decides.{nat_tests}
 use Rattle.mk_blocks.specs.Outcomes.{done, refused}
@@ -10,33 +10,13 @@ use Rattle.mk_cond.specs.declared.fault.CondFault.{CondFault}
 use Rattle.mk_cond.specs.declared.fault.CondFault.TheVariants as cond
 use Rattle.mk_ast.specs.declared.fault.AstFault.TheVariants as ast
 use Rattle.mk_directive.specs.Directives.{directive_on}
-use Rattle.mk_graph.specs.declared.Rule.{Rule}
 use Rattle.mk_reader.specs.Blocks.{IsDivided, cond_what, divided, judged}
 use Rattle.mk_reader.specs.Moments.{Moment, stands}
 use Rattle.mk_reader.specs.Questions.{Answers}
 use Rattle.mk_reader.specs.Refusals.{of_cond}
-use Rattle.mk_reader.specs.Steps.{by_directive, plain_read, ruled, with_rule}
+use Rattle.mk_reader.specs.Steps.{by_directive, plain_read}
 use Rattle.mk_reader.specs.declared.fault.Refusal.TheVariants.{Wrong, NoMemory}
 use Rattle.mk_reader.specs.declared.fault.What.{What}
-use Rattle.mk_reader.specs.declared.fault.What.TheVariants.{Unbuilt}
-
--- a second rule
-pub ruled-second : (before here : Option Rule) (s : Moment) → is_some before ≡ true
-    → ruled before here s ≡ refused Unbuilt
-ruled-second None here s some = absurd cc
-ruled-second (Some rule) here s some = refl
-
--- a line that is no rule
-pub ruled-none : (before here : Option Rule) (s : Moment) → here ≡ None
-    → ruled before here s ≡ refused Unbuilt
-ruled-none None here s none = rw none refl
-ruled-none (Some rule) here s none = refl
-
-pub ruled-first : (before here : Option Rule) (s : Moment) (rule : Rule)
-    → is_some before ≡ false → here ≡ Some rule
-    → ruled before here s ≡ stands (with_rule s rule)
-ruled-first None here s rule none is = rw is refl
-ruled-first (Some other) here s rule none is = absurd cc
 
 -- a line that is nothing
 pub plain_read-none : (answers : Answers) (file : List ℕ) (number : ℕ) (line : List ℕ) (s : Moment)

@@ -2,17 +2,19 @@
 use Rattle.std.proofs.Common.{◌≡◌, ℕ, ◌+◌, List, [], ◌∷◌, ◌++◌, length, Option, Some, slice_get, refl, sym, ap, ◌∙◌, arith}
 use Rattle.std.proofs.lemmas.Grind.{common_steps}
 use Rattle.std.proofs.lemmas.List.{append-nil, map-append}
-use Rattle.mk_blocks.specs.Outcomes.{done}
+use Rattle.mk_blocks.specs.Acts.{Act, looked, ran}
 use Rattle.mk_cli.specs.declared.order.Order.{Order}
 use Rattle.mk_world.specs.declared.step.Ended.{Ended}
+use Rattle.mk_reader.specs.Acts.{acts_of}
 use Rattle.mk_reader.specs.Moments.{Moment, moment_of}
 use Rattle.mk_reader.specs.Notes.{asked_by, question_of, questions_in}
 use Rattle.mk_reader.specs.Questions.{Answered, Answers, Reading, Running, bytes_of, output_of, readings_in, runnings_in}
 use Rattle.mk_reader.specs.Questions.{times_in}
 use Rattle.mk_reader.specs.Questions.{readings_in-append, runnings_in-append, times_in-append}
-use Rattle.mk_reader.specs.Values.{command_at, contents, output}
+use Rattle.mk_reader.specs.Values.{asking, command_at, contents, output}
 use Rattle.mk_reader.specs.declared.note.Note.{Note}
 use Rattle.mk_reader.specs.declared.state.State.{State}
+use Rattle.mk_reader.proofs.QuestionLemmas.{readings_in-none, runnings_in-none}
 
 readings-more : (notes more : List Note)
     → readings_in (questions_in (notes ++ more))
@@ -42,15 +44,17 @@ length-last before one = grind (arith, common_steps)
 pub moment-asked : (s t : State) (a b : Order) (more : List Note)
     → t.made ≡ s.made → t.in_group ≡ s.in_group → b ≡ a
     → t.notes.items ≡ s.notes.items ++ more
-    → readings_in (questions_in more) ≡ [] → runnings_in (questions_in more) ≡ []
+    → acts_of (questions_in more) ≡ []
     → record (moment_of s a) { asked = asked_by t.notes.items } ≡ moment_of t b
-moment-asked s t a b more made in_group order added no_reading no_running =
+moment-asked s t a b more made in_group order added none =
     let read : readings_in (questions_in t.notes.items) ≡ readings_in (questions_in s.notes.items) =
     ap (λ l. readings_in (questions_in l)) added ∙ readings-more s.notes.items more
-    ∙ ap (λ l. readings_in (questions_in s.notes.items) ++ l) no_reading ∙ append-nil _ in
+    ∙ ap (λ l. readings_in (questions_in s.notes.items) ++ l) (readings_in-none (questions_in more) none)
+    ∙ append-nil _ in
     let ran : runnings_in (questions_in t.notes.items) ≡ runnings_in (questions_in s.notes.items) =
     ap (λ l. runnings_in (questions_in l)) added ∙ runnings-more s.notes.items more
-    ∙ ap (λ l. runnings_in (questions_in s.notes.items) ++ l) no_running ∙ append-nil _ in
+    ∙ ap (λ l. runnings_in (questions_in s.notes.items) ++ l) (runnings_in-none (questions_in more) none)
+    ∙ append-nil _ in
     rw (made, in_group, order, read, ran) refl
 
 slice_get-last : {A : Type 0} (before : List A) (one : A)
@@ -138,15 +142,15 @@ pub contents-noted : (answers : Answers) (s t : State) (a b : Order) (note : Not
     → t.notes.items ≡ s.notes.items ++ note ∷ []
     → question_of note ≡ bytes_of path found
     → Answered answers (questions_in t.notes.items)
-    → contents answers path (moment_of s a) ≡ done (found, moment_of t b)
+    → contents answers path (moment_of s a) ≡ asking (looked path) found (moment_of t b)
 contents-noted answers s t a b note path found made in_group order added is by =
     let one : Reading = record { path = path; found = found } in
     let reading : readings_in (questions_in (note ∷ [])) ≡ one ∷ [] = rw is refl in
     let answer = by.contents (length (readings_in (questions_in s.notes.items))) one
     (last-reading s t note one added reading) in
-    ap (λ (f : Option (List ℕ)). done (f, record (moment_of s a) { read = (moment_of s a).read + 1 }))
-    (sym answer)
-    ∙ ap (λ (m : Moment). done (found, m))
+    ap (λ (f : Option (List ℕ)). asking (looked path) f
+    (record (moment_of s a) { read = (moment_of s a).read + 1 })) (sym answer)
+    ∙ ap (λ (m : Moment). asking (looked path) found m)
     (moment-read s t a b note one made in_group order added (rw is refl) reading (rw is refl))
 
 -- And so of a command.
@@ -156,13 +160,14 @@ pub output-noted : (answers : Answers) (s t : State) (a b : Order) (note : Note)
     → t.notes.items ≡ s.notes.items ++ note ∷ []
     → question_of note ≡ output_of (command_at (moment_of s a) text) ended
     → Answered answers (questions_in t.notes.items)
-    → output answers text (moment_of s a) ≡ done (ended.output, moment_of t b)
+    → output answers text (moment_of s a) ≡ asking (ran (command_at (moment_of s a) text)) ended.output (moment_of t b)
 output-noted answers s t a b note text ended made in_group order added is by =
     let one : Running = record { cmd = command_at (moment_of s a) text; ended = ended } in
     let running : runnings_in (questions_in (note ∷ [])) ≡ one ∷ [] = rw is refl in
     let answer = by.outputs (length (runnings_in (questions_in s.notes.items))) one
     (last-running s t note one added running) in
-    ap (λ (f : List ℕ). done (f, record (moment_of s a) { ran = (moment_of s a).ran + 1 }))
+    let act : Act = ran (command_at (moment_of s a) text) in
+    ap (λ (f : List ℕ). asking act f (record (moment_of s a) { ran = (moment_of s a).ran + 1 }))
     (sym answer)
-    ∙ ap (λ (m : Moment). done (ended.output, m))
+    ∙ ap (λ (m : Moment). asking act ended.output m)
     (moment-ran s t a b note one made in_group order added (rw is refl) (rw is refl) running)

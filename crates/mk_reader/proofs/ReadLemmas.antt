@@ -4,7 +4,7 @@ use Rattle.mk_blocks.specs.Runs.{Run}
 use Rattle.mk_blocks.specs.Ties as blocks
 use Rattle.mk_blocks.specs.declared.fault.FileFault.{FileFault}
 use Rattle.mk_blocks.specs.declared.fault.FileFault.TheVariants as file
-use Rattle.mk_reader.specs.ReadFaults.{file_fault, of_file, of_refusal, of_what, sorted}
+use Rattle.mk_reader.specs.ReadFaults.{file_fault, of_end, of_end_refusal, of_file, of_refusal, of_what, sorted}
 use Rattle.mk_reader.specs.Moments.{Moment}
 use Rattle.mk_reader.specs.Questions.{Answers}
 use Rattle.mk_reader.specs.Reading.{default_read, files_read, makefiles_read}
@@ -20,6 +20,12 @@ pub sorted-refusal : (fault : Refusal)
 sorted-refusal (refusal.Wrong what) = refl
 sorted-refusal (refusal.Failed failure) = refl
 sorted-refusal refusal.NoMemory = refl
+
+pub sorted-end : (file : List ℕ) (fault : Refusal)
+    → sorted (of_end_refusal file fault) ≡ verdict_as (of_end file) (refusals.sorted fault)
+sorted-end file (refusal.Wrong what) = refl
+sorted-end file (refusal.Failed failure) = refl
+sorted-end file refusal.NoMemory = refl
 
 pub sorted-file : (fault : FileFault What Outside)
     → sorted (of_file fault) ≡ verdict_as file_fault (blocks.sorted fault)

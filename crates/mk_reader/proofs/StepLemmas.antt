@@ -13,7 +13,7 @@ use Rattle.mk_reader.specs.declared.fault.Refusal.TheVariants.{Wrong, NoMemory}
 use Rattle.mk_reader.specs.declared.fault.What.{What}
 use Rattle.mk_reader.specs.declared.reader.Reader.{Reader}
 use Rattle.mk_reader.proofs.TieLemmas.{Goes-as, Goes-bind, first-refused, first-then, left-then}
-use Rattle.mk_reader.proofs.GaveLemmas.{Given, Stays, gave-given, gave-want, gave-wrong, leads-same, nothing_written}
+use Rattle.mk_reader.proofs.GaveLemmas.{Given, Stays, gave-given, gave-want, gave-wrong, leads-same, nothing_done}
 
 module _ {W S : Type 0} (o : Outer W S) where
   -- what a reader is after a call
@@ -43,15 +43,15 @@ module _ {W S : Type 0} (o : Outer W S) where
         → ((answers : Answers) → whole answers ≡ done (view found, stood x))
         → Given o x x view (Ok found) whole
     here-given found is =
-        gave-given o x x view whole refl found (leads_nowhere o x) (λ answers by. is answers)
+        gave-given o x x view whole [] (nothing_done o x x refl refl) found (leads_nowhere o x) (λ answers by. is answers)
 
     pub here-wrong : (what : What) → ((answers : Answers) → whole answers ≡ refused what)
         → Given o x x view (Err (Wrong what)) whole
     here-wrong what is =
-        gave-wrong o x x view whole refl what (leads_nowhere o x) (λ answers by. is answers)
+        gave-wrong o x x view whole (nothing_done o x x refl refl) what (leads_nowhere o x) (λ answers by. is answers)
 
     pub here-want : Given o x x view (Err NoMemory) whole
-    here-want = gave-want o x x view whole refl (leads_nowhere o x)
+    here-want = gave-want o x x view whole (nothing_done o x x refl refl) (leads_nowhere o x)
 
   module _ {A B : Type 0} (x y : Reader W S) (stays : Stays o x y) (view : A → B)
       (whole : Answers → Doing B) (world : y.world.now ≡ x.world.now)
@@ -62,16 +62,16 @@ module _ {W S : Type 0} (o : Outer W S) where
           → ((answers : Answers) → whole answers ≡ done (view found, stood y))
           → Given o x y view (Ok found) whole
       changed-given found is =
-          gave-given o x y view whole stays.same found (leads-same o x y stays world noted)
+          gave-given o x y view whole [] (nothing_done o x y stays.same noted) found (leads-same o x y stays world noted)
           (λ answers by. is answers)
 
       pub changed-want : Given o x y view (Err NoMemory) whole
-      changed-want = gave-want o x y view whole stays.same (leads-same o x y stays world noted)
+      changed-want = gave-want o x y view whole (nothing_done o x y stays.same noted) (leads-same o x y stays world noted)
 
       pub changed-wrong : (what : What) → ((answers : Answers) → whole answers ≡ refused what)
           → Given o x y view (Err (Wrong what)) whole
       changed-wrong what is =
-          gave-wrong o x y view whole stays.same what (leads-same o x y stays world noted)
+          gave-wrong o x y view whole (nothing_done o x y stays.same noted) what (leads-same o x y stays world noted)
           (λ answers by. is answers)
 
   -- a definition in other words
@@ -99,8 +99,8 @@ module _ {W S : Type 0} (o : Outer W S) where
   left-here x rest whole same = record {
     leads = leads_nowhere o x;
     gives = λ answers agrees. record {
-      messages = [];
-      written = nothing_written o x x refl;
+      acts = [];
+      did = nothing_done o x x refl refl;
       is = same answers;
     };
   }
@@ -114,8 +114,8 @@ module _ {W S : Type 0} (o : Outer W S) where
   left-changed x y stays rest whole world noted same = record {
     leads = leads-same o x y stays world noted;
     gives = λ answers agrees. record {
-      messages = [];
-      written = nothing_written o x y stays.same;
+      acts = [];
+      did = nothing_done o x y stays.same noted;
       is = same answers;
     };
   }

@@ -2,6 +2,7 @@
 use Rattle.std.proofs.Common.{◌≡◌, ℕ, List, [], ◌++◌, Option, Result, Ok, Err}
 use Rattle.std.proofs.Common.{refl, sym, ap, subst, ◌∙◌, append_assoc}
 use Rattle.std.proofs.lemmas.List.{append-nil}
+use Rattle.mk_blocks.specs.Acts.{Act}
 use Rattle.mk_blocks.specs.Outcomes.{Outcome, behind, followed, silent, ◌>>=◌}
 use Rattle.mk_blocks.specs.Ties.{Does, Gives, Goes, Refuses, Ties, failure_in}
 use Rattle.mk_blocks.specs.declared.fault.LanguageFault.{LanguageFault}
@@ -10,30 +11,30 @@ use Rattle.mk_reader.specs.ReadFaults.{outcome_as}
 
 -- Outcomes
 
-behind-behind : {A E : Type 0} (first second : List (List ℕ)) (o : Outcome A E)
+behind-behind : {A E : Type 0} (first second : List Act) (o : Outcome A E)
     → behind first (behind second o) ≡ behind (first ++ second) o
 behind-behind first second o =
-    ap (λ (ms : List (List ℕ)). record { messages = ms; answer = o.answer })
-    (sym (append_assoc first second o.messages))
+    ap (λ (acts : List Act). record { acts = acts; answer = o.answer })
+    (sym (append_assoc first second o.acts))
 
--- messages before a first step are messages before both
-bind-behind : {A B E : Type 0} (messages shown : List (List ℕ)) (answer : Result A E)
+-- acts before a first step are acts before both
+bind-behind : {A B E : Type 0} (acts shown : List Act) (answer : Result A E)
     (next : A → Outcome B E)
-    → followed (messages ++ shown) answer next ≡ behind messages (followed shown answer next)
-bind-behind messages shown (Ok given) next = sym (behind-behind messages shown (next given))
-bind-behind messages shown (Err fault) next = refl
+    → followed (acts ++ shown) answer next ≡ behind acts (followed shown answer next)
+bind-behind acts shown (Ok given) next = sym (behind-behind acts shown (next given))
+bind-behind acts shown (Err fault) next = refl
 
--- what a second step adds to the messages of the first
-added : {A B E : Type 0} → Result A E → (A → Outcome B E) → List (List ℕ)
-added (Ok given) next = (next given).messages
+-- what a second step adds to the acts of the first
+added : {A B E : Type 0} → Result A E → (A → Outcome B E) → List Act
+added (Ok given) next = (next given).acts
 added (Err fault) next = []
 
-followed-messages : {A B E : Type 0} (messages : List (List ℕ)) (answer : Result A E)
+followed-acts : {A B E : Type 0} (acts : List Act) (answer : Result A E)
     (next : A → Outcome B E)
-    → (followed messages answer next).messages ≡ messages ++ added answer next
+    → (followed acts answer next).acts ≡ acts ++ added answer next
 unfolding added
-followed-messages messages (Ok given) next = refl
-followed-messages messages (Err fault) next = sym (append-nil messages)
+followed-acts acts (Ok given) next = refl
+followed-acts acts (Err fault) next = sym (append-nil acts)
 
 -- Faults in other words
 
@@ -54,41 +55,41 @@ module _ {X W F : Type 0} (ties : Ties X W F) where
   Goes-then : {A E : Type 0} {x y z : X} {first second third : Outcome A E}
       → Goes ties x y first second → Goes ties y z second third → Goes ties x z first third
   Goes-then {third = third} goes then_goes = record {
-    messages = goes.messages ++ then_goes.messages;
-    written = ties.writes_both goes.written then_goes.written;
-    is = goes.is ∙ ap (behind goes.messages) then_goes.is
-        ∙ behind-behind goes.messages then_goes.messages third;
+    acts = goes.acts ++ then_goes.acts;
+    did = ties.did_both goes.did then_goes.did;
+    is = goes.is ∙ ap (behind goes.acts) then_goes.is
+        ∙ behind-behind goes.acts then_goes.acts third;
   }
 
   pub Goes-bind : {A B E : Type 0} {x y : X} {first second : Outcome A E} (next : A → Outcome B E)
       → Goes ties x y first second → Goes ties x y (first >>= next) (second >>= next)
   Goes-bind {second = second} next goes = record {
-    messages = goes.messages;
-    written = goes.written;
+    acts = goes.acts;
+    did = goes.did;
     is = ap (λ o. o >>= next) goes.is
-        ∙ bind-behind goes.messages second.messages second.answer next;
+        ∙ bind-behind goes.acts second.acts second.answer next;
   }
 
   pub Goes-as : {A E : Type 0} (x y : X) {one other rest then_rest : Outcome A E}
       → one ≡ other → rest ≡ then_rest → Goes ties x y other rest → Goes ties x y one then_rest
   Goes-as x y same then_same goes = record {
-    messages = goes.messages;
-    written = goes.written;
-    is = same ∙ goes.is ∙ ap (behind goes.messages) then_same;
+    acts = goes.acts;
+    did = goes.did;
+    is = same ∙ goes.is ∙ ap (behind goes.acts) then_same;
   }
 
   part_then : {A E : Type 0} {x y z : X} {first second : Outcome A E}
-      → Goes ties x y first second → ties.writes_part y z second.messages
-      → ties.writes_part x z first.messages
+      → Goes ties x y first second → ties.did_part y z second.acts
+      → ties.did_part x z first.acts
   part_then {x = x} {z = z} goes part =
-      subst (λ (ms : List (List ℕ)). ties.writes_part x z ms)
-      (sym (ap (λ o. o.messages) goes.is)) (ties.part_behind goes.written part)
+      subst (λ (acts : List Act). ties.did_part x z acts)
+      (sym (ap (λ o. o.acts) goes.is)) (ties.part_behind goes.did part)
 
   part_bind : {A B E : Type 0} {x y : X} (o : Outcome A E) (next : A → Outcome B E)
-      → ties.writes_part x y o.messages → ties.writes_part x y (o >>= next).messages
+      → ties.did_part x y o.acts → ties.did_part x y (o >>= next).acts
   part_bind {x = x} {y = y} o next part =
-      subst (λ (ms : List (List ℕ)). ties.writes_part x y ms)
-      (sym (followed-messages o.messages o.answer next))
+      subst (λ (acts : List Act). ties.did_part x y acts)
+      (sym (followed-acts o.acts o.answer next))
       (ties.part_of_more (added o.answer next) part)
 
   Refuses-then : {A E : Type 0} (x y z : X) {first second : Outcome A E}
@@ -168,8 +169,8 @@ module _ {X W F : Type 0} (ties : Ties X W F) where
       still-given given same = record {
         leads = ties.leads_nowhere x;
         gives = λ answers agrees. record {
-          messages = [];
-          written = ties.writes_nothing x;
+          acts = [];
+          did = ties.did_nothing x;
           is = same answers;
         };
       }
@@ -182,7 +183,7 @@ module _ {X W F : Type 0} (ties : Ties X W F) where
             (ties.leads_nowhere x);
         gives = λ answers agrees.
             subst (λ (v : LanguageFault E F). Refuses ties x x v (whole answers)) (sym sort)
-            (record { messages = []; written = ties.writes_nothing x; is = same answers });
+            (record { acts = []; did = ties.did_nothing x; is = same answers });
       }
 
       pub still-want : (fault : D) → sorted fault ≡ NoMemory
@@ -192,15 +193,15 @@ module _ {X W F : Type 0} (ties : Ties X W F) where
             (ties.leads_nowhere x);
         gives = λ answers agrees.
             subst (λ (v : LanguageFault E F). Refuses ties x x v (whole answers)) (sym sort)
-            (ties.part_of_more (whole answers).messages
-            (ties.part_of_whole (ties.writes_nothing x)));
+            (ties.part_of_more (whole answers).acts
+            (ties.part_of_whole (ties.did_nothing x)));
       }
 
   Goes-seen : {A E G : Type 0} (view : E → G) (x y : X) {one other : Outcome A E}
       → Goes ties x y one other → Goes ties x y (outcome_as view one) (outcome_as view other)
   Goes-seen view x y goes = record {
-    messages = goes.messages;
-    written = goes.written;
+    acts = goes.acts;
+    did = goes.did;
     is = ap (outcome_as view) goes.is;
   }
 

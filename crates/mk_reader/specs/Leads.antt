@@ -6,24 +6,23 @@ use Rattle.mk_world.specs.Talks.{Meaning}
 use Rattle.mk_world.specs.Told.{Told}
 use Rattle.mk_world.specs.declared.history.History.{History}
 use Rattle.mk_reader.specs.Notes.{question_of, questions_in}
-use Rattle.mk_reader.specs.Questions.{Question, AreAsked, readings_in, runnings_in}
-use Rattle.mk_reader.specs.Questions.{readings_in-append, runnings_in-append}
+use Rattle.mk_reader.specs.Acts.{acts_of, acts_of-append}
+use Rattle.mk_reader.specs.Questions.{Question, AreAsked}
 use Rattle.mk_reader.specs.declared.note.Note.{Note}
 
--- The questions that were noted in addition are those of `exists`. They were asked, and nothing else
--- happened, where no child runs.
+-- The questions that were noted in addition are those of `exists`, which ask for no bytes and no
+-- command. They were asked, and nothing else happened, where no child runs.
 pub record Led (meaning : Meaning) (idle : Type 0) (before after : Option History)
     (old new : List Note) : Type 0
   where
     pub more : List Note
     pub added : new ≡ old ++ more
-    pub no_reading : readings_in (questions_in more) ≡ []
-    pub no_running : runnings_in (questions_in more) ≡ []
+    pub no_act : acts_of (questions_in more) ≡ []
     pub told : idle → Told before after (AreAsked meaning (questions_in more))
 
 -- no question
 
-told-none : (meaning : Meaning) (told : Option History) → Told told told (AreAsked meaning [])
+pub told-none : (meaning : Meaning) (told : Option History) → Told told told (AreAsked meaning [])
 told-none meaning None = tt
 told-none meaning (Some history) = refl
 
@@ -32,8 +31,7 @@ pub led_nowhere : (meaning : Meaning) (idle : Type 0) (told : Option History) (n
 led_nowhere meaning idle told notes = record {
   more = [];
   added = sym (append-nil notes);
-  no_reading = refl;
-  no_running = refl;
+  no_act = refl;
   told = λ is. told-none meaning told;
 }
 
@@ -63,12 +61,9 @@ led_on meaning idle then_idle a b c old mid new first keeps second = record {
   more = first.more ++ second.more;
   added = second.added ∙ ap (λ l. l ++ second.more) first.added
       ∙ append_assoc old first.more second.more;
-  no_reading = ap readings_in (map-append question_of first.more second.more)
-      ∙ readings_in-append (questions_in first.more) (questions_in second.more)
-      ∙ rw (first.no_reading, second.no_reading) refl;
-  no_running = ap runnings_in (map-append question_of first.more second.more)
-      ∙ runnings_in-append (questions_in first.more) (questions_in second.more)
-      ∙ rw (first.no_running, second.no_running) refl;
+  no_act = ap acts_of (map-append question_of first.more second.more)
+      ∙ acts_of-append (questions_in first.more) (questions_in second.more)
+      ∙ rw (first.no_act, second.no_act) refl;
   told = λ is.
       subst (λ q. Told a c (AreAsked meaning q))
       (sym (map-append question_of first.more second.more))

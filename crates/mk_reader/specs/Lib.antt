@@ -1,12 +1,15 @@
+pub mod Acts
 pub mod Assignments
 pub mod Blocks
 pub mod Dependencies
+pub mod DependencyView
 pub mod Facts
 pub mod Inclusions
 pub mod Kinds
 pub mod Languages
 pub mod Leads
 pub mod Messages
+pub mod Modes
 pub mod Moments
 pub mod Notes
 pub mod Orders

@@ -1,10 +1,11 @@
 -- What directives print on standard error.
 use Rattle.std.specs.Prelude.{ℕ, List, [], ◌∷◌, ◌++◌, Ok, codes, decimal}
+use Rattle.mk_blocks.specs.Acts.{wrote}
 use Rattle.mk_blocks.specs.Outcomes.{refused, ◌>>=◌}
 use Rattle.mk_bytes.specs.Bytes.{newline}
 use Rattle.mk_reader.specs.Moments.{Doing, Moment}
 use Rattle.mk_reader.specs.Questions.{Answers}
-use Rattle.mk_reader.specs.Values.{value}
+use Rattle.mk_reader.specs.Values.{asking, value}
 use Rattle.std.specs.Prelude.{false}
 use Rattle.mk_reader.specs.declared.fault.What.TheVariants.{Error}
 
@@ -15,7 +16,7 @@ message_line file number mark text =
     ++ (mark ++ (text ++ newline ∷ []))))))
 
 abbrev pub said : List ℕ → Moment → Doing (Unit {0})
-said line s = record { messages = line ∷ []; answer = Ok (tt, s) }
+said line s = asking (wrote line) tt s
 
 -- `.info` prints its text expanded, and `.warning` behind a mark
 abbrev pub message : Answers → List ℕ → ℕ → List ℕ → List ℕ → Moment → Doing (Unit {0})

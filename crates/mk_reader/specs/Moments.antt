@@ -3,7 +3,7 @@ use Rattle.std.specs.Prelude.{ℕ, Bool, false, List, length}
 use Rattle.mk_blocks.specs.Outcomes.{Outcome, done}
 use Rattle.mk_cli.specs.declared.order.Order.{Order}
 use Rattle.mk_expand.specs.declared.facts.Asked.{Asked}
-use Rattle.mk_graph.specs.declared.Made.{Made}
+use Rattle.mk_reader.specs.declared.state.Draft.{Draft}
 use Rattle.mk_scopes.specs.Scopes.{Variables}
 use Rattle.mk_reader.specs.Notes.{questions_in}
 use Rattle.mk_reader.specs.Questions.{readings_in, runnings_in, times_in}
@@ -13,7 +13,7 @@ use Rattle.mk_reader.specs.declared.state.State.{State}
 -- What the lines so far leave under the orders of a command line, and how much was asked: the
 -- questions of `exists`, and the numbers of files that were read and of commands that were run.
 pub record Moment : Type 0 where
-  pub made : Made
+  pub made : Draft
   pub in_group : Bool
   pub order : Order
   pub asked : List Asked
@@ -41,7 +41,7 @@ given a s = done (a, s)
 abbrev pub stands : Moment → Doing (Unit {0})
 stands s = done (tt, s)
 
--- no command line follows the rule any more
+-- no command line follows any more
 abbrev pub closed : Moment → Moment
 closed s = record s { in_group = false }
 

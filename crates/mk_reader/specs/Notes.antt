@@ -1,7 +1,7 @@
 -- What the notes of a reading tell.
 use Rattle.std.specs.Prelude.{List, map}
 use Rattle.mk_expand.specs.declared.facts.Asked.{Asked}
-use Rattle.mk_reader.specs.Questions.{Question, bytes_of, time_of, output_of, times_in}
+use Rattle.mk_reader.specs.Questions.{Question, bytes_of, time_of, output_of, cut, times_in}
 use Rattle.mk_reader.specs.declared.note.Note.{Note}
 use Rattle.mk_reader.specs.declared.note.Note.TheVariants as note
 
@@ -9,6 +9,7 @@ abbrev pub question_of : Note → Question
 question_of (note.Read path found) = bytes_of path.value found.value
 question_of (note.Time path when) = time_of path.value when.value
 question_of (note.Ran cmd ended) = output_of cmd.value ended.value
+question_of (note.Cut cmd) = cut cmd.value
 
 -- The questions that were noted, in order.
 abbrev pub questions_in : List Note → List Question

@@ -1,5 +1,5 @@
 -- What the words of a command line set before any makefile is read.
-use Rattle.std.specs.Prelude.{false, List, [], ◌∷◌, None, codes}
+use Rattle.std.specs.Prelude.{false, List, [], ◌∷◌, codes}
 use Rattle.mk_blocks.specs.Outcomes.{◌>>=◌}
 use Rattle.mk_cli.specs.declared.order.Order.{Order}
 use Rattle.mk_cli.specs.declared.order.Set.{Set}
@@ -8,14 +8,15 @@ use Rattle.mk_scopes.specs.Scopes.{first_scopes}
 use Rattle.mk_scopes.specs.declared.scopes.Class.{Class}
 use Rattle.mk_scopes.specs.declared.scopes.Class.TheVariants.{Global, Command}
 use Rattle.mk_scopes.specs.declared.scopes.Env.{Env}
+use Rattle.mk_rules.specs.Rules.{no_rules}
 use Rattle.mk_reader.specs.Moments.{Doing, Moment, stands}
 use Rattle.mk_reader.specs.Questions.{Answers}
 use Rattle.mk_reader.specs.Variables.{assigned_at, assigned_by, set_by}
 
--- the environment, no rule, and no question
+-- the environment, no line, and no question
 abbrev pub first_moment : Env → Order → Moment
 first_moment env order = record {
-  made = record { scopes = first_scopes env order.env_first; rule = None };
+  made = record { scopes = first_scopes env order.env_first; rules = no_rules; file = [] };
   in_group = false;
   order = order;
   asked = [];

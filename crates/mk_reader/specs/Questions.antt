@@ -6,7 +6,7 @@ use Rattle.mk_expand.specs.Facts as expand
 use Rattle.mk_expand.specs.declared.facts.Asked.{Asked}
 use Rattle.mk_world.specs.Calls.{when_of}
 use Rattle.mk_world.specs.History.{state_of}
-use Rattle.mk_world.specs.Runs.{Looked}
+use Rattle.mk_world.specs.Runs.{Looked, RanAtMost}
 use Rattle.mk_world.specs.Runs as runs
 use Rattle.mk_world.specs.Talks.{Meaning}
 use Rattle.mk_world.specs.declared.command.Cmd.{Cmd}
@@ -23,6 +23,8 @@ pub data Question : Type 0 where
   time_of : (path : List ℕ) → (when : When) → Question
   -- a command, for `!=`
   output_of : (cmd : Cmd) → (ended : Ended) → Question
+  -- a command that was not answered
+  cut : (cmd : Cmd) → Question
 
 -- a file is there unless its time says that it is missing
 abbrev pub is_there : When → Bool
@@ -46,18 +48,29 @@ times_in [] = []
 times_in (time_of path when ∷ more) = record { path = path; answer = is_there when } ∷ times_in more
 times_in (bytes_of path found ∷ more) = times_in more
 times_in (output_of cmd ended ∷ more) = times_in more
+times_in (cut cmd ∷ more) = times_in more
 
 abbrev pub readings_in : List Question → List Reading
 readings_in [] = []
 readings_in (bytes_of path found ∷ more) = record { path = path; found = found } ∷ readings_in more
 readings_in (time_of path when ∷ more) = readings_in more
 readings_in (output_of cmd ended ∷ more) = readings_in more
+readings_in (cut cmd ∷ more) = readings_in more
 
 abbrev pub runnings_in : List Question → List Running
 runnings_in [] = []
 runnings_in (output_of cmd ended ∷ more) = record { cmd = cmd; ended = ended } ∷ runnings_in more
 runnings_in (bytes_of path found ∷ more) = runnings_in more
 runnings_in (time_of path when ∷ more) = runnings_in more
+runnings_in (cut cmd ∷ more) = runnings_in more
+
+-- the commands that were not answered
+abbrev pub cuts_in : List Question → List Cmd
+cuts_in [] = []
+cuts_in (cut cmd ∷ more) = cmd ∷ cuts_in more
+cuts_in (bytes_of path found ∷ more) = cuts_in more
+cuts_in (time_of path when ∷ more) = cuts_in more
+cuts_in (output_of cmd ended ∷ more) = cuts_in more
 
 pub times_in-append : (first second : List Question)
     → times_in (first ++ second) ≡ times_in first ++ times_in second
@@ -67,6 +80,7 @@ times_in-append (time_of path when ∷ more) second =
     (times_in-append more second)
 times_in-append (bytes_of path found ∷ more) second = times_in-append more second
 times_in-append (output_of cmd ended ∷ more) second = times_in-append more second
+times_in-append (cut cmd ∷ more) second = times_in-append more second
 
 pub readings_in-append : (first second : List Question)
     → readings_in (first ++ second) ≡ readings_in first ++ readings_in second
@@ -76,6 +90,7 @@ readings_in-append (bytes_of path found ∷ more) second =
     (readings_in-append more second)
 readings_in-append (time_of path when ∷ more) second = readings_in-append more second
 readings_in-append (output_of cmd ended ∷ more) second = readings_in-append more second
+readings_in-append (cut cmd ∷ more) second = readings_in-append more second
 
 pub runnings_in-append : (first second : List Question)
     → runnings_in (first ++ second) ≡ runnings_in first ++ runnings_in second
@@ -85,6 +100,15 @@ runnings_in-append (output_of cmd ended ∷ more) second =
     (runnings_in-append more second)
 runnings_in-append (time_of path when ∷ more) second = runnings_in-append more second
 runnings_in-append (bytes_of path found ∷ more) second = runnings_in-append more second
+runnings_in-append (cut cmd ∷ more) second = runnings_in-append more second
+
+pub cuts_in-append : (first second : List Question)
+    → cuts_in (first ++ second) ≡ cuts_in first ++ cuts_in second
+cuts_in-append [] second = refl
+cuts_in-append (cut cmd ∷ more) second = ap (λ (l : List Cmd). cmd ∷ l) (cuts_in-append more second)
+cuts_in-append (bytes_of path found ∷ more) second = cuts_in-append more second
+cuts_in-append (time_of path when ∷ more) second = cuts_in-append more second
+cuts_in-append (output_of cmd ended ∷ more) second = cuts_in-append more second
 
 -- What the outside answers: each sort of question by the number of those before it, and what is asked.
 pub record Answers : Type 0 where
@@ -108,11 +132,13 @@ pub record Timed (path : List ℕ) (when : When) (old new : History) : Type 0 wh
   pub event : new.events ≡ old.events ++ Look path ∷ []
   pub told : when ≡ when_of ((state_of old).files path)
 
--- a question was answered with what stood in the world at its moment, and nothing else happened
+-- A question was answered with what stood in the world at its moment, and nothing else happened. A
+-- command that was not answered may have been run.
 abbrev pub IsAsked : Meaning → Question → History → History → Type 0
 IsAsked meaning (bytes_of path found) old new = Looked path found old new
 IsAsked meaning (time_of path when) old new = Timed path when old new
 IsAsked meaning (output_of cmd ended) old new = runs.Asked meaning cmd ended old new
+IsAsked meaning (cut cmd) old new = RanAtMost meaning cmd old new
 
 -- Questions were so answered, one after the other.
 abbrev pub AreAsked : Meaning → List Question → History → History → Type 0

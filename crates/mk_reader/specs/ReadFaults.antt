@@ -1,5 +1,5 @@
 -- Why makefiles are not read to their end.
-use Rattle.std.specs.Prelude.{[], Result, Ok, Err}
+use Rattle.std.specs.Prelude.{ℕ, List, [], Result, Ok, Err}
 use Rattle.mk_blocks.specs.Runs.{max_files, max_lines}
 use Rattle.mk_blocks.specs.Outcomes.{Outcome}
 use Rattle.mk_blocks.specs.declared.fault.FileFault.{FileFault}
@@ -10,7 +10,8 @@ use Rattle.mk_blocks.specs.declared.fault.Wrong.{Wrong}
 use Rattle.mk_blocks.specs.declared.fault.Wrong.TheVariants as wrong
 use Rattle.mk_blocks.specs.declared.kind.BlockFault.{BlockFault}
 use Rattle.mk_blocks.specs.declared.kind.BlockFault.TheVariants as block
-use Rattle.mk_bytes.specs.declared.kind.Kind.TheVariants.{Lines, Includes}
+use Rattle.mk_bytes.specs.declared.kind.Kind.TheVariants.{Names, Lines, Includes}
+use Rattle.mk_pool.specs.declared.pool.TheConstants.{MAX_NAMES}
 use Rattle.mk_reader.specs.declared.fault.Fault.{Fault}
 use Rattle.mk_reader.specs.declared.fault.Fault.TheVariants as fault
 use Rattle.mk_reader.specs.declared.fault.Outside.{Outside}
@@ -50,9 +51,14 @@ of_fault (fault.NoFile name) = NoFile name
 of_fault (fault.Bad name number found) = Bad name number found
 of_fault (fault.Limit kind most) = Limit kind most
 
+-- what is wrong with a line; one name too many is a limit and no fault of a line
+abbrev pub bad_line : List ℕ → ℕ → What → Fault
+bad_line name number what.TooManyNames = fault.Limit Names MAX_NAMES
+bad_line name number found = fault.Bad name number found
+
 -- a fault of a file
 abbrev pub of_file : FileFault What Outside → Stop
-of_file (file.Bad name number found) = stop.Fault (fault.Bad name number (of_wrong found))
+of_file (file.Bad name number found) = stop.Fault (bad_line name number (of_wrong found))
 of_file file.TooManyLines = stop.Fault (fault.Limit Lines max_lines)
 of_file file.TooManyFiles = stop.Fault (fault.Limit Includes max_files)
 of_file (file.Failed failure) = stop.Failed failure
@@ -66,6 +72,15 @@ abbrev pub of_refusal : Refusal → Stop
 of_refusal (refusal.Wrong what) = stop.Fault (fault.Bad [] 0 what)
 of_refusal (refusal.Failed failure) = stop.Failed failure
 of_refusal refusal.NoMemory = stop.NoMemory
+
+-- what is wrong behind the last line of a makefile stands at its line 0
+abbrev pub of_end : List ℕ → What → ReadFault
+of_end file found = Bad file 0 found
+
+abbrev pub of_end_refusal : List ℕ → Refusal → Stop
+of_end_refusal file (refusal.Wrong what) = stop.Fault (fault.Bad file 0 what)
+of_end_refusal file (refusal.Failed failure) = stop.Failed failure
+of_end_refusal file refusal.NoMemory = stop.NoMemory
 
 abbrev pub of_stop : Stop → ReadFault
 of_stop (stop.Fault found) = of_fault found
@@ -92,6 +107,6 @@ fault_as view (Err found) = Err (view found)
 
 abbrev pub outcome_as : {A E F : Type 0} → (E → F) → Outcome A E → Outcome A F
 outcome_as view outcome = record {
-  messages = outcome.messages;
+  acts = outcome.acts;
   answer = fault_as view outcome.answer;
 }

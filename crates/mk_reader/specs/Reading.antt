@@ -1,4 +1,4 @@
--- Reading: from a command line and the answers of the outside to variables and the rule.
+-- Reading: from a command line and the answers of the outside to variables and the graph.
 use Rattle.std.specs.Prelude.{ℕ, List, [], ◌∷◌, Option, Some, None, codes}
 use Rattle.mk_blocks.specs.Meaning.{file_read}
 use Rattle.mk_blocks.specs.Outcomes.{done, refused, ◌>>=◌}
@@ -6,13 +6,15 @@ use Rattle.mk_blocks.specs.Runs.{Run, run_at}
 use Rattle.mk_bytes.specs.Paths.{clean}
 use Rattle.mk_cli.specs.declared.order.Order.{Order}
 use Rattle.mk_graph.specs.declared.Made.{Made}
+use Rattle.mk_graph.specs.declared.mode.Mode.{Mode}
 use Rattle.mk_scopes.specs.declared.scopes.Env.{Env}
 use Rattle.mk_reader.specs.Kinds.{line_kind}
 use Rattle.mk_reader.specs.Languages.{meaning}
+use Rattle.mk_reader.specs.Modes.{made_at, mode_read}
 use Rattle.mk_reader.specs.Moments.{Moment}
 use Rattle.mk_reader.specs.Orders.{first_moment, ordered}
 use Rattle.mk_reader.specs.Questions.{Answers}
-use Rattle.mk_reader.specs.ReadFaults.{Reads, file_fault, of_what, outcome_as}
+use Rattle.mk_reader.specs.ReadFaults.{Reads, file_fault, of_end, of_what, outcome_as}
 use Rattle.mk_reader.specs.Values.{contents}
 use Rattle.mk_reader.specs.declared.fault.ReadFault.TheVariants.{NoFile}
 
@@ -20,10 +22,15 @@ use Rattle.mk_reader.specs.declared.fault.ReadFault.TheVariants.{NoFile}
 abbrev pub looked : Answers → List ℕ → Moment → Reads (Option (List ℕ) × Moment)
 looked answers file s = outcome_as of_what (contents answers (clean s.made.scopes.cwd file) s)
 
+-- a makefile of this name is read
+abbrev pub in_file : List ℕ → Moment → Moment
+in_file file s = record s { made = record s.made { file = file } }
+
 -- a file of this name with these bytes, and all that it includes
 abbrev pub whole_read : Answers → List ℕ → List ℕ → Run Moment → Reads (Run Moment)
 whole_read answers file bytes r =
-    outcome_as file_fault (file_read (meaning answers) line_kind file bytes r)
+    outcome_as file_fault (file_read (meaning answers) line_kind file bytes
+    (run_at (in_file file r.state) r.count))
 
 -- a file that was found, or a missing one, which has this name
 abbrev pub found_read : Answers → List ℕ → List ℕ → ℕ → Option (List ℕ) × Moment
@@ -74,8 +81,15 @@ all_read answers r =
     words_applied answers r.state
     >>= λ first. makefiles_read answers first.1.order.files (run_at first.1 r.count)
 
--- What the words of the command line and the makefiles of a run leave, or the first fault, and the
--- messages that are written until then.
+-- how a build goes, as is asked for behind the last line of the last makefile
+abbrev pub mode_ended : Answers → Moment → Reads (Mode × Moment)
+mode_ended answers s = outcome_as (of_end s.made.file) (mode_read answers s)
+
+abbrev pub run_read : Answers → Run Moment → Reads (Mode × Moment)
+run_read answers r = all_read answers r >>= λ last. mode_ended answers last.state
+
+-- What the words of the command line and the makefiles of a run leave, or the first fault, and what is
+-- done outside until then.
 abbrev pub reading : Answers → Env → Order → Reads Made
 reading answers env order =
-    all_read answers (run_at (first_moment env order) 0) >>= λ last. done last.state.made
+    run_read answers (run_at (first_moment env order) 0) >>= λ end. done (made_at end.0 end.1)

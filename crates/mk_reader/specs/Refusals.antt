@@ -8,6 +8,12 @@ use Rattle.mk_expand.specs.declared.fault.ExpandFault.{ExpandFault}
 use Rattle.mk_expand.specs.declared.fault.ExpandFault.TheVariants as expand
 use Rattle.mk_world.specs.declared.fault.WorldFault.{WorldFault}
 use Rattle.mk_world.specs.declared.fault.WorldFault.TheVariants as world
+use Rattle.mk_ast.specs.declared.fault.AstFault.{AstFault}
+use Rattle.mk_depline.specs.declared.fault.DepFault.{DepFault}
+use Rattle.mk_depline.specs.declared.fault.DepFault.TheVariants as line
+use Rattle.mk_rules.specs.declared.fault.RuleFault.{RuleFault}
+use Rattle.mk_rules.specs.declared.fault.RuleFault.TheVariants as rule
+use Rattle.mk_reader.specs.Dependencies.{of_line, of_rule}
 use Rattle.mk_reader.specs.declared.fault.Outside.{Outside}
 use Rattle.mk_reader.specs.declared.fault.Outside.TheVariants as outside
 use Rattle.mk_reader.specs.declared.fault.Refusal.{Refusal}
@@ -27,6 +33,19 @@ of_cond (cond.Bad at) = Wrong (Cond at)
 of_cond (cond.TooDeep at) = Wrong (Cond at)
 of_cond (cond.Tree fault) = of_expand (of_tree fault)
 of_cond cond.NoMemory = NoMemory
+
+-- a fault of a reference in a line
+abbrev pub of_ast : AstFault → Refusal
+of_ast fault = of_expand (of_tree fault)
+
+-- a fault of a dependency line
+abbrev pub of_line_fault : DepFault → Refusal
+of_line_fault line.NoMemory = NoMemory
+of_line_fault fault = Wrong (of_line fault)
+
+abbrev pub of_rule_fault : RuleFault → Refusal
+of_rule_fault rule.NoMemory = NoMemory
+of_rule_fault fault = Wrong (of_rule fault)
 
 -- a fault of a call of the world
 abbrev pub of_world : WorldFault → Refusal

@@ -1,16 +1,19 @@
 -- What reading gives.
-use Rattle.std.specs.Prelude.{◌≡◌, ℕ, List, Option, Some, None, Result, Ok, Err}
+use Rattle.std.specs.Prelude.{◌≡◌, ℕ, List, [], Option, Some, None, Result, Ok, Err}
+use Rattle.mk_blocks.specs.Acts.{Act}
 use Rattle.mk_blocks.specs.Outcomes.{done}
 use Rattle.mk_blocks.specs.Runs.{Run, run_at}
 use Rattle.mk_blocks.specs.Ties.{Does}
-use Rattle.mk_world.specs.Sinks.{Gains, GainsPart}
 use Rattle.mk_world.specs.Talks.{Meaning}
 use Rattle.mk_world.specs.Told.{Told}
 use Rattle.mk_world.specs.declared.history.History.{History}
+use Rattle.mk_graph.specs.declared.mode.Mode.{Mode}
+use Rattle.mk_reader.specs.Acts.{Did, DidPart, acts_of}
 use Rattle.mk_reader.specs.Moments.{Moment, moment_of}
-use Rattle.mk_reader.specs.Questions.{Answered, Answers, Question}
+use Rattle.mk_reader.specs.Reading.{run_read}
+use Rattle.mk_reader.specs.Questions.{Answered, Answers, AreAsked, Question}
 use Rattle.mk_reader.specs.ReadFaults.{Reads, sorted}
-use Rattle.mk_reader.specs.Ties.{Asks, Outer, all_bytes, reader_ties}
+use Rattle.mk_reader.specs.Ties.{IsWhole, Outer, reader_ties}
 use Rattle.mk_reader.specs.declared.fault.Outside.{Outside}
 use Rattle.mk_reader.specs.declared.fault.Outside.TheVariants as outside
 use Rattle.mk_reader.specs.declared.fault.ReadFault.{ReadFault}
@@ -36,6 +39,13 @@ Went outer x y before after answer question =
     Does (reader_ties outer) sorted x y (λ answers u. done (run_at (standing y) after)) answer
     (λ answers. question answers (run_at (standing x) before))
 
+-- All was read, and how a build goes.
+abbrev pub Ended : {W S : Type 0} → Outer W S → Reader W S → Reader W S → ℕ → Result Mode Stop
+    → Type 0
+Ended outer x y before answer =
+    Does (reader_ties outer) sorted x y (λ answers mode. done (mode, standing y)) answer
+    (λ answers. run_read answers (run_at (standing x) before))
+
 -- how the outside may have failed behind the questions
 abbrev pub failure_by : ReadFault → Option Outside
 failure_by World = Some outside.World
@@ -47,30 +57,34 @@ abbrev pub failure_in : {A : Type 0} → Result A ReadFault → Option Outside
 failure_in (Ok given) = None
 failure_in (Err fault) = failure_by fault
 
--- A fault of the reading, behind all messages that are defined. A fault of the outside and want of
--- memory stand behind a part of them.
-abbrev pub Refused : {A : Type 0} → Option (List ℕ) → Option (List ℕ) → ReadFault → Reads A → Type 0
-Refused before after World defined = GainsPart before after (all_bytes defined.messages)
-Refused before after Sink defined = GainsPart before after (all_bytes defined.messages)
-Refused before after NoMemory defined = GainsPart before after (all_bytes defined.messages)
-Refused before after fault defined =
-    (defined.answer ≡ Err fault) × Gains before after (all_bytes defined.messages)
+-- A fault of the reading, behind all that is done before it. Before a fault of the outside or want of
+-- memory a part of that was done.
+abbrev pub Refused : {A : Type 0} → Option (List ℕ) → Option (List ℕ) → List Act → ReadFault
+    → Reads A → Type 0
+Refused before after asked World defined = DidPart before after [] asked defined.acts
+Refused before after asked Sink defined = DidPart before after [] asked defined.acts
+Refused before after asked NoMemory defined = DidPart before after [] asked defined.acts
+Refused before after asked fault defined =
+    (defined.answer ≡ Err fault) × Did before after [] asked defined.acts
 
--- An answer is what is defined, and standard error has gained the messages.
-abbrev pub Gave : {A : Type 0} → Option (List ℕ) → Option (List ℕ) → Result A ReadFault → Reads A
-    → Type 0
-Gave before after (Ok given) defined =
-    (defined.answer ≡ Ok given) × Gains before after (all_bytes defined.messages)
-Gave before after (Err fault) defined = Refused before after fault defined
+-- An answer is what is defined, and exactly that was done outside which is defined: standard error has
+-- gained the messages, and these files and commands were asked for.
+abbrev pub Gave : {A : Type 0} → Option (List ℕ) → Option (List ℕ) → List Act
+    → Result A ReadFault → Reads A → Type 0
+Gave before after asked (Ok given) defined =
+    (defined.answer ≡ Ok given) × Did before after [] asked defined.acts
+Gave before after asked (Err fault) defined = Refused before after asked fault defined
 
 -- The world was asked these questions in order, each answered with what stood there at its moment, and
--- nothing else happened in it; and what is given is defined by the answers, whatever other questions
--- would be answered.
+-- nothing else happened in it. What is given is defined by the answers, whatever other questions would
+-- be answered, and the files and commands among the questions are those of the definition: no more, no
+-- fewer, in its order. A command may have gone without an answer where the outside failed.
 pub record ReadBy {A : Type 0} (meaning : Meaning) (before after : Option History)
     (held held_after : Option (List ℕ)) (answer : Result A ReadFault)
     (defined : Answers → Reads A) : Type 0
   where
     pub questions : List Question
-    pub asked : Told before after (Asks meaning (failure_in answer) questions)
+    pub asked : Told before after (AreAsked meaning questions)
+    pub whole : IsWhole (failure_in answer) questions
     pub gave : (answers : Answers) → Answered answers questions
-        → Gave held held_after answer (defined answers)
+        → Gave held held_after (acts_of questions) answer (defined answers)

@@ -1,53 +1,63 @@
 -- What one logical line of a makefile does that is none of the blocks'.
-use Rattle.std.specs.Prelude.{ℕ, true, List, [], ◌∷◌, ◌++◌, Option, Some, None, codes}
+use Rattle.std.specs.Prelude.{ℕ, true, false, List, [], ◌∷◌, Option, Some, None, Result, Ok, Err, codes}
 use Rattle.std.specs.Prelude.{if◌then◌else◌}
-use Rattle.mk_blocks.specs.Outcomes.{refused}
+use Rattle.mk_blocks.specs.Outcomes.{refused, ◌>>=◌}
 use Rattle.mk_directive.specs.Directives.{Directed, directive_on}
 use Rattle.mk_directive.specs.declared.directive.Directive.{Directive}
 use Rattle.mk_directive.specs.declared.directive.Directive.TheVariants.{Undef, Error, Warning, Info}
-use Rattle.mk_graph.specs.declared.Rule.{Rule}
+use Rattle.mk_ast.specs.declared.fault.AstFault.{AstFault}
+use Rattle.mk_expand.specs.Texts.{of_tree}
+use Rattle.mk_rules.specs.Rules.{Ruled, commanded}
 use Rattle.mk_scopes.specs.declared.scopes.Class.TheVariants.{Global}
 use Rattle.mk_reader.specs.Assignments.{Parts, assignment}
-use Rattle.mk_reader.specs.Dependencies.{rule_on}
+use Rattle.mk_reader.specs.Dependencies.{Parted, parted, ruled}
 use Rattle.mk_reader.specs.Kinds.{command_in, plain_text, is_only_white}
 use Rattle.mk_reader.specs.Messages.{message, stop}
 use Rattle.mk_reader.specs.Moments.{Doing, Moment, closed, stands}
 use Rattle.mk_reader.specs.Questions.{Answers}
 use Rattle.mk_reader.specs.Variables.{assigned_by, undefined_by}
-use Rattle.mk_reader.specs.declared.fault.What.TheVariants.{LostCommand, Unbuilt}
+use Rattle.mk_reader.specs.Values.{value}
+use Rattle.mk_reader.specs.declared.fault.What.{What}
+use Rattle.mk_reader.specs.declared.fault.What.TheVariants.{Expand, LostCommand}
 
--- one more command of the rule
-abbrev pub commanded : Option Rule → List ℕ → Option Rule
-commanded None command = None
-commanded (Some rule) command = Some (record rule { commands = rule.commands ++ command ∷ [] })
+abbrev pub with_rules : Moment → Ruled → Moment
+with_rules s rules = record s { made = record s.made { rules = rules } }
 
+-- one more command of the last line's targets
 abbrev pub with_command : Moment → List ℕ → Moment
-with_command s command = record s { made = record s.made { rule = commanded s.made.rule command } }
+with_command s command = with_rules s (commanded s.made.rules command)
 
--- A command line, without its tab, belongs to the group of the last rule; white space alone is
+-- A command line, without its tab, belongs to the group of the last dependency line; white space alone is
 -- passed over.
 abbrev pub command_read : List ℕ → Moment → Doing (Unit {0})
 command_read command s =
     if is_only_white command then stands s
     else (if s.in_group then stands (with_command s command) else refused LostCommand)
 
--- the one rule that is built opens its group
-abbrev pub with_rule : Moment → Rule → Moment
-with_rule s rule = record s { made = record s.made { rule = Some rule }; in_group = true }
+-- a dependency line opens a group
+abbrev pub opened : Result Ruled What → Moment → Doing (Unit {0})
+opened (Ok rules) s = stands (record (with_rules s rules) { in_group = true })
+opened (Err what) s = refused what
 
-abbrev pub ruled : Option Rule → Option Rule → Moment → Doing (Unit {0})
-ruled None (Some rule) s = stands (with_rule s rule)
-ruled before here s = refused Unbuilt
+-- a line whose references are expanded
+abbrev pub line_added : Option (List ℕ) → List ℕ → Moment → Doing (Unit {0})
+line_added command text s = opened (ruled s.made.rules s.made.scopes.cwd command text) s
 
-abbrev pub dependency_read : List ℕ → Moment → Doing (Unit {0})
-dependency_read line s = ruled s.made.rule (rule_on s.made.scopes.cwd line) s
+abbrev pub by_parts : Answers → Result Parted AstFault → Moment → Doing (Unit {0})
+by_parts answers (Err fault) s = refused (Expand (of_tree fault))
+by_parts answers (Ok parts) s =
+    value answers false parts.0 s >>= λ shown. line_added parts.1 shown.0 shown.1
+
+-- A dependency line: what stands before its command is expanded.
+abbrev pub dependency_read : Answers → List ℕ → Moment → Doing (Unit {0})
+dependency_read answers line s = by_parts answers (parted line) s
 
 -- an assignment closes the group and sets a global
 abbrev pub assignment_read : Answers → Parts → Moment → Doing (Unit {0})
 assignment_read answers parts s = assigned_by answers Global parts.1 parts.0 parts.2 (closed s)
 
 abbrev pub by_assignment : Answers → List ℕ → Option Parts → Moment → Doing (Unit {0})
-by_assignment answers line None s = dependency_read line s
+by_assignment answers line None s = dependency_read answers line s
 by_assignment answers line (Some parts) s = assignment_read answers parts s
 
 -- directives that are none of the blocks'

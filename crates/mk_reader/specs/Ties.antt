@@ -3,6 +3,7 @@ use Rattle.std.specs.Prelude.{◌≡◌, ℕ, ◌<◌, ◌≤◌, List, [], ◌�
 use Rattle.std.specs.Prelude.{zero, suc}
 use Rattle.std.proofs.Common.{refl, sym, ap, subst, ◌∙◌, append_assoc, arith}
 use Rattle.std.proofs.lemmas.List.{append-nil, map-append}
+use Rattle.mk_blocks.specs.Acts.{Act}
 use Rattle.mk_blocks.specs.Outcomes.{done}
 use Rattle.mk_blocks.specs.Ties.{Does, Ties}
 use Rattle.mk_expand.specs.Facts.{Means}
@@ -10,20 +11,17 @@ use Rattle.mk_expand.specs.Facts as expand
 use Rattle.mk_expand.specs.declared.facts.Asked.{Asked}
 use Rattle.mk_expand.specs.declared.fault.ExpandFault.{ExpandFault}
 use Rattle.mk_world.specs.Causes.{HasCause}
-use Rattle.mk_world.specs.Runs.{RanAtMost}
-use Rattle.mk_world.specs.Sinks.{Gains, GainsPart}
 use Rattle.mk_world.specs.Talks.{Meaning}
 use Rattle.mk_world.specs.Told.{Told}
-use Rattle.mk_world.proofs.SinkLemmas.{Gains-nothing, Gains-then, GainsPart-more, GainsPart-then}
-use Rattle.mk_world.specs.declared.command.Cmd.{Cmd}
 use Rattle.mk_world.specs.declared.history.History.{History}
+use Rattle.mk_reader.specs.Acts.{Did, Did-both, Did-nothing, DidPart, DidPart-behind, DidPart-more, DidPart-whole, acts_of}
 use Rattle.mk_reader.specs.Kinds.{line_kind}
 use Rattle.mk_reader.specs.Languages.{meaning}
-use Rattle.mk_reader.specs.Leads.{AreAsked-both, Led}
+use Rattle.mk_reader.specs.Leads.{Led, told-none, told_both}
 use Rattle.mk_reader.specs.Moments.{Doing, Moment, moment_of}
 use Rattle.mk_reader.specs.Notes.{asked_by, question_of, questions_in}
 use Rattle.mk_reader.specs.Questions.{Answered, Answers, AreAsked, Question}
-use Rattle.mk_reader.specs.Questions.{readings_in, runnings_in, times_in}
+use Rattle.mk_reader.specs.Questions.{cuts_in, cuts_in-append, readings_in, runnings_in, times_in}
 use Rattle.mk_reader.specs.Questions.{readings_in-append, runnings_in-append, times_in-append}
 use Rattle.mk_reader.specs.declared.fault.Outside.{Outside}
 use Rattle.mk_reader.specs.declared.fault.Outside.TheVariants as outside
@@ -43,58 +41,20 @@ pub record Outer (W S : Type 0) : Type 1 where
   pub held : S → Option (List ℕ)
   pub lost : S → ℕ
 
--- A command that was not answered may have been run.
-abbrev pub Cut : Meaning → Option Outside → History → History → Type 0
-Cut meaning None mid new = new ≡ mid
-Cut meaning (Some outside.Sink) mid new = new ≡ mid
-Cut meaning (Some outside.World) mid new = (cmd : Cmd) × RanAtMost meaning cmd mid new
-Cut meaning (Some outside.NoMemory) mid new = (cmd : Cmd) × RanAtMost meaning cmd mid new
-
--- Questions were asked, one after the other, and then the outside may have failed so.
-abbrev pub Asks : Meaning → Option Outside → List Question → History → History → Type 0
-Asks meaning failure questions old new =
-    (mid : History) × AreAsked meaning questions old mid × Cut meaning failure mid new
+-- Where nothing failed, each command was answered.
+abbrev pub IsWhole : Option Outside → List Question → Type 0
+IsWhole None questions = cuts_in questions ≡ []
+IsWhole (Some failure) questions = Unit {0}
 
 -- how a call ended
 abbrev pub ended : Option Outside → Result (Unit {0}) Outside
 ended None = Ok tt
 ended (Some failure) = Err failure
 
--- the bytes of messages, in order
-abbrev pub all_bytes : List (List ℕ) → List ℕ
-all_bytes [] = []
-all_bytes (message ∷ messages) = message ++ all_bytes messages
-
-pub all_bytes-append : (first second : List (List ℕ))
-    → all_bytes (first ++ second) ≡ all_bytes first ++ all_bytes second
-all_bytes-append [] second = refl
-all_bytes-append (message ∷ first) second =
-    ap (λ l. message ++ l) (all_bytes-append first second)
-    ∙ sym (append_assoc message (all_bytes first) (all_bytes second))
-
-pub GainsPart-whole : (a b : Option (List ℕ)) (bytes : List ℕ) → Gains a b bytes → GainsPart a b bytes
-GainsPart-whole a None bytes gains = tt
-GainsPart-whole None (Some b) bytes gains = gains
-GainsPart-whole (Some a) (Some b) bytes gains =
-    (bytes, record { rest = []; is = sym (append-nil bytes) }, gains)
-
-pub asks_nothing : (meaning : Meaning) (told : Option History) → Told told told (Asks meaning None [])
-asks_nothing meaning None = tt
-asks_nothing meaning (Some history) = (history, refl, refl)
-
-asks_both : (meaning : Meaning) (failure : Option Outside) (a b c : Option History)
-    (first second : List Question)
-    → Told a b (Asks meaning None first) → Told b c (Asks meaning failure second)
-    → Told a c (Asks meaning failure (first ++ second))
-asks_both meaning failure a b None first second asked more = tt
-asks_both meaning failure a None (Some z) first second asked more = absurd more
-asks_both meaning failure None (Some y) (Some z) first second asked more = absurd asked
-asks_both meaning failure (Some x) (Some y) (Some z) first second asked more = (
-  more.0,
-  AreAsked-both meaning x y more.0 first second
-      (subst (λ h. AreAsked meaning first x h) (sym asked.2) asked.1) more.1,
-  more.2,
-)
+whole_both : (failure : Option Outside) (first second : List Question) → cuts_in first ≡ []
+    → IsWhole failure second → IsWhole failure (first ++ second)
+whole_both None first second none whole = cuts_in-append first second ∙ rw (none, whole) refl
+whole_both (Some failure) first second none whole = tt
 
 pub no_cause : (failed : Outside) (count : ℕ) → HasCause failed count count (ended None)
 no_cause failed count = record {
@@ -153,7 +113,8 @@ module _ {W S : Type 0} (outer : Outer W S) where
     pub more : List Note
     pub noted : y.state.now.notes.items ≡ x.state.now.notes.items ++ more
     pub told : idle x → Told (outer.history x.world.now) (outer.history y.world.now)
-        (Asks outer.meaning failure (questions_in more))
+        (AreAsked outer.meaning (questions_in more))
+    pub whole : IsWhole failure (questions_in more)
     pub stays_idle : idle x → idle y
     pub world_cause : HasCause outside.World (outer.faults x.world.now) (outer.faults y.world.now)
         (ended failure)
@@ -168,7 +129,8 @@ module _ {W S : Type 0} (outer : Outer W S) where
     order = refl;
     more = [];
     noted = sym (append-nil x.state.now.notes.items);
-    told = λ is. asks_nothing outer.meaning (outer.history x.world.now);
+    told = λ is. told-none outer.meaning (outer.history x.world.now);
+    whole = refl;
     stays_idle = λ is. is;
     world_cause = no_cause outside.World (outer.faults x.world.now);
     sink_cause = no_cause outside.Sink (outer.lost x.err.now);
@@ -186,12 +148,16 @@ module _ {W S : Type 0} (outer : Outer W S) where
         ∙ append_assoc x.state.now.notes.items first.more second.more;
     told = λ is.
         subst (λ q. Told (outer.history x.world.now) (outer.history z.world.now)
-        (Asks outer.meaning failure q))
+        (AreAsked outer.meaning q))
         (sym (map-append question_of first.more second.more))
-        (asks_both outer.meaning failure (outer.history x.world.now)
+        (told_both outer.meaning (outer.history x.world.now)
         (outer.history y.world.now) (outer.history z.world.now)
         (questions_in first.more) (questions_in second.more)
         (first.told is) (second.told (first.stays_idle is)));
+    whole =
+        subst (IsWhole failure) (sym (map-append question_of first.more second.more))
+        (whole_both failure (questions_in first.more) (questions_in second.more) first.whole
+        second.whole);
     stays_idle = λ is. second.stays_idle (first.stays_idle is);
     world_cause = cause_behind outside.World (outer.faults x.world.now)
         (outer.faults y.world.now) (outer.faults z.world.now) (ended failure)
@@ -212,12 +178,16 @@ module _ {W S : Type 0} (outer : Outer W S) where
       (ap questions_in leads.noted ∙ map-append question_of x.state.now.notes.items leads.more)
       by)
 
-  abbrev pub writes : Reader W S → Reader W S → List (List ℕ) → Type 0
-  writes x y messages = Gains (outer.held x.err.now) (outer.held y.err.now) (all_bytes messages)
+  -- the files and commands that were asked for
+  abbrev pub acts_at : Reader W S → List Act
+  acts_at x = acts_of (questions_in x.state.now.notes.items)
 
-  abbrev pub writes_part : Reader W S → Reader W S → List (List ℕ) → Type 0
-  writes_part x y messages =
-      GainsPart (outer.held x.err.now) (outer.held y.err.now) (all_bytes messages)
+  abbrev pub did : Reader W S → Reader W S → List Act → Type 0
+  did x y acts = Did (outer.held x.err.now) (outer.held y.err.now) (acts_at x) (acts_at y) acts
+
+  abbrev pub did_part : Reader W S → Reader W S → List Act → Type 0
+  did_part x y acts =
+      DidPart (outer.held x.err.now) (outer.held y.err.now) (acts_at x) (acts_at y) acts
 
   -- What lines mean to a reader.
   abbrev pub reader_ties : Ties (Reader W S) What Outside
@@ -229,29 +199,24 @@ module _ {W S : Type 0} (outer : Outer W S) where
     kind = line_kind;
     meaning = meaning;
     leads = Leads;
-    writes = writes;
-    writes_part = writes_part;
+    did = did;
+    did_part = did_part;
     leads_nowhere = leads_nowhere;
     leads_on = leads_on;
     agreed = agreed;
-    writes_nothing = λ x. Gains-nothing (outer.held x.err.now);
-    writes_both = λ {x} {y} {z} {first} {second} one other.
-        subst (λ l. Gains (outer.held x.err.now) (outer.held z.err.now) l)
-        (sym (all_bytes-append first second))
-        (Gains-then (outer.held x.err.now) (outer.held y.err.now) (outer.held z.err.now)
-        (all_bytes first) (all_bytes second) one other);
-    part_of_whole = λ {x} {y} {whole} gains.
-        GainsPart-whole (outer.held x.err.now) (outer.held y.err.now) (all_bytes whole) gains;
-    part_of_more = λ {x} {y} {part} more gained.
-        subst (λ l. GainsPart (outer.held x.err.now) (outer.held y.err.now) l)
-        (sym (all_bytes-append part more))
-        (GainsPart-more (outer.held x.err.now) (outer.held y.err.now)
-        (all_bytes part) (all_bytes more) gained);
-    part_behind = λ {x} {y} {z} {first} {second} gains gained.
-        subst (λ l. GainsPart (outer.held x.err.now) (outer.held z.err.now) l)
-        (sym (all_bytes-append first second))
-        (GainsPart-then (outer.held x.err.now) (outer.held y.err.now) (outer.held z.err.now)
-        (all_bytes first) (all_bytes second) gains gained);
+    did_nothing = λ x. Did-nothing (outer.held x.err.now) (acts_at x);
+    did_both = λ {x} {y} {z} {first} {second} one other.
+        Did-both (outer.held x.err.now) (outer.held y.err.now) (outer.held z.err.now)
+        (acts_at x) (acts_at y) (acts_at z) first second one other;
+    part_of_whole = λ {x} {y} {whole} done.
+        DidPart-whole (outer.held x.err.now) (outer.held y.err.now) (acts_at x) (acts_at y) whole
+        done;
+    part_of_more = λ {x} {y} {part} more done.
+        DidPart-more (outer.held x.err.now) (outer.held y.err.now) (acts_at x) (acts_at y) part
+        more done;
+    part_behind = λ {x} {y} {z} {first} {second} one part.
+        DidPart-behind (outer.held x.err.now) (outer.held y.err.now) (outer.held z.err.now)
+        (acts_at x) (acts_at y) (acts_at z) first second one part;
   }
 
 abbrev pub outer : {W S : Type 0} → Meaning → (W → Option History) → (W → ℕ)

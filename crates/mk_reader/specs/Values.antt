@@ -1,5 +1,6 @@
 -- What reading asks of the outside.
-use Rattle.std.specs.Prelude.{ℕ, ◌+◌, Bool, List, [], Option, Result, Ok, Err}
+use Rattle.std.specs.Prelude.{ℕ, ◌+◌, Bool, List, [], ◌∷◌, Option, Result, Ok, Err}
+use Rattle.mk_blocks.specs.Acts.{Act, looked, ran}
 use Rattle.mk_blocks.specs.Outcomes.{refused}
 use Rattle.mk_cond.specs.Cond.{Cond}
 use Rattle.mk_expand.specs.Facts.{Lists}
@@ -15,7 +16,7 @@ use Rattle.mk_reader.specs.declared.fault.What.TheVariants.{Expand}
 
 -- what `make`, `target` and `commands` of conditions are answered from
 abbrev pub lists_at : Moment → Lists
-lists_at s = lists_of s.made.rule s.order.flags.requested
+lists_at s = lists_of s.made.rules s.order.flags.requested
 
 abbrev pub expanded : {A : Type 0} → Moment → Result (A × List Asked) ExpandFault → Doing A
 expanded s (Ok found) = given found.0 (record s { asked = found.1 })
@@ -32,9 +33,14 @@ abbrev pub truth : Answers → Cond → Moment → Doing Bool
 truth answers cond s =
     expanded s (expand.truth s.made.scopes no_locals (lists_at s) answers.exists s.asked cond)
 
+-- what an act finds
+abbrev pub asking : {A : Type 0} → Act → A → Moment → Doing A
+asking act found s = record { acts = act ∷ []; answer = Ok (found, s) }
+
 -- the bytes of a file, or none where it is missing
 abbrev pub contents : Answers → List ℕ → Moment → Doing (Option (List ℕ))
-contents answers path s = given (answers.contents s.read path) (record s { read = s.read + 1 })
+contents answers path s =
+    asking (looked path) (answers.contents s.read path) (record s { read = s.read + 1 })
 
 abbrev pub command_at : Moment → List ℕ → Cmd
 command_at s text = record { text = text; cwd = s.made.scopes.cwd; exports = [] }
@@ -42,4 +48,5 @@ command_at s text = record { text = text; cwd = s.made.scopes.cwd; exports = [] 
 -- what a command prints
 abbrev pub output : Answers → List ℕ → Moment → Doing (List ℕ)
 output answers text s =
-    given (answers.outputs s.ran (command_at s text)) (record s { ran = s.ran + 1 })
+    asking (ran (command_at s text)) (answers.outputs s.ran (command_at s text))
+    (record s { ran = s.ran + 1 })

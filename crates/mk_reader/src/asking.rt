@@ -34,14 +34,14 @@ fn value_in<W: World>(
     ensures evaluated { Evaluated W.meaning (W.runs world.old []) (W.runs world.new [])
         (W.history world.old) (W.history world.new) state.old state.new (λ value. value) result
         (λ answers. expand.value_of_text state.old.made.scopes no_locals
-        (lists_of state.old.made.rule requested.now) answers keep
+        (lists_of state.old.made.rules requested.now) answers keep
         (asked_by state.old.notes.items) text.now) }
     ensures cause { HasCause failed (W.faults world.old) (W.faults world.new) result }
 {
     let locals = Locals::none(alloc)?;
     let made = &state.made;
     let mut facts = ReadFacts {
-        made,
+        rules: &made.rules,
         requested,
         world,
         notes: &mut state.notes,
@@ -60,14 +60,14 @@ fn truth_in<W: World>(
     ensures evaluated { Evaluated W.meaning (W.runs world.old []) (W.runs world.new [])
         (W.history world.old) (W.history world.new) state.old state.new (λ truth. truth) result
         (λ answers. expand.truth state.old.made.scopes no_locals
-        (lists_of state.old.made.rule requested.now) answers
+        (lists_of state.old.made.rules requested.now) answers
         (asked_by state.old.notes.items) (cond_view cond.now)) }
     ensures cause { HasCause failed (W.faults world.old) (W.faults world.new) result }
 {
     let locals = Locals::none(alloc)?;
     let made = &state.made;
     let mut facts = ReadFacts {
-        made,
+        rules: &made.rules,
         requested,
         world,
         notes: &mut state.notes,
@@ -127,7 +127,16 @@ impl<'a, W: World, S: Sink> Reader<'a, W, S> {
         if self.state.notes.reserve(1).is_err() {
             return Err(Refusal::NoMemory);
         }
-        let ended = self.world.ask(alloc, &cmd)?;
+        let ended = match self.world.ask(alloc, &cmd) {
+            Ok(ended) => ended,
+            Err(fault) => {
+                self.state
+                    .notes
+                    .push(Note::Cut(Snapshot::of(&cmd)))
+                    .unwrap();
+                return Err(Refusal::from(fault));
+            }
+        };
         self.state
             .notes
             .push(Note::Ran(Snapshot::of(&cmd), Snapshot::of(&ended)))

@@ -89,7 +89,8 @@ fn final_blanks(text: &[u8]) -> usize
         .count()
 }
 
-fn without_blanks_before<'t>(text: &'t [u8]) -> &'t [u8]
+/// A text without the blanks that begin it.
+pub fn without_blanks_before<'t>(text: &'t [u8]) -> &'t [u8]
     ensures { result.now ≡ words.without_blanks_before text.now }
 {
     &text[leading_blanks(text)..]

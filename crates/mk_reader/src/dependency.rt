@@ -1,99 +1,65 @@
-//! Dependency lines (make(1), "FILE DEPENDENCY SPECIFICATIONS"), of the one form that is built.
-ghost use Rattle.std.specs.Prelude.{◌≡◌, position, IfOk};
-ghost use Rattle.std.specs.List.{list_all};
+//! Dependency lines (make(1), "FILE DEPENDENCY SPECIFICATIONS"), and the commands on them.
+ghost use Rattle.std.specs.Prelude.{◌≡◌, ◌<◌, length, OnOk, IfOk, IfErr, IfSome, IsTrue, Ok};
+ghost use Rattle.std.specs.Option.{option_copied};
+ghost use Rattle.mk_ast.specs.declared.fault.AstFault.TheVariants.{NoMemory as no_memory};
+ghost use Rattle.mk_bytes.specs.Agrees.{Agrees};
+ghost use Rattle.mk_bytes.specs.Paths.{is_clean_directory};
 ghost use Rattle.mk_reader.specs.Dependencies as spec;
+ghost use Rattle.mk_reader.specs.DependencyView.{IsRefusedLine, parts_seen};
 
-use crate::assignment::without_blanks;
-use mk_bytes::{Items, NoMemory, Text, Texts, clean_path};
-use mk_directive::words;
-use mk_graph::Rule;
+use crate::assignment::without_blanks_before;
+use crate::fault::Refusal;
+use mk_ast::{AstFault, reference_end};
+use mk_depline::parse_dep;
+use mk_rules::Rules;
 use std::alloc::Global;
 
-fn is_plain_byte(byte: u8) -> bool
-    ensures { result ≡ spec.is_plain_byte byte }
+// The place of the first `;` that stands in no reference.
+fn first_semicolon(alloc: Global, line: &[u8]) -> Result<Option<usize>, AstFault>
+    ensures exact { Agrees no_memory (λ at. at) result (spec.first_semicolon line.now) }
+    ensures within { IfOk result (λ found. IfSome found (λ at. at < length line.now)) }
 {
-    matches!(byte, b'A'..=b'Z' | b'a'..=b'z' | b'0'..=b'9' | b'_' | b'/' | b'-' | b'.')
+    let mut at = 0;
+    while at < line.len() {
+        match line[at] {
+            b';' => return Ok(Some(at)),
+            b'$' => at = reference_end(alloc, line, at)?,
+            _ => at += 1,
+        }
+    }
+    Ok(None)
 }
 
-fn are_plain_bytes(name: &[u8]) -> bool
-    ensures { result ≡ list_all spec.is_plain_byte name.now }
+/// A line, and the command behind its first `;` that stands in no reference, without leading blanks.
+/// A fault of a reference before it comes first.
+pub fn parted<'t>(alloc: Global, line: &'t [u8]) -> Result<(&'t [u8], Option<&'t [u8]>), AstFault>
+    ensures { Agrees no_memory parts_seen result (spec.parted line.now) }
 {
-    name.iter().all(|byte| is_plain_byte(*byte))
-}
-
-fn is_plain_name(name: &[u8]) -> bool
-    ensures { result ≡ spec.is_plain_name name.now }
-{
-    match name {
-        [] => false,
-        [first, ..] => *first != b'.' && are_plain_bytes(name),
+    match first_semicolon(alloc, line)? {
+        None => Ok((line, None)),
+        Some(at) => Ok((&line[..at], Some(without_blanks_before(&line[at + 1..])))),
     }
 }
 
-fn first_colon(line: &[u8]) -> Option<usize>
-    ensures { result ≡ position spec.is_colon line.now }
+/// Adds what an expanded line says, with the first command of its group. After a refusal the rules are
+/// given up.
+pub fn add_line(
+    alloc: Global,
+    rules: &mut Rules,
+    cwd: &[u8],
+    command: Option<&[u8]>,
+    text: &[u8],
+) -> Result<(), Refusal>
+    requires directory { IsTrue (is_clean_directory cwd.now) }
+    ensures done { OnOk result
+        (spec.ruled rules.old cwd.now (option_copied command.entry) text.now ≡ Ok rules.new) }
+    ensures refused { IfErr result (IsRefusedLine
+        (spec.ruled rules.old cwd.now (option_copied command.entry) text.now)) }
 {
-    line.iter().position(|byte| *byte == b':')
-}
-
-// Whether all names are plain ones.
-fn are_plain_names(names: &Texts) -> bool
-    ensures { result ≡ list_all spec.is_plain_name names.now }
-{
-    names
-        .as_slice()
-        .iter()
-        .all(|name| is_plain_name(name.bytes()))
-}
-
-// Names, cleaned against the current directory.
-fn cleaned_all(alloc: Global, cwd: &[u8], names: &Texts) -> Result<Texts, NoMemory>
-    ensures { IfOk result (λ cleaned. cleaned ≡ spec.cleaned cwd.now names.now) }
-{
-    let mut cleaned = Items::new(alloc, names.len())?;
-    for name in names.as_slice() {
-        cleaned.push(clean_path(alloc, cwd, name.bytes())?)?;
+    let line = parse_dep(alloc, text, cwd, rules.suffixes())?;
+    rules.add_line(&line)?;
+    if let Some(command) = command {
+        rules.add_command(command)?;
     }
-    Ok(cleaned)
-}
-
-fn is_among(names: &Texts, name: &[u8]) -> bool
-    ensures { result ≡ spec.is_among names.now name.now }
-{
-    names.as_slice().iter().any(|one| one.bytes() == name)
-}
-
-/// The rule of a dependency line, with its names cleaned against the current directory and without
-/// commands. `None` where the line has a form that is not built: every other form than one target,
-/// a colon and sources, all of them plain names, and a target that is one of its own sources.
-pub fn rule_on(alloc: Global, cwd: &[u8], line: &[u8]) -> Result<Option<Rule>, NoMemory>
-    ensures { IfOk result (λ rule. rule ≡ spec.rule_on cwd.now line.now) }
-{
-    let Some(at) = first_colon(line) else {
-        return Ok(None);
-    };
-    let target = without_blanks(&line[..at]);
-    let sources = words(alloc, &line[at + 1..])?;
-    if !is_plain_name(target) || !are_plain_names(&sources) {
-        return Ok(None);
-    }
-    rule_of(
-        alloc,
-        clean_path(alloc, cwd, target)?,
-        cleaned_all(alloc, cwd, &sources)?,
-    )
-}
-
-// A rule without commands, where the target is none of its own sources.
-fn rule_of(alloc: Global, target: Text, sources: Texts) -> Result<Option<Rule>, NoMemory>
-    ensures { IfOk result (λ rule. rule ≡ spec.rule_of target sources) }
-{
-    if is_among(&sources, target.bytes()) {
-        return Ok(None);
-    }
-    Ok(Some(Rule {
-        target,
-        sources,
-        commands: Items::new(alloc, 0)?,
-    }))
+    Ok(())
 }

@@ -1,10 +1,12 @@
 //! What conditions ask of the lines that were read and of the world.
-ghost use Rattle.std.specs.Prelude.{◌≡◌, [], true, false, IsTrue, IfOk, IfErr, OnErr};
+ghost use Rattle.std.specs.Prelude.{◌≡◌, ◌<◌, [], Bool, true, false, length, is_none, IsTrue, IfOk, IfErr, IfSome, OnErr};
 ghost use Rattle.std.specs.List.{list_any};
 ghost use Rattle.mk_cond.specs.declared.cond.Fun.TheVariants.{Exists as exists};
 ghost use Rattle.mk_expand.specs.Facts.{IsTold, asked_with, is_fact, is_listed};
 ghost use Rattle.mk_expand.specs.declared.facts.FactFault.TheVariants.{Failed, Unbuilt};
 ghost use Rattle.mk_glob.specs.Patterns as patterns;
+ghost use Rattle.mk_graph.specs.Nodes.{Node, node_at};
+ghost use Rattle.mk_graph.specs.Where.{has_commands, is_target, names_where};
 ghost use Rattle.mk_reader.specs.Facts as spec;
 ghost use Rattle.mk_reader.specs.Leads.{Led};
 ghost use Rattle.mk_reader.specs.Notes.{asked_by};
@@ -16,17 +18,18 @@ use mk_bytes::{Text, Texts};
 use mk_cond::Fun;
 use mk_expand::{FactFault, Facts};
 use mk_glob::matches;
-use mk_graph::{Made, Rule};
+use mk_graph::{Attr, Graph};
+use mk_rules::Rules;
 use mk_world::{When, World, WorldFault};
 use std::alloc::Global;
 use std::snapshot::Snapshot;
 
-/// What conditions ask while makefiles are read: `make` of the requested names, or of the main target
-/// so far where there is none, `target` and `commands` of the rules so far, and `exists` of the world,
+/// What conditions ask while makefiles are read: `make` of the requested names, or of the main targets
+/// so far where there are none, `target` and `commands` of the lines so far, and `exists` of the world,
 /// where it is asked for the time of a path.
 #[derive(Drop)]
 pub struct ReadFacts<'a, W: World> {
-    pub made: &'a Made,
+    pub rules: &'a Rules,
     pub requested: &'a Texts,
     pub world: &'a mut W,
     pub notes: &'a mut Vec<Note>,
@@ -59,35 +62,52 @@ fn is_among(names: &Texts, pattern: &[u8]) -> bool
         .any(|name| matches(pattern, name.bytes()))
 }
 
-// Whether a pattern matches a requested name, or the main target where none is requested.
-fn is_wanted(rule: &Option<Rule>, requested: &Texts, pattern: &[u8]) -> bool
+// Whether a pattern matches a requested name, or a main target so far where none is requested.
+fn is_wanted(rules: &Rules, requested: &Texts, pattern: &[u8]) -> bool
     ensures { result ≡ list_any (patterns.matches pattern.now)
-        (spec.wanted_of rule.now requested.now) }
+        (spec.wanted_of rules.now requested.now) }
 {
     if !requested.is_empty() {
         return is_among(requested, pattern);
     }
-    match rule {
-        Some(rule) => matches(pattern, rule.target.bytes()),
+    if !rules.main().is_empty() {
+        return is_among(rules.main(), pattern);
+    }
+    match rules.first_main() {
+        Some(name) => matches(pattern, name),
         None => false,
     }
 }
 
-fn is_target(rule: &Option<Rule>, name: &[u8]) -> bool
-    ensures { result ≡ is_listed (spec.targets_of rule.now) name.now }
+// The node of a name, of which there is one.
+fn node_of(graph: &Graph, name: &[u8]) -> Option<u32>
+    ensures found { IfSome result (λ n. (n < length graph.now)
+        × ((is_so : Node → Bool) → is_so (node_at graph.now n)
+        ≡ is_listed (names_where is_so graph.now) name.now)) }
+    ensures missing { is_none result ≡ true → (is_so : Node → Bool)
+        → is_listed (names_where is_so graph.now) name.now ≡ false }
 {
-    match rule {
-        Some(rule) => rule.target.bytes() == name,
+    if graph.len() == 0 {
+        return None;
+    }
+    graph.find(name)
+}
+
+fn is_target(graph: &Graph, name: &[u8]) -> bool
+    ensures { result ≡ is_listed (names_where is_target graph.now) name.now }
+{
+    match node_of(graph, name) {
+        Some(n) => graph.has(n, Attr::Target),
         None => false,
     }
 }
 
-fn has_commands(rule: &Option<Rule>, name: &[u8]) -> bool
-    ensures { result ≡ is_listed (spec.commanded_of rule.now) name.now }
+fn has_commands(graph: &Graph, name: &[u8]) -> bool
+    ensures { result ≡ is_listed (names_where has_commands graph.now) name.now }
 {
-    match rule {
-        Some(rule) if !rule.commands.is_empty() => rule.target.bytes() == name,
-        _ => false,
+    match node_of(graph, name) {
+        Some(n) => !graph.commands(n).is_empty(),
+        None => false,
     }
 }
 
@@ -99,7 +119,7 @@ impl<'a, W: World> ReadFacts<'a, W> {
             ≡ asked_with (asked_by self.old.notes.now.items) exists path.now answer) }
         ensures refused { OnErr result
             (asked_by self.new.notes.now.items ≡ asked_by self.old.notes.now.items) }
-        ensures made { self.new.made.now ≡ self.old.made.now }
+        ensures rules { self.new.rules.now ≡ self.old.rules.now }
         ensures requested { self.new.requested.now ≡ self.old.requested.now }
         ensures built { IfErr result (λ fault. fault ≡ Unbuilt → ⊥) }
         ensures cause { HasCause Failed (W.faults self.old.world.now) (W.faults self.new.world.now) result }
@@ -133,7 +153,7 @@ impl<'a, W: World> Facts for ReadFacts<'a, W> {
     ghost use Rattle.mk_reader.specs.Leads.{Led, led_nowhere, led_on};
     ghost use Rattle.mk_reader.specs.Notes.{asked_by};
 
-    ghost lists = { λ facts. lists_of facts.made.now.rule facts.requested.now };
+    ghost lists = { λ facts. lists_of facts.rules.now facts.requested.now };
 
     ghost asked = { λ facts. asked_by facts.notes.now.items };
 
@@ -148,18 +168,18 @@ impl<'a, W: World> Facts for ReadFacts<'a, W> {
     fn fact(&mut self, alloc: Global, fun: Fun, argument: &[u8]) -> Result<bool, FactFault>
         requires { IsTrue (is_fact fun) }
         ensures told { IfOk result (λ answer.
-            IsTold (spec.lists_of self.old.made.now.rule self.old.requested.now) fun argument.now answer) }
+            IsTold (spec.lists_of self.old.rules.now self.old.requested.now) fun argument.now answer) }
         ensures asked { IfOk result (λ answer.
             asked_by self.new.notes.now.items
             ≡ asked_with (asked_by self.old.notes.now.items) fun argument.now answer) }
         ensures refused { OnErr result
             (asked_by self.new.notes.now.items ≡ asked_by self.old.notes.now.items) }
         ensures built { IfOk result (λ answer.
-            (spec.lists_of self.old.made.now.rule self.old.requested.now).built ≡ true) }
+            (spec.lists_of self.old.rules.now self.old.requested.now).built ≡ true) }
         ensures unbuilt { IfErr result (λ fault. fault ≡ Unbuilt
-            → (spec.lists_of self.old.made.now.rule self.old.requested.now).built ≡ false) }
-        ensures lists { spec.lists_of self.new.made.now.rule self.new.requested.now
-            ≡ spec.lists_of self.old.made.now.rule self.old.requested.now }
+            → (spec.lists_of self.old.rules.now self.old.requested.now).built ≡ false) }
+        ensures lists { spec.lists_of self.new.rules.now self.new.requested.now
+            ≡ spec.lists_of self.old.rules.now self.old.requested.now }
         ensures cause { HasCause Failed (W.faults self.old.world.now) (W.faults self.new.world.now) result }
         ensures leads { (self.new.world.ghost_name ≡ self.old.world.ghost_name)
             × (self.new.notes.ghost_name ≡ self.old.notes.ghost_name)
@@ -168,10 +188,10 @@ impl<'a, W: World> Facts for ReadFacts<'a, W> {
             × (W.runs self.old.world.now [] → W.runs self.new.world.now []) }
     {
         match fun {
-            Fun::Make => Ok(is_wanted(&self.made.rule, self.requested, argument)),
+            Fun::Make => Ok(is_wanted(self.rules, self.requested, argument)),
             Fun::Exists => self.exists(alloc, argument),
-            Fun::Target => Ok(is_target(&self.made.rule, argument)),
-            Fun::Commands => Ok(has_commands(&self.made.rule, argument)),
+            Fun::Target => Ok(is_target(self.rules.graph(), argument)),
+            Fun::Commands => Ok(has_commands(self.rules.graph(), argument)),
             Fun::Defined => Ok(false),
             Fun::Empty => Ok(false),
         }

@@ -2,10 +2,13 @@
 ghost use Rattle.std.specs.Prelude.{◌≡◌};
 ghost use Rattle.mk_reader.specs.ReadFaults as spec;
 
+use mk_ast::AstFault;
 use mk_blocks::{BlockFault, FileFault, Wrong};
 use mk_bytes::{Kind, NoMemory, Text};
 use mk_cond::CondFault;
+use mk_depline::DepFault;
 use mk_expand::ExpandFault;
+use mk_rules::RuleFault;
 use mk_world::{SinkFault, WorldFault};
 use std::alloc::Global;
 
@@ -41,6 +44,22 @@ pub enum What {
     IncludeForm,
     /// The file of this name is missing.
     Include(Text),
+    /// A dependency line has no operator.
+    NoOperator,
+    /// A dependency line has the operator `::`.
+    DoubleColon,
+    /// A dependency line has no target.
+    NoTargets,
+    /// A special target stands beside another target.
+    MixedSpecial,
+    /// A target stood with the other operator before.
+    Operators,
+    /// A brace is open in a dependency line.
+    Brace,
+    /// A rule from one suffix to another has sources.
+    RuleSources,
+    /// A name would be one node more than there may be. `read` answers with `Limit` then.
+    TooManyNames,
     /// An `.error` with this text.
     Error(Text),
     /// A name or a text has no value. The fault is never want of memory, nor a failure of the
@@ -48,6 +67,51 @@ pub enum What {
     Expand(ExpandFault),
     /// The line has a form that is not built yet.
     Unbuilt,
+}
+
+impl From<RuleFault> for Refusal {
+    ghost use Rattle.std.specs.Prelude.{◌≡◌};
+    ghost use Rattle.mk_reader.specs.Refusals.{of_rule_fault};
+
+    ghost from_gives = { λ given fault. fault ≡ of_rule_fault given };
+
+    fn from(fault: RuleFault) -> Refusal {
+        match fault {
+            RuleFault::Operators => Refusal::Wrong(What::Operators),
+            RuleFault::TooManyNames => Refusal::Wrong(What::TooManyNames),
+            RuleFault::NoMemory => Refusal::NoMemory,
+        }
+    }
+}
+
+impl From<DepFault> for Refusal {
+    ghost use Rattle.std.specs.Prelude.{◌≡◌};
+    ghost use Rattle.mk_reader.specs.Refusals.{of_line_fault};
+
+    ghost from_gives = { λ given fault. fault ≡ of_line_fault given };
+
+    fn from(fault: DepFault) -> Refusal {
+        match fault {
+            DepFault::NoOperator => Refusal::Wrong(What::NoOperator),
+            DepFault::DoubleColon => Refusal::Wrong(What::DoubleColon),
+            DepFault::NoTargets => Refusal::Wrong(What::NoTargets),
+            DepFault::MixedSpecial => Refusal::Wrong(What::MixedSpecial),
+            DepFault::Brace => Refusal::Wrong(What::Brace),
+            DepFault::RuleSources => Refusal::Wrong(What::RuleSources),
+            DepFault::NoMemory => Refusal::NoMemory,
+        }
+    }
+}
+
+impl From<AstFault> for Refusal {
+    ghost use Rattle.std.specs.Prelude.{◌≡◌};
+    ghost use Rattle.mk_reader.specs.Refusals.{of_ast};
+
+    ghost from_gives = { λ given fault. fault ≡ of_ast given };
+
+    fn from(fault: AstFault) -> Refusal {
+        Refusal::from(ExpandFault::from(fault))
+    }
 }
 
 /// How a call of the outside failed.
@@ -226,6 +290,9 @@ impl From<FileFault<What, Outside>> for Stop {
 
     fn from(fault: FileFault<What, Outside>) -> Stop {
         match fault {
+            FileFault::Bad(_, _, Wrong::Line(What::TooManyNames)) => {
+                Stop::Fault(Fault::Limit(Kind::Names, 1_048_576))
+            }
             FileFault::Bad(name, number, wrong) => {
                 Stop::Fault(Fault::Bad(name, number, what_of(wrong)))
             }
@@ -283,6 +350,17 @@ pub fn refused(alloc: Global, refusal: Refusal) -> Stop
 {
     match refusal {
         Refusal::Wrong(what) => Stop::Fault(Fault::Bad(Text::new(alloc), 0, what)),
+        Refusal::Failed(failure) => Stop::Failed(failure),
+        Refusal::NoMemory => Stop::NoMemory,
+    }
+}
+
+/// What is wrong behind the last line of a makefile stands at its line 0.
+pub fn refused_at_end(file: Text, refusal: Refusal) -> Stop
+    ensures { result ≡ spec.of_end_refusal file refusal }
+{
+    match refusal {
+        Refusal::Wrong(what) => Stop::Fault(Fault::Bad(file, 0, what)),
         Refusal::Failed(failure) => Stop::Failed(failure),
         Refusal::NoMemory => Stop::NoMemory,
     }

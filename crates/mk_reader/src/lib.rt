@@ -1,4 +1,4 @@
-//! Reading of makefiles: from their bytes to variables and the rule (make(1)).
+//! Reading of makefiles: from their bytes to variables and the graph (make(1)).
 #![tactic(auto)]
 
 mod asking;

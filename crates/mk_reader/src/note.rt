@@ -12,4 +12,6 @@ pub enum Note {
     Time(Snapshot<Text>, Snapshot<When>),
     /// A command was run to its end.
     Ran(Snapshot<Cmd>, Snapshot<Ended>),
+    /// A command was not answered, and may have been run.
+    Cut(Snapshot<Cmd>),
 }

@@ -1,9 +1,10 @@
 //! Reading of the makefiles of a run.
-ghost use Rattle.std.specs.Prelude.{◌≡◌, ◌≤◌, ◌^◌, ◌<◌, [], length, IsTrue, OnOk};
+ghost use Rattle.std.specs.Prelude.{◌≡◌, ◌≤◌, ◌^◌, ◌<◌, [], length, IsTrue, IfOk, OnOk};
 ghost use Rattle.mk_bytes.specs.Paths.{is_clean_directory};
 ghost use Rattle.mk_reader.specs.Reading as spec;
-ghost use Rattle.mk_reader.specs.Results.{Found, ReadBy, Went};
-ghost use Rattle.mk_reader.specs.Ties.{outer};
+ghost use Rattle.mk_reader.specs.Modes as modes;
+ghost use Rattle.mk_reader.specs.Results.{Ended, Found, ReadBy, Went};
+ghost use Rattle.mk_reader.specs.Ties.{Gave, outer};
 ghost use Rattle.mk_reader.specs.declared.fault.ReadFault.TheVariants.{
   Sink as sink_failed,
   World
@@ -11,13 +12,15 @@ ghost use Rattle.mk_reader.specs.declared.fault.ReadFault.TheVariants.{
 };
 ghost use Rattle.mk_world.specs.Causes.{HasCause};
 
-use crate::fault::{Fault, ReadFault, Stop, refused};
+use crate::fault::{Fault, ReadFault, Refusal, Stop, What, refused, refused_at_end};
 use crate::reader::Reader;
-use crate::state::State;
+use crate::state::{Draft, State};
 use mk_blocks::read_file;
-use mk_bytes::{Text, Texts, clean_path};
+use mk_bytes::{NoMemory, Text, Texts, clean_path};
 use mk_cli::Order;
-use mk_graph::Made;
+use mk_directive::words;
+use mk_graph::{Made, Mode};
+use mk_rules::{Rules, mode_by};
 use mk_scopes::{Env, Scopes};
 use mk_world::{Sink, World};
 use std::alloc::Global;
@@ -52,6 +55,7 @@ impl<'a, W: World, S: Sink> Reader<'a, W, S> {
             self.old self.new count.old count.new result
             (λ answers. spec.whole_read answers file.now text.now) }
     {
+        self.state.made.file = Text::from_bytes(alloc, file)?;
         read_file(alloc, self, file, text, count)?;
         Ok(())
     }
@@ -129,6 +133,81 @@ impl<'a, W: World, S: Sink> Reader<'a, W, S> {
         self.apply_words(alloc)?;
         self.read_makefiles(alloc, &order.files, count)
     }
+
+    // The words of the value of a text.
+    fn words_of(&mut self, alloc: Global, text: &[u8]) -> Result<Texts, Refusal>
+        ensures { Gave (outer W.meaning W.history W.faults W.runs S.held S.faults)
+            self.old self.new (λ words. words) result (λ answers. modes.words_in answers text.now) }
+    {
+        let value = self.value(alloc, false, text)?;
+        Ok(words(alloc, value.bytes())?)
+    }
+
+    // How a build goes by these words of `.MAKE.MODE`, with these ignored paths.
+    fn mode_of(&mut self, words: &Texts, ignored: Texts) -> Result<Mode, Refusal>
+        ensures { Gave (outer W.meaning W.history W.faults W.runs S.held S.faults)
+            self.old self.new (λ mode. mode) result (λ answers. modes.mode_at words.now ignored) }
+    {
+        let rules = &self.state.made.rules;
+        let mode = mode_by(words, ignored, rules.one_job(), rules.delete_on_error());
+        if mode.meta && mode.curdir_ok {
+            return Err(Refusal::Wrong(What::Unbuilt));
+        }
+        Ok(mode)
+    }
+
+    // How a build goes, by the words of `.MAKE.MODE`.
+    fn mode_with(&mut self, alloc: Global, words: &Texts) -> Result<Mode, Refusal>
+        ensures { Gave (outer W.meaning W.history W.faults W.runs S.held S.faults)
+            self.old self.new (λ mode. mode) result (λ answers. modes.mode_with answers words.now) }
+    {
+        let ignored = self.words_of(alloc, b"${.MAKE.META.IGNORE_PATHS}")?;
+        self.mode_of(words, ignored)
+    }
+
+    // How a build goes, as the variables ask for it.
+    fn read_mode(&mut self, alloc: Global) -> Result<Mode, Refusal>
+        ensures { Gave (outer W.meaning W.history W.faults W.runs S.held S.faults)
+            self.old self.new (λ mode. mode) result modes.mode_read }
+    {
+        let words = self.words_of(alloc, b"${.MAKE.MODE}")?;
+        self.mode_with(alloc, &words)
+    }
+
+    // The same, with what is wrong at line 0 of the last makefile.
+    fn mode_at_end(&mut self, alloc: Global) -> Result<Mode, Stop>
+        ensures { Found (outer W.meaning W.history W.faults W.runs S.held S.faults)
+            self.old self.new result spec.mode_ended }
+    {
+        let file = self.state.made.file.copy(alloc)?;
+        match self.read_mode(alloc) {
+            Ok(mode) => Ok(mode),
+            Err(refusal) => Err(refused_at_end(file, refusal)),
+        }
+    }
+
+    // Reads all of a run: the command line, the makefiles, and how a build goes.
+    fn read_to_end(&mut self, alloc: Global, count: &mut u32) -> Result<Mode, Stop>
+        ensures { Ended (outer W.meaning W.history W.faults W.runs S.held S.faults)
+            self.old self.new count.old result }
+    {
+        self.read_all(alloc, count)?;
+        self.mode_at_end(alloc)
+    }
+}
+
+// What makefiles leave.
+fn made_of(draft: Draft, mode: Mode) -> Result<Made, NoMemory>
+    ensures { IfOk result (λ made. made ≡ modes.made_by draft mode) }
+{
+    let finished = draft.rules.finish()?;
+    Ok(Made {
+        scopes: draft.scopes,
+        graph: finished.graph,
+        suffixes: finished.suffixes,
+        main: finished.main,
+        mode,
+    })
 }
 
 /// Reads the makefiles of a run: what they leave, over the environment and the assignments of the
@@ -159,15 +238,16 @@ pub fn read<W: World, S: Sink>(
     ensures idle { W.runs world.new [] }
 {
     let mut state = State {
-        made: Made {
+        made: Draft {
             scopes: Scopes::new(alloc, env, order.env_first)?,
-            rule: None,
+            rules: Rules::new(alloc)?,
+            file: Text::new(alloc),
         },
         in_group: false,
         notes: Vec::new(alloc),
     };
     let mut count = 0;
     let mut reader = Reader::new(world, err, &mut state, order);
-    reader.read_all(alloc, &mut count)?;
-    Ok(state.made)
+    let mode = reader.read_to_end(alloc, &mut count)?;
+    Ok(made_of(state.made, mode)?)
 }

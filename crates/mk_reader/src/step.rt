@@ -1,36 +1,22 @@
 //! What one logical line of a makefile does that is none of the blocks'.
-ghost use Rattle.std.specs.Prelude.{◌≡◌, OnOk, OnErr};
+ghost use Rattle.std.specs.Option.{option_copied};
 ghost use Rattle.mk_reader.specs.Steps as spec;
 ghost use Rattle.mk_reader.specs.Ties.{Gave, outer};
 
 use crate::assignment::{Parts, assignment};
-use crate::dependency::rule_on;
+use crate::dependency::{add_line, parted};
 use crate::fault::{Refusal, What};
 use crate::kind::{command_in, is_only_white, without_spaces};
 use crate::reader::Reader;
-use mk_bytes::{NoMemory, Text};
 use mk_directive::{Directed, Directive, directive_on};
-use mk_graph::Rule;
 use mk_lines::cut_comment;
 use mk_scopes::Class;
 use mk_world::{Sink, World};
 use std::alloc::Global;
 
-// Adds a command to a rule.
-fn add_command(alloc: Global, rule: &mut Option<Rule>, command: &[u8]) -> Result<(), NoMemory>
-    ensures ok { OnOk result (rule.new ≡ spec.commanded rule.old command.now) }
-    ensures err { OnErr result (rule.new ≡ rule.old) }
-{
-    let command = Text::from_bytes(alloc, command)?;
-    match rule {
-        Some(rule) => rule.commands.push(command),
-        None => Ok(()),
-    }
-}
-
 impl<'a, W: World, S: Sink> Reader<'a, W, S> {
     // Reads a command line, without its tab.
-    fn read_command(&mut self, alloc: Global, command: &[u8]) -> Result<(), Refusal>
+    fn read_command(&mut self, command: &[u8]) -> Result<(), Refusal>
         ensures { Gave (outer W.meaning W.history W.faults W.runs S.held S.faults)
             self.old self.new (λ done. done) result
             (λ answers. spec.command_read command.now) }
@@ -41,7 +27,24 @@ impl<'a, W: World, S: Sink> Reader<'a, W, S> {
         if !self.state.in_group {
             return Err(Refusal::Wrong(What::LostCommand));
         }
-        add_command(alloc, &mut self.state.made.rule, command)?;
+        self.state.made.rules.add_command(command)?;
+        Ok(())
+    }
+
+    // Adds a line whose references are expanded, with the command on it.
+    fn add_line(
+        &mut self,
+        alloc: Global,
+        command: Option<&[u8]>,
+        text: &[u8],
+    ) -> Result<(), Refusal>
+        ensures { Gave (outer W.meaning W.history W.faults W.runs S.held S.faults)
+            self.old self.new (λ done. done) result
+            (λ answers. spec.line_added (option_copied command.entry) text.now) }
+    {
+        let made = &mut self.state.made;
+        add_line(alloc, &mut made.rules, made.scopes.cwd(), command, text)?;
+        self.state.in_group = true;
         Ok(())
     }
 
@@ -49,17 +52,11 @@ impl<'a, W: World, S: Sink> Reader<'a, W, S> {
     fn read_dependency(&mut self, alloc: Global, line: &[u8]) -> Result<(), Refusal>
         ensures { Gave (outer W.meaning W.history W.faults W.runs S.held S.faults)
             self.old self.new (λ done. done) result
-            (λ answers. spec.dependency_read line.now) }
+            (λ answers. spec.dependency_read answers line.now) }
     {
-        if self.state.made.rule.is_some() {
-            return Err(Refusal::Wrong(What::Unbuilt));
-        }
-        let Some(rule) = rule_on(alloc, self.state.made.scopes.cwd(), line)? else {
-            return Err(Refusal::Wrong(What::Unbuilt));
-        };
-        self.state.made.rule = Some(rule);
-        self.state.in_group = true;
-        Ok(())
+        let (text, command) = parted(alloc, line)?;
+        let value = self.value(alloc, false, text)?;
+        self.add_line(alloc, command, value.bytes())
     }
 
     // Reads an assignment, which closes the group.
@@ -142,7 +139,7 @@ impl<'a, W: World, S: Sink> Reader<'a, W, S> {
             (λ answers. spec.line_read answers file.now number text.now) }
     {
         if let Some(command) = command_in(text) {
-            return self.read_command(alloc, command);
+            return self.read_command(command);
         }
         let line = cut_comment(alloc, text)?;
         self.read_plain(alloc, file, number, without_spaces(line.as_slice()))

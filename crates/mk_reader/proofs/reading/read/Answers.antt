@@ -3,13 +3,15 @@ use Rattle.std.proofs.lemmas.Result.{err_from_is_err_and}
 use Rattle.mk_blocks.specs.Outcomes.{done, ◌>>=◌}
 use Rattle.mk_blocks.specs.Runs.{run_at}
 use Rattle.mk_graph.specs.declared.Made.{Made}
+use Rattle.mk_reader.specs.Modes.{made_at}
 use Rattle.mk_reader.specs.Orders.{first_moment}
 use Rattle.mk_reader.specs.ReadFaults.{sorted}
-use Rattle.mk_reader.specs.Reading.{all_read, reading}
+use Rattle.mk_reader.specs.Reading.{reading, run_read}
 use Rattle.mk_reader.specs.Results.{standing}
 use Rattle.mk_reader.specs.Ties.{outer}
-use Rattle.mk_reader.proofs.ReadByLemmas.{read_err, read_nothing, read_ok, sink_by, world_by}
-use Rattle.mk_reader.proofs.TieLemmas.{does-as, first-refused, first-then, still-given}
+use Rattle.mk_reader.specs.declared.fault.Stop.TheVariants as stop
+use Rattle.mk_reader.proofs.ReadByLemmas.{read_err, read_nothing, read_ok, sink_by, sink_ok, world_by, world_ok}
+use Rattle.mk_reader.proofs.TieLemmas.{does-as, first-refused, first-then, still-given, still-want}
 use Rattle.mk_reader.proofs.reading.read.Goals as goal
 
 pub returns-in_err-new-clause-reading : goal.returns-in_err-new-clause-reading
@@ -17,67 +19,140 @@ returns-in_err-new-clause-reading g c =
     let p = err_from_is_err_and c.from_residual.result c.from_residual.ensures.1 in
     rw (p.1, p.2) (read_nothing g.W.World.meaning _ _ _)
 
-pub returns-in_err-read_all-clause-reading : goal.returns-in_err-read_all-clause-reading
-returns-in_err-read_all-clause-reading g c =
-    let p = err_from_is_err_and c.from_residual-in_err-read_all.result
-    c.from_residual-in_err-read_all.ensures.1 in
+pub returns-in_err-new-2-clause-reading : goal.returns-in_err-new-2-clause-reading
+returns-in_err-new-2-clause-reading g c =
+    let p = err_from_is_err_and c.from_residual-in_err-new-2.result
+    c.from_residual-in_err-new-2.ensures.1 in
+    rw (p.1, p.2) (read_nothing g.W.World.meaning _ _ _)
+
+pub returns-in_err-mode-clause-reading : goal.returns-in_err-mode-clause-reading
+returns-in_err-mode-clause-reading g c =
+    let p = err_from_is_err_and c.from_residual-in_err-mode.result
+    c.from_residual-in_err-mode.ensures.1 in
     let same = c.new-reader.ensures in
-    let went = c.in_err-read_all.ensures in
+    let went = c.in_err-mode.ensures in
     let o = outer g.W.World.meaning g.W.World.history g.W.World.faults g.W.World.runs g.S.Sink.held
     g.S.Sink.faults in
     let start : standing c.new-reader.result ≡ first_moment c.args.env.now c.args.order.now =
-    rw (same.state, same.order, c.in_ok-new.ensures, c.new-2.ensures.items) refl in
-    let none : c.new-reader.result.state.now.notes.items ≡ [] = rw same.state c.new-2.ensures.items in
+    rw (
+      same.state,
+      same.order,
+      c.in_ok-new.ensures,
+      c.in_ok-new-2.ensures,
+      c.new-3.ensures,
+      c.new-4.ensures.items,
+    ) refl in
+    let none : c.new-reader.result.state.now.notes.items ≡ [] = rw same.state c.new-4.ensures.items in
     let idle = rw (← same.world) at c.requires.idle in
     let whole = does-as _ sorted _ _ _ {rest = λ answers (made : Made). done made} _
     {whole = λ answers. reading answers c.args.env.now c.args.order.now}
-    (λ answers. ap (λ s. all_read answers (run_at s 0) >>= λ last. done last.state.made) (sym start))
-    (first-refused _ sorted (λ answers last. done last.state.made) went) in
+    (λ answers.
+    ap (λ s. run_read answers (run_at s 0) >>= λ end. done (made_at end.0 end.1)) (sym start))
+    (first-refused _ sorted (λ answers end. done (made_at end.0 end.1)) went) in
     rw (
       p.1,
       p.2,
       c.world-1.given.1 (sym (went.leads.world ∙ same.same_world)),
       c.err-1.given.1 (sym (went.leads.err ∙ same.same_err)),
     )
-    (rw (same.world, same.err) at (read_err o c.in_err-read_all.field-0.0 none idle whole))
+    (rw (same.world, same.err) at (read_err o c.in_err-mode.field-0.0 none idle whole))
 
-pub returns-in_err-read_all-clause-world_cause : goal.returns-in_err-read_all-clause-world_cause
-returns-in_err-read_all-clause-world_cause g c =
-    let p = err_from_is_err_and c.from_residual-in_err-read_all.result
-    c.from_residual-in_err-read_all.ensures.1 in
+pub returns-in_err-mode-clause-world_cause : goal.returns-in_err-mode-clause-world_cause
+returns-in_err-mode-clause-world_cause g c =
+    let p = err_from_is_err_and c.from_residual-in_err-mode.result
+    c.from_residual-in_err-mode.ensures.1 in
     let same = c.new-reader.ensures in
-    let leads = c.in_err-read_all.ensures.leads in
+    let leads = c.in_err-mode.ensures.leads in
     rw (p.1, p.2, c.world-1.given.1 (sym (leads.world ∙ same.same_world)))
-    (rw same.world at (world_by _ {A = Made} c.in_err-read_all.field-0.0 leads))
+    (rw same.world at (world_by _ {A = Made} c.in_err-mode.field-0.0 leads))
 
-pub returns-in_err-read_all-clause-sink_cause : goal.returns-in_err-read_all-clause-sink_cause
-returns-in_err-read_all-clause-sink_cause g c =
-    let p = err_from_is_err_and c.from_residual-in_err-read_all.result
-    c.from_residual-in_err-read_all.ensures.1 in
+pub returns-in_err-mode-clause-sink_cause : goal.returns-in_err-mode-clause-sink_cause
+returns-in_err-mode-clause-sink_cause g c =
+    let p = err_from_is_err_and c.from_residual-in_err-mode.result
+    c.from_residual-in_err-mode.ensures.1 in
     let same = c.new-reader.ensures in
-    let leads = c.in_err-read_all.ensures.leads in
+    let leads = c.in_err-mode.ensures.leads in
     rw (p.1, p.2, c.err-1.given.1 (sym (leads.err ∙ same.same_err)))
-    (rw same.err at (sink_by _ {A = Made} c.in_err-read_all.field-0.0 leads))
+    (rw same.err at (sink_by _ {A = Made} c.in_err-mode.field-0.0 leads))
+
+pub returns-in_err-made_of-clause-reading : goal.returns-in_err-made_of-clause-reading
+returns-in_err-made_of-clause-reading g c =
+    let p = err_from_is_err_and c.from_residual-in_err-made_of.result
+    c.from_residual-in_err-made_of.ensures.1 in
+    let same = c.new-reader.ensures in
+    let went = c.in_ok-mode.ensures in
+    let o = outer g.W.World.meaning g.W.World.history g.W.World.faults g.W.World.runs g.S.Sink.held
+    g.S.Sink.faults in
+    let start : standing c.new-reader.result ≡ first_moment c.args.env.now c.args.order.now =
+    rw (
+      same.state,
+      same.order,
+      c.in_ok-new.ensures,
+      c.in_ok-new-2.ensures,
+      c.new-3.ensures,
+      c.new-4.ensures.items,
+    ) refl in
+    let none : c.new-reader.result.state.now.notes.items ≡ [] = rw same.state c.new-4.ensures.items in
+    let idle = rw (← same.world) at c.requires.idle in
+    let whole = does-as _ sorted _ _ _ {rest = λ answers (made : Made). done made} _
+    {whole = λ answers. reading answers c.args.env.now c.args.order.now}
+    (λ answers.
+    ap (λ s. run_read answers (run_at s 0) >>= λ end. done (made_at end.0 end.1)) (sym start))
+    (first-then _ sorted (λ answers end. done (made_at end.0 end.1)) went
+    (still-want _ sorted _ _ stop.NoMemory refl)) in
+    rw (
+      p.1,
+      p.2,
+      c.world-1.given.1 (sym (went.leads.world ∙ same.same_world)),
+      c.err-1.given.1 (sym (went.leads.err ∙ same.same_err)),
+    )
+    (rw (same.world, same.err) at (read_err o stop.NoMemory none idle whole))
 
 pub returns-clause-reading : goal.returns-clause-reading
 returns-clause-reading g c =
     let same = c.new-reader.ensures in
-    let went = c.in_ok-read_all.ensures in
+    let went = c.in_ok-mode.ensures in
     let o = outer g.W.World.meaning g.W.World.history g.W.World.faults g.W.World.runs g.S.Sink.held
     g.S.Sink.faults in
     let start : standing c.new-reader.result ≡ first_moment c.args.env.now c.args.order.now =
-    rw (same.state, same.order, c.in_ok-new.ensures, c.new-2.ensures.items) refl in
-    let none : c.new-reader.result.state.now.notes.items ≡ [] = rw same.state c.new-2.ensures.items in
+    rw (
+      same.state,
+      same.order,
+      c.in_ok-new.ensures,
+      c.in_ok-new-2.ensures,
+      c.new-3.ensures,
+      c.new-4.ensures.items,
+    ) refl in
+    let none : c.new-reader.result.state.now.notes.items ≡ [] = rw same.state c.new-4.ensures.items in
     let idle = rw (← same.world) at c.requires.idle in
-    let whole = does-as _ sorted _ _ _ _
+    let whole = does-as _ sorted _ _ _ {rest = λ answers (made : Made). done made} _
     {whole = λ answers. reading answers c.args.env.now c.args.order.now}
-    (λ answers. ap (λ s. all_read answers (run_at s 0) >>= λ last. done last.state.made) (sym start))
-    (first-then _ sorted (λ answers last. done last.state.made) went
-    (still-given _ sorted _ _ c.read_all.new.self.state.now.made (λ answers. refl))) in
+    (λ answers.
+    ap (λ s. run_read answers (run_at s 0) >>= λ end. done (made_at end.0 end.1)) (sym start))
+    (first-then _ sorted (λ answers end. done (made_at end.0 end.1)) went
+    (still-given _ sorted _ _ (made_at c.in_ok-mode.mode (standing c.read_to_end.new.self))
+    (λ answers. refl))) in
+    let made : c.in_ok-made_of.field-0
+    ≡ made_at c.in_ok-mode.mode (standing c.read_to_end.new.self) =
+    rw (c.state-3-1.given.1 (sym (went.leads.state ∙ same.same_state))) at c.in_ok-made_of.ensures in
     rw (
       c.world-1.given.1 (sym (went.leads.world ∙ same.same_world)),
       c.err-1.given.1 (sym (went.leads.err ∙ same.same_err)),
-      c.state-3-1.given.1 (sym (went.leads.state ∙ same.same_state)),
+      made,
     )
     (rw (same.world, same.err) at
-    (read_ok o c.read_all.new.self.state.now.made none idle whole))
+    (read_ok o (made_at c.in_ok-mode.mode (standing c.read_to_end.new.self)) none idle whole))
+
+pub returns-clause-world_cause : goal.returns-clause-world_cause
+returns-clause-world_cause g c =
+    let same = c.new-reader.ensures in
+    let leads = c.in_ok-mode.ensures.leads in
+    rw (c.world-1.given.1 (sym (leads.world ∙ same.same_world)))
+    (rw same.world at (world_ok _ c.in_ok-made_of.field-0 leads))
+
+pub returns-clause-sink_cause : goal.returns-clause-sink_cause
+returns-clause-sink_cause g c =
+    let same = c.new-reader.ensures in
+    let leads = c.in_ok-mode.ensures.leads in
+    rw (c.err-1.given.1 (sym (leads.err ∙ same.same_err)))
+    (rw same.err at (sink_ok _ c.in_ok-made_of.field-0 leads))

@@ -1,29 +1,29 @@
 use Rattle.std.proofs.Common.{[], ◌∷◌, ◌++◌, refl, ap, ◌∙◌}
 use Rattle.std.proofs.lemmas.Result.{err_from_is_err_and}
+use Rattle.mk_blocks.specs.Acts.{looked}
 use Rattle.mk_world.proofs.IdleLemmas.{IsIdle, looked_idle, same_idle}
 use Rattle.mk_reader.specs.declared.note.Note.TheVariants.{Read}
-use Rattle.mk_reader.proofs.GaveLemmas.{gave-given, gave-unanswered, gave-want, leads-noted, leads-same}
-use Rattle.mk_reader.proofs.GaveLemmas.{unanswered-same, world-cause}
+use Rattle.mk_reader.proofs.GaveLemmas.{gave-asked, gave-unread, leads-noted, world-cause}
 use Rattle.mk_reader.proofs.MomentLemmas.{contents-noted}
+use Rattle.mk_reader.proofs.StepLemmas.{changed-want}
 use Rattle.mk_reader.proofs.reader.Reader.look.Goals as goal
 
 pub returns-then-is_err : goal.returns-then-is_err
 returns-then-is_err g c =
-    gave-want _ _ _ _ _ refl
-    (leads-same _ _ _ (record { world = refl; err = refl; state = refl; order = refl; same = refl })
-    refl c.reserve.ensures.items)
+    changed-want _ _ _ (record { world = refl; err = refl; state = refl; order = refl; same = refl })
+    _ _ refl c.reserve.ensures.items
 
 pub returns-in_err-found : goal.returns-in_err-found
 returns-in_err-found g c =
     let p = err_from_is_err_and c.from_residual.result c.from_residual.ensures.1 in
     rw (p.1, p.2)
-    (gave-unanswered _ _ _
+    (gave-unread _ _ _
     (record { world = refl; err = refl; state = refl; order = refl; same = refl }) _ _ _
     c.reserve.ensures.items
-    (unanswered-same _ _ _ _ (λ runs.
+    (λ runs.
     let idle : IsIdle (g.W.World.history c.args.self.now.world.now) =
     λ h is. g.met.W.World.told_children c.args.self.now.world.now h [] runs is in
-    same_idle g.W.World.meaning _ _ idle c.in_err-found.ensures.refused))
+    same_idle g.W.World.meaning _ _ idle c.in_err-found.ensures.refused)
     (λ runs. c.in_err-found.ensures.children [] runs)
     c.in_err-found.ensures.cause)
 
@@ -32,7 +32,7 @@ returns g c =
     let note = Read c.of.result c.of-2.result in
     let pushed = (rw c.unwrap.ensures at c.push.ensures.items)
     ∙ ap (λ l. l ++ note ∷ []) c.reserve.ensures.items in
-    gave-given _ _ _ _ _ refl _
+    gave-asked _ _ _ _ _ (looked c.args.path.now ∷ []) note refl pushed (rw c.of.ensures refl) refl _
     (leads-noted _ _ _
     (record { world = refl; err = refl; state = refl; order = refl; same = refl }) note pushed
     (λ runs.
@@ -41,6 +41,7 @@ returns g c =
     looked_idle g.W.World.meaning c.of.result.value c.of-2.result.value
     (g.W.World.history c.args.self.now.world.now) (g.W.World.history c.read.new.self) idle
     (rw (c.of.ensures, ← c.bytes.ensures.value, c.of-2.ensures) c.in_ok-found.ensures.done))
+    refl
     (λ runs. c.in_ok-found.ensures.children [] runs)
     (world-cause _ _ _ c.in_ok-found.ensures.cause))
     (λ answers by.

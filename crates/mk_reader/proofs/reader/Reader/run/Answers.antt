@@ -1,65 +1,76 @@
-use Rattle.std.proofs.Common.{[], ◌∷◌, ◌++◌, refl, ap, ◌∙◌}
+use Rattle.std.proofs.Common.{◌≡◌, [], ◌∷◌, ◌++◌, refl, ap, ◌∙◌}
 use Rattle.std.proofs.lemmas.Result.{err_from_is_err_and}
+use Rattle.mk_blocks.specs.Acts.{Act, ran}
 use Rattle.mk_world.proofs.AskLemmas.{asked_idle, unanswered_idle}
 use Rattle.mk_world.proofs.IdleLemmas.{IsIdle}
-use Rattle.mk_reader.specs.declared.note.Note.TheVariants.{Ran}
-use Rattle.mk_reader.proofs.GaveLemmas.{gave-given, gave-unanswered, gave-want, leads-noted, leads-same}
-use Rattle.mk_reader.proofs.GaveLemmas.{unanswered-ran, world-cause}
+use Rattle.mk_world.specs.declared.command.Cmd.{Cmd}
+use Rattle.mk_reader.specs.Moments.{moment_of}
+use Rattle.mk_reader.specs.Values.{command_at}
+use Rattle.mk_reader.specs.declared.note.Note.TheVariants.{Cut, Ran}
+use Rattle.mk_reader.proofs.GaveLemmas.{gave-asked, gave-cut_off, leads-noted, world-cause}
 use Rattle.mk_reader.proofs.MomentLemmas.{output-noted}
+use Rattle.mk_reader.proofs.StepLemmas.{changed-want, here-want}
 use Rattle.mk_reader.proofs.reader.Reader.run.Goals as goal
 
 pub returns-in_err-cwd : goal.returns-in_err-cwd
 returns-in_err-cwd g c =
     let p = err_from_is_err_and c.from_residual.result c.from_residual.ensures.1 in
-    rw (p.1, p.2)
-    (gave-want _ _ _ _ _ refl
-    (leads-same _ _ _ (record { world = refl; err = refl; state = refl; order = refl; same = refl })
-    refl refl))
+    rw (p.1, p.2) (here-want _ _ _ _)
 
 pub returns-then-is_err : goal.returns-then-is_err
 returns-then-is_err g c =
-    gave-want _ _ _ _ _ refl
-    (leads-same _ _ _ (record { world = refl; err = refl; state = refl; order = refl; same = refl })
-    refl c.reserve.ensures.items)
+    changed-want _ _ _ (record { world = refl; err = refl; state = refl; order = refl; same = refl })
+    _ _ refl c.reserve.ensures.items
 
-pub returns-in_err-ended : goal.returns-in_err-ended
-returns-in_err-ended g c =
-    let p = err_from_is_err_and c.from_residual-in_err-ended.result c.from_residual-in_err-ended.ensures.1 in
-    rw (p.1, p.2)
-    (gave-unanswered _ _ _
-    (record { world = refl; err = refl; state = refl; order = refl; same = refl }) _ _ _
-    c.reserve.ensures.items
-    (unanswered-ran _ _ _ _ _ (λ runs.
+pub returns-in-Err : goal.returns-in-Err
+returns-in-Err g c =
+    let note = Cut c.of.result in
+    let pushed = (rw c.unwrap.ensures at c.push.ensures.items)
+    ∙ ap (λ l. l ++ note ∷ []) c.reserve.ensures.items in
+    let x = c.args.self.now in
+    let act : Act = ran (command_at (moment_of x.state.now x.order.now) c.args.text) in
+    let is : c.of.result.value ≡ command_at (moment_of x.state.now x.order.now) c.args.text =
+    rw (c.of.ensures, c.in_ok-cwd.ensures, c.cwd.ensures.value, c.in_ok-exports.ensures.empty)
+    refl in
+    rw c.from.ensures
+    (gave-cut_off _ _ _
+    (record { world = refl; err = refl; state = refl; order = refl; same = refl }) _ _ _ note act
+    (λ answers. []) pushed (ap (λ (cmd : Cmd). ran cmd ∷ []) is) refl (λ answers. refl)
+    (λ runs.
     let idle : IsIdle (g.W.World.history c.args.self.now.world.now) =
     λ h is. g.met.W.World.told_children c.args.self.now.world.now h [] runs is in
-    unanswered_idle g.W.World.meaning _ _ _ idle c.in_err-ended.ensures.refused))
-    (λ runs. c.in_err-ended.ensures.children [] runs)
-    c.in_err-ended.ensures.cause)
+    rw c.of.ensures (unanswered_idle g.W.World.meaning _ _ _ idle c.in-Err.ensures.refused))
+    (λ runs. c.in-Err.ensures.children [] runs)
+    c.in-Err.ensures.cause)
 
 pub returns : goal.returns
 returns g c =
-    let note = Ran c.of.result c.of-2.result in
-    let pushed = (rw c.unwrap.ensures at c.push.ensures.items)
+    let note = Ran c.of-2.result c.of-3.result in
+    let pushed = (rw c.unwrap-2.ensures at c.push-2.ensures.items)
     ∙ ap (λ l. l ++ note ∷ []) c.reserve.ensures.items in
-    gave-given _ _ _ _ _ refl _
+    let x = c.args.self.now in
+    let act : Act = ran (command_at (moment_of x.state.now x.order.now) c.args.text) in
+    let is : c.of-2.result.value ≡ command_at (moment_of x.state.now x.order.now) c.args.text =
+    rw (c.of-2.ensures, c.in_ok-cwd.ensures, c.cwd.ensures.value, c.in_ok-exports.ensures.empty)
+    refl in
+    gave-asked _ _ _ _ _ (act ∷ []) note refl pushed (ap (λ (cmd : Cmd). ran cmd ∷ []) is) refl _
     (leads-noted _ _ _
     (record { world = refl; err = refl; state = refl; order = refl; same = refl }) note pushed
     (λ runs.
     let idle : IsIdle (g.W.World.history c.args.self.now.world.now) =
     λ h is. g.met.W.World.told_children c.args.self.now.world.now h [] runs is in
-    asked_idle g.W.World.meaning c.of.result.value c.of-2.result.value
+    asked_idle g.W.World.meaning c.of-2.result.value c.of-3.result.value
     (g.W.World.history c.args.self.now.world.now) (g.W.World.history c.ask.new.self) idle
-    (rw (c.of.ensures, c.of-2.ensures) c.in_ok-ended.ensures.done))
-    (λ runs. c.in_ok-ended.ensures.children [] runs)
-    (world-cause _ _ _ c.in_ok-ended.ensures.cause))
+    (rw (c.of-2.ensures, c.of-3.ensures) c.in-Ok.ensures.done))
+    refl
+    (λ runs. c.in-Ok.ensures.children [] runs)
+    (world-cause _ _ _ c.in-Ok.ensures.cause))
     (λ answers by.
-    output-noted answers c.args.self.now.state.now
-    (record c.args.self.now.state.now { notes = c.push.new.self })
-    c.args.self.now.order.now c.args.self.now.order.now note
-    c.args.text c.in_ok-ended.ended refl refl refl pushed
+    output-noted answers x.state.now (record x.state.now { notes = c.push-2.new.self })
+    x.order.now x.order.now note c.args.text c.in-Ok.ended refl refl refl pushed
     (rw (
-      c.of.ensures,
       c.of-2.ensures,
+      c.of-3.ensures,
       c.in_ok-cwd.ensures,
       c.cwd.ensures.value,
       c.in_ok-exports.ensures.empty,
