@@ -72,7 +72,7 @@ Goes-stopped meaning (builds made flags) end h a outside =
     inl (record {
       fault = refused.0;
       refused = OnLooks-none h
-          (λ files. IsRefusedBy refused.0 (planned files made.rule flags.requested))
+          (λ files. IsRefusedBy refused.0 (planned files made flags.requested flags.query))
           (λ files. inl refused.2);
       is = ap unbuilt refused.1;
       printed = Gains-nothing a;

@@ -1,5 +1,5 @@
 -- Builds: a plan of the targets that are asked for is made, and its nodes are built.
-use Rattle.std.specs.Prelude.{◌≡◌, ◌⊎◌, ℕ, ◌==◌, Bool, true, false, not, ◌&&◌, List, [], map}
+use Rattle.std.specs.Prelude.{◌≡◌, ◌⊎◌, ℕ, nat_le, Bool, true, false, not, ◌&&◌, List, [], map}
 use Rattle.std.specs.Prelude.{Option, Ok}
 use Rattle.mk_driver.specs.Builds.{IsBuild}
 use Rattle.mk_driver.specs.Makers.{work_on, moment}
@@ -21,10 +21,10 @@ use Rattle.mk_world.specs.Sinks.{Gains}
 use Rattle.mk_world.specs.Talks.{Meaning}
 use Rattle.mk_world.specs.declared.history.History.{History}
 
--- Whether a build runs one job at a time, up to the first failure. No other one is built yet.
+-- Whether a build makes what is out of date, with 1 to 256 jobs at once. No other one is built yet.
 abbrev pub is_plain : Flags → Bool
 is_plain flags =
-    flags.jobs == 1 && (not flags.keep_going && (not flags.dry && not flags.query))
+    nat_le 1 flags.jobs && (nat_le flags.jobs 256 && (not flags.dry && not flags.query))
 
 -- how a run went that built nothing
 abbrev pub unbuilt : End → Went
@@ -60,7 +60,7 @@ pub record IsUnplanned (made : Made) (flags : Flags) (first last : Point) (went 
   where
     pub fault : PlanFault
     pub refused : OnLooks first.history last.history
-        (λ files. IsRefusedBy fault (planned files made.rule flags.requested))
+        (λ files. IsRefusedBy fault (planned files made flags.requested flags.query))
     pub is : went ≡ unbuilt (of_plan fault)
     pub printed : Gains first.out last.out []
 
@@ -71,7 +71,7 @@ pub record IsBuilt (meaning : Meaning) (made : Made) (flags : Flags) (first last
     pub planned_at : Option History
     pub nodes : List PlanNode
     pub planned : OnLooks first.history planned_at
-        (λ files. planned files made.rule flags.requested ≡ Ok nodes)
+        (λ files. planned files made flags.requested flags.query ≡ Ok nodes)
     pub plan : went.plan ≡ names_of nodes
     pub result : BuildResult
     pub built : IsBuild meaning (work_on nodes made flags) (is_cut result)

@@ -79,7 +79,7 @@ abbrev pub by_mode : Made → Order → List Print → Meant
 by_mode made order [] =
     if is_plain order.flags then builds made order.flags else only (ended (end.Usage 0))
 by_mode made order (print ∷ more) =
-    prints made.scopes (lists_of made.rule order.flags.requested) (print ∷ more)
+    prints made.scopes (lists_of made order.flags.requested) (print ∷ more)
 
 -- what is done behind the reading: its fault ends the run
 abbrev pub by_reading : Order → Result Made ReadFault → Meant

@@ -35,25 +35,33 @@ fault_text expand.Unbuilt = codes "form is not built yet"
 fault_text expand.Failed = codes "an outside call failed"
 fault_text expand.NoMemory = codes "out of memory"
 
--- what is wrong with a block or a directive, without a number
-abbrev pub directive_text : What → List ℕ
-directive_text what.TooLong = codes "line too long"
-directive_text what.Zero = codes "zero byte"
-directive_text what.LostCommand = codes "command without target"
-directive_text what.EmptyName = codes "empty variable name"
-directive_text what.ForForm = codes "bad .for"
-directive_text what.Else = codes "misplaced .else"
-directive_text what.Endif = codes "misplaced .endif"
-directive_text what.Endfor = codes "misplaced .endfor"
-directive_text what.Break = codes "misplaced .break"
-directive_text what.OpenBlock = codes "block is not closed"
-directive_text what.IncludeForm = codes "bad .include"
-directive_text (what.Include file) = codes "can't find " ++ file
-directive_text (what.Error text) = text
-directive_text what.Unbuilt = codes "form is not built yet"
-directive_text (what.Cond at) = []
-directive_text (what.Count words names) = []
-directive_text (what.Expand fault) = []
+-- what is wrong with a line, where no number is shown
+abbrev pub plain_text : What → List ℕ
+plain_text what.TooLong = codes "line too long"
+plain_text what.Zero = codes "zero byte"
+plain_text what.LostCommand = codes "command without target"
+plain_text what.EmptyName = codes "empty variable name"
+plain_text what.ForForm = codes "bad .for"
+plain_text what.Else = codes "misplaced .else"
+plain_text what.Endif = codes "misplaced .endif"
+plain_text what.Endfor = codes "misplaced .endfor"
+plain_text what.Break = codes "misplaced .break"
+plain_text what.OpenBlock = codes "block is not closed"
+plain_text what.IncludeForm = codes "bad .include"
+plain_text (what.Include file) = codes "can't find " ++ file
+plain_text what.NoOperator = codes "no operator"
+plain_text what.DoubleColon = codes ":: is not supported"
+plain_text what.NoTargets = codes "no targets"
+plain_text what.MixedSpecial = codes "special target with others"
+plain_text what.Operators = codes "inconsistent operators"
+plain_text what.Brace = codes "open brace"
+plain_text what.RuleSources = codes "rule with sources"
+plain_text what.TooManyNames = codes "too many names"
+plain_text (what.Error text) = text
+plain_text what.Unbuilt = codes "form is not built yet"
+plain_text (what.Cond at) = []
+plain_text (what.Count words names) = []
+plain_text (what.Expand fault) = []
 
 -- what is wrong with a line
 abbrev pub what_text : What → List ℕ
@@ -61,7 +69,7 @@ what_text (what.Cond at) = codes "bad condition at " ++ decimal at
 what_text (what.Count words names) =
     codes ".for has " ++ (decimal words ++ (codes " words for " ++ (decimal names ++ codes " names")))
 what_text (what.Expand fault) = fault_text fault
-what_text wrong = directive_text wrong
+what_text wrong = plain_text wrong
 
 abbrev pub place_text : List ℕ → List ℕ → List ℕ → List ℕ
 place_text file number wrong =

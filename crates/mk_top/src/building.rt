@@ -39,11 +39,11 @@ pub fn unbuilt(alloc: Global, end: End) -> Went
     }
 }
 
-/// Whether a build runs one job at a time, up to the first failure.
+/// Whether a build makes what is out of date, with 1 to 256 jobs at once.
 pub fn is_plain(flags: &Flags) -> bool
     ensures { result ≡ spec.is_plain flags.now }
 {
-    flags.jobs == 1 && !flags.keep_going && !flags.dry && !flags.query
+    1 <= flags.jobs && flags.jobs <= 256 && !flags.dry && !flags.query
 }
 
 // The names of the nodes in plan order.
@@ -91,7 +91,7 @@ fn build_plan<W: World, S: Sink>(
     requires plain { IsTrue (spec.is_plain flags.now) }
     requires idle { W.runs world.old [] }
     ensures builds { (first : Option History) → OnLooks first (W.history world.old)
-        (λ files. planned files made.now.rule flags.now.requested ≡ Ok plan.now)
+        (λ files. planned files made.now flags.now.requested flags.now.query ≡ Ok plan.now)
         → spec.Builds W.meaning made.now flags.now (spec.point first (S.held out.old))
         (spec.point (W.history world.new) (S.held out.new)) result }
     ensures world_cause { runs.EndCause world_failed (W.faults world.old) (W.faults world.new)
@@ -130,7 +130,7 @@ pub fn build_targets<W: World, S: Sink>(
         result.end }
     ensures idle { W.runs world.new [] }
 {
-    match make_plan(alloc, made, &flags.requested, world) {
+    match make_plan(alloc, made, &flags.requested, flags.query, world) {
         Ok(plan) => build_plan(alloc, &plan, made, flags, world, out),
         Err(fault) => unbuilt(alloc, End::from(fault)),
     }

@@ -92,9 +92,9 @@ fn fault_text<'t>(fault: &'t ExpandFault, at: &'t [u8]) -> [&'t [u8]; 3]
     }
 }
 
-// The text of what is wrong with a block or a directive, which has no number.
-fn directive_text(what: &What) -> [&[u8]; 2]
-    ensures { all_of result ≡ spec.directive_text what.now }
+// The text of what is wrong with a line, where it has no number.
+fn plain_text(what: &What) -> [&[u8]; 2]
+    ensures { all_of result ≡ spec.plain_text what.now }
 {
     match what {
         What::TooLong => [b"line too long", b""],
@@ -109,6 +109,14 @@ fn directive_text(what: &What) -> [&[u8]; 2]
         What::OpenBlock => [b"block is not closed", b""],
         What::IncludeForm => [b"bad .include", b""],
         What::Include(file) => [b"can't find ", file.bytes()],
+        What::NoOperator => [b"no operator", b""],
+        What::DoubleColon => [b":: is not supported", b""],
+        What::NoTargets => [b"no targets", b""],
+        What::MixedSpecial => [b"special target with others", b""],
+        What::Operators => [b"inconsistent operators", b""],
+        What::Brace => [b"open brace", b""],
+        What::RuleSources => [b"rule with sources", b""],
+        What::TooManyNames => [b"too many names", b""],
         What::Error(text) => [text.bytes(), b""],
         What::Unbuilt => [b"form is not built yet", b""],
         What::Cond(_) | What::Count(_, _) | What::Expand(_) => [b"", b""],
@@ -129,7 +137,7 @@ fn what_text<'t>(what: &'t What, at: &'t [u8], names: &'t [u8]) -> [&'t [u8]; 5]
             [before, middle, after, b"", b""]
         }
         other => {
-            let [before, after] = directive_text(other);
+            let [before, after] = plain_text(other);
             [before, after, b"", b"", b""]
         }
     }

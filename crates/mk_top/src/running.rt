@@ -46,7 +46,7 @@ fn print_made<W: World, S: Sink>(
 ) -> Went
     requires idle { W.runs world.old [] }
     ensures prints { runs.PrintsAll made.now.scopes
-        (lists_of made.now.rule order.now.flags.requested) order.now.prints
+        (lists_of made.now order.now.flags.requested) order.now.prints
         (point (W.history world.old) (S.held out.old))
         (point (W.history world.new) (S.held out.new)) result }
     ensures world_cause { EndCause world_failed (W.faults world.old) (W.faults world.new)
@@ -158,8 +158,8 @@ fn finish<S: Sink>(words: &Texts, went: End, err: &mut S) -> End
 ///
 /// It reads the words, then the makefiles, whose messages it writes on `err`, and then prints on `out`
 /// what the words ask for, each print on its line as soon as it is evaluated. Where they ask for no
-/// print it makes a plan of the targets and builds it, with one job and by times. Every end but `Done`
-/// and `SinkFault` has its line on `err`, which is written last.
+/// print it makes a plan of the targets and builds it, with so many jobs and by times. Every end but
+/// `Done` and `SinkFault` has its line on `err`, which is written last.
 pub fn run<W: World, S: Sink>(
     alloc: Global,
     words: &Texts,
