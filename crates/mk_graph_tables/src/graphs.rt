@@ -12,7 +12,7 @@ type Bytes = &'static [u8];
 
 // What is added to a node: a source or a node before it by name, a command, or an attribute.
 #[derive(Clone, Copy)]
-enum Part {
+pub enum Part {
     Source(Bytes),
     Before(Bytes),
     Command(Bytes),
@@ -245,7 +245,7 @@ fn add(graph: &mut Graph, name: &[u8], part: Part) -> Result<(), PoolFault> {
     Ok(())
 }
 
-fn graph_of(alloc: Global, parts: &[(Bytes, Part)]) -> Result<Graph, PoolFault> {
+pub fn graph_of(alloc: Global, parts: &[(Bytes, Part)]) -> Result<Graph, PoolFault> {
     let mut graph = Graph::new(alloc)?;
     for row in parts {
         let (name, part) = *row;

@@ -204,7 +204,7 @@ const PREFIXES: [(Bytes, Bytes); 5] = [
     (b"d.c/x", b"x"),
 ];
 
-fn texts(alloc: Global, all: &[&[u8]]) -> Result<Texts, NoMemory> {
+pub fn texts(alloc: Global, all: &[&[u8]]) -> Result<Texts, NoMemory> {
     let mut texts = Items::new(alloc, 0)?;
     for text in all {
         texts.push(Text::from_bytes(alloc, text)?)?;
@@ -233,7 +233,7 @@ fn files_of(alloc: Global, paths: &[&[u8]]) -> Result<Pairs, NoMemory> {
 }
 
 // A world with these files.
-fn world(
+pub fn world(
     rt: &impl Abort,
     alloc: Global,
     paths: &[&[u8]],

@@ -5,8 +5,6 @@
 #[cfg(test)]
 mod build_runs;
 #[cfg(test)]
-mod calls;
-#[cfg(test)]
 mod directive_runs;
 #[cfg(test)]
 mod limit_runs;
@@ -16,3 +14,5 @@ mod print_runs;
 mod refusal_runs;
 #[cfg(test)]
 mod runs;
+#[cfg(test)]
+mod target_runs;

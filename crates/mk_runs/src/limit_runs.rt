@@ -112,6 +112,27 @@ const BLOCKS: [Row; 3] = [
     ),
 ];
 
+// Each turn of the inner loop reads a line with a name of its own.
+const ALL_NAMES: &[u8] =
+    b".for a in ${:U:range=1024}\n.for b in ${:U:range=1024}\n$a.$b:\n.endfor\n.endfor\n";
+
+const NAMES: [Row; 2] = [
+    (
+        "1048576 names",
+        Shape::Nested(ALL_NAMES, 1, b""),
+        &["-V", "X"],
+        1,
+        "",
+    ),
+    (
+        "1048577 names",
+        Shape::Nested(ALL_NAMES, 1, b"x:\n"),
+        &["-V", "X"],
+        0,
+        "bmake: limit of names 1048576\n",
+    ),
+];
+
 const VALUES: [Row; 9] = [
     (
         "256 open references",
@@ -182,6 +203,11 @@ fn keep_limits(rt: &impl Abort, alloc: Global, rows: &[Row]) -> Result<(), Fail>
 #[test]
 fn blocks_have_limits(rt: HostRuntime) -> Result<(), Fail> {
     keep_limits(&rt, rt.alloc(), &BLOCKS)
+}
+
+#[test]
+fn graphs_have_limits(rt: HostRuntime) -> Result<(), Fail> {
+    keep_limits(&rt, rt.alloc(), &NAMES)
 }
 
 #[test]

@@ -5,7 +5,7 @@ use crate::runs::Words;
 pub type Refusal = (&'static str, &'static str, Words, &'static str);
 
 /// What is refused.
-pub const REFUSALS: [Refusal; 43] = [
+pub const REFUSALS: [Refusal; 49] = [
     (
         "a variable of itself",
         "B=$(B)\n",
@@ -94,12 +94,18 @@ pub const REFUSALS: [Refusal; 43] = [
         "bmake: bad word: -\n",
     ),
     (
-        "jobs, which are not built yet",
+        "a dry run, which is not built yet",
         "",
-        &["-j", "04"],
-        "bmake: bad word: -j\n",
+        &["-n"],
+        "bmake: bad word: -n\n",
     ),
-    ("too many jobs", "", &["-j", "257"], "bmake: bad word: -j\n"),
+    ("no jobs", "", &["-j", "0"], "bmake: bad word: 0\n"),
+    (
+        "too many jobs",
+        "",
+        &["-j", "257"],
+        "bmake: bad word: 257\n",
+    ),
     (
         "a generated graph, which is not built yet",
         "",
@@ -176,49 +182,79 @@ pub const REFUSALS: [Refusal; 43] = [
         "an append without a name",
         "A=1\n+=x\n",
         &["-V", "A"],
-        "bmake: \"makefile\" line 2: form is not built yet\n",
+        "bmake: \"makefile\" line 2: no operator\n",
     ),
     (
         "a sign without a name",
         "=x\n",
         &["-V", "A"],
-        "bmake: \"makefile\" line 1: form is not built yet\n",
+        "bmake: \"makefile\" line 1: no operator\n",
     ),
     (
         "an opener without its closer hides the sign",
         "a{b=1\n",
         &["-V", "A"],
-        "bmake: \"makefile\" line 1: form is not built yet\n",
+        "bmake: \"makefile\" line 1: no operator\n",
     ),
     (
         "blanks inside a name",
         "${:Ua b}=1\n",
         &["-V", "A"],
-        "bmake: \"makefile\" line 1: form is not built yet\n",
-    ),
-    (
-        "a source with a sign",
-        "t: V=1\n",
-        &["-V", "A"],
-        "bmake: \"makefile\" line 1: form is not built yet\n",
+        "bmake: \"makefile\" line 1: no operator\n",
     ),
     (
         "two colons",
         "t:: a\n",
         &["-V", "A"],
-        "bmake: \"makefile\" line 1: form is not built yet\n",
+        "bmake: \"makefile\" line 1: :: is not supported\n",
     ),
     (
-        "a second rule",
-        "t: a\n\n# u\nu: a\n",
+        "no target",
+        "t: a\n\n# u\n: a\n",
         &["-V", "A"],
-        "bmake: \"makefile\" line 4: form is not built yet\n",
+        "bmake: \"makefile\" line 4: no targets\n",
+    ),
+    (
+        "a special target beside another",
+        "t .PHONY: a\n",
+        &["-V", "A"],
+        "bmake: \"makefile\" line 1: special target with others\n",
+    ),
+    (
+        "a target before both operators",
+        "t: a\nu t! b\n",
+        &["-V", "A"],
+        "bmake: \"makefile\" line 2: inconsistent operators\n",
+    ),
+    (
+        "a brace that is not closed",
+        "t: {a,b\n",
+        &["-V", "A"],
+        "bmake: \"makefile\" line 1: open brace\n",
+    ),
+    (
+        "a suffix rule with a source",
+        ".SUFFIXES: .c .o\n.c.o: x\n",
+        &["-V", "A"],
+        "bmake: \"makefile\" line 2: rule with sources\n",
+    ),
+    (
+        "meta files in the directory of the run, behind the last line",
+        ".MAKE.MODE=meta curdirOk=yes\nt:\n",
+        &["-V", "A"],
+        "bmake: \"makefile\" line 0: form is not built yet\n",
+    ),
+    (
+        "a source with a sign and without a file",
+        "t: V=1\n",
+        &[],
+        "bmake: don't know how to make V=1\n",
     ),
     (
         "a target among its own sources",
         "t: t\n\tput t x\n",
         &[],
-        "bmake: \"makefile\" line 1: form is not built yet\n",
+        "bmake: graph cycles through t t\n",
     ),
     (
         "a block that is not closed",

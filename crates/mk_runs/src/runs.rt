@@ -7,6 +7,7 @@ use crate::build_runs::{CASES, Case};
 use crate::directive_runs::{CONDITIONS, INCLUDES, LOOPS};
 use crate::print_runs::{ENVIRONMENT, FILES, PRINTS, Printed};
 use crate::refusal_runs::REFUSALS;
+use crate::target_runs::{Built, LINES, ORDERS};
 use mk_bytes::{Items, NoMemory, Pair, Pairs, Text, Texts, is_clean_directory};
 use mk_memworld::{CallKind, Fail as Outage, Fails, MemSink, MemWorld, are_clean};
 use mk_scopes::Env;
@@ -25,7 +26,7 @@ pub type Words = &'static [&'static str];
 pub type Calls = &'static [(CallKind, u32)];
 
 /// A pair of texts.
-pub fn pair(alloc: Global, name: &str, value: &str) -> Result<Pair, NoMemory> {
+fn pair(alloc: Global, name: &str, value: &str) -> Result<Pair, NoMemory> {
     Ok(Pair {
         name: Text::from_bytes(alloc, name.as_bytes())?,
         value: Text::from_bytes(alloc, value.as_bytes())?,
@@ -33,7 +34,7 @@ pub fn pair(alloc: Global, name: &str, value: &str) -> Result<Pair, NoMemory> {
 }
 
 /// Files or variables as pairs.
-pub fn pairs(alloc: Global, files: Files) -> Result<Pairs, NoMemory> {
+fn pairs(alloc: Global, files: Files) -> Result<Pairs, NoMemory> {
     let mut pairs = Items::new(alloc, files.len())?;
     for (name, value) in files {
         pairs.push(pair(alloc, name, value)?)?;
@@ -51,7 +52,7 @@ fn with_makefile(alloc: Global, makefile: Text, files: Files) -> Result<Pairs, N
 }
 
 /// Words as texts.
-pub fn texts(alloc: Global, words: Words) -> Result<Texts, NoMemory> {
+fn texts(alloc: Global, words: Words) -> Result<Texts, NoMemory> {
     let mut texts = Items::new(alloc, words.len())?;
     for word in words {
         texts.push(Text::from_bytes(alloc, word.as_bytes())?)?;
@@ -72,7 +73,7 @@ fn fails_of(alloc: Global, calls: Calls) -> Result<Fails, NoMemory> {
 }
 
 /// The environment of all runs, with the directory `/w`.
-pub fn environment(alloc: Global) -> Result<Env, NoMemory>
+fn environment(alloc: Global) -> Result<Env, NoMemory>
     ensures { IfOk result (λ env. IsTrue (is_clean env.cwd)) }
 {
     let vars = pairs(alloc, ENVIRONMENT)?;
@@ -81,7 +82,7 @@ pub fn environment(alloc: Global) -> Result<Env, NoMemory>
 }
 
 /// A world with these files under `/w`, in which these calls fail.
-pub fn world(
+fn world(
     rt: &impl Abort,
     alloc: Global,
     files: Pairs,
@@ -92,8 +93,8 @@ pub fn world(
     let cwd = Text::from_bytes(alloc, b"/w")?;
     assert!(rt; is_clean_directory(cwd.bytes()));
     assert!(rt; are_clean(alloc, &cwd, &files)?);
-    let stamps = Items::new(alloc, 0)?;
-    MemWorld::new(alloc, cwd, files, stamps, fails)
+    let schedule = Items::new(alloc, 0)?;
+    MemWorld::new(alloc, cwd, files, schedule, fails)
 }
 
 /// What a run came to.
@@ -105,7 +106,7 @@ pub struct Ran {
 }
 
 /// Runs over a world and two sinks.
-pub fn run_in(
+fn run_in(
     alloc: Global,
     world: &mut MemWorld,
     words: Words,
@@ -124,7 +125,7 @@ pub fn run_in(
 }
 
 /// A sink in which these writes fail.
-pub fn sink(alloc: Global, calls: Calls) -> Result<MemSink, NoMemory> {
+fn sink(alloc: Global, calls: Calls) -> Result<MemSink, NoMemory> {
     MemSink::new(alloc, fails_of(alloc, calls)?)
 }
 
@@ -173,6 +174,32 @@ fn prints(rt: &impl Abort, alloc: Global, row: &Printed) -> Result<bool, NoMemor
     let mut world = world(rt, alloc, files, fails_of(alloc, &[])?)?;
     let ran = run_well(alloc, &mut world, words)?;
     Ok(ran.report.events.as_slice().is_empty() && is_answer(&ran, out, err, status))
+}
+
+fn builds(rt: &impl Abort, alloc: Global, row: &Built) -> Result<bool, NoMemory> {
+    let (_, makefile, files, words, out, err, status) = *row;
+    let makefile = Text::from_bytes(alloc, makefile.as_bytes())?;
+    let files = with_makefile(alloc, makefile, files)?;
+    let mut world = world(rt, alloc, files, fails_of(alloc, &[])?)?;
+    let ran = run_well(alloc, &mut world, words)?;
+    Ok(is_answer(&ran, out, err, status))
+}
+
+fn all_build(rt: &impl Abort, alloc: Global, rows: &[Built]) -> Result<(), Fail> {
+    for row in rows {
+        assert!(rt; builds(rt, alloc, row)?, "{}", row.0);
+    }
+    Ok(())
+}
+
+#[test]
+fn targets_are_made_in_order(rt: HostRuntime) -> Result<(), Fail> {
+    all_build(&rt, rt.alloc(), &ORDERS)
+}
+
+#[test]
+fn dependency_lines_are_obeyed(rt: HostRuntime) -> Result<(), Fail> {
+    all_build(&rt, rt.alloc(), &LINES)
 }
 
 /// What a run over one makefile comes to.
