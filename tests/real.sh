@@ -3,6 +3,7 @@
 # the program stands at crates/bmake/out/bmake. Its last line is 'N passed, M failed'.
 set -u
 program=${BMAKE:-$PWD/crates/bmake/out/bmake}
+examples=$PWD/examples
 room=$(mktemp -d) || exit 1
 trap 'chmod -R u+rwx "$room"; rm -rf "$room"' EXIT
 passed=0
@@ -136,6 +137,63 @@ row shows='a makefile that is a folder' \
 row shows='a makefile below a plain file is missing' \
     before='echo 1 >f' run='"$program" -f f/x' \
     status=2 err=$'bmake: no makefile f/x\n'
+
+row shows='targets in the order of their sources, between what stands around a build' \
+    makefile=$'all: a b\na b: c\na b c:\n\t@echo ${.TARGET}\n.BEGIN:\n\t@echo begin\n.END:\n\t@echo end\n' \
+    out=$'begin\nc\na\nb\nend\n'
+
+row shows='two jobs at once, each of which waits for the other' \
+    makefile=$'all: x y\nx:\n\t@touch a; until [ -e b ]; do sleep 0.05; done\ny:\n\t@touch b; until [ -e a ]; do sleep 0.05; done\n' \
+    run='timeout 60 "$program" -j 2'
+
+row shows='with several jobs a line names the target of what follows' \
+    makefile=$'t: x\n\t@echo 3\nx:\n\t@echo 1\n\t@echo 2\n' \
+    run='"$program" -j 2' out=$'--- x ---\n1\n2\n--- t ---\n3\n'
+
+row shows='short jobs do not wait for a long one' \
+    before='{ echo "all: long $(seq -f s%g 40 | tr "\n" " ")"
+            printf "%s\n\t@%s\n" "$(seq -f s%g 40 | tr "\n" " "):" "touch done.\${.TARGET}" \
+                long: "until [ \$\$(ls done.* 2>/dev/null | wc -l) = 40 ]; do sleep 0.05; done"; } >makefile' \
+    run='timeout 60 "$program" -j 4 2>/dev/null'
+
+row shows='256 jobs at once' \
+    before='{ echo "all: $(seq -f s%g 256 | tr "\n" " ")"
+            printf "%s\n\t@%s\n" "$(seq -f s%g 256 | tr "\n" " "):" \
+                "touch at.\${.TARGET}; until [ -e at.s256 ]; do sleep 0.5; done"; } >makefile' \
+    run='timeout 100 "$program" -j 256' after='[ "$(ls at.* | wc -l)" = 256 ]'
+
+row shows='-k goes on behind several failures, but not above them' \
+    makefile=$'all: x y z above\nx:\n\t@exit 3\ny:\n\t@echo y\nz:\n\t@exit 4\nabove: x\n\t@echo above\n' \
+    run='"$program" -k' \
+    status=1 out=$'y\n' err=$'bmake: target x command 1: status 3\n'
+
+row shows='.DELETE_ON_ERROR removes the target of a job that failed, but for a precious one' \
+    makefile=$'.DELETE_ON_ERROR:\n.PRECIOUS: p\nall: t p\nt p:\n\t@echo 1 > ${.TARGET}; exit 2\n' \
+    run='"$program" -k' \
+    status=1 err=$'bmake: target t command 1: status 2\n' after='[ ! -e t ] && [ -e p ]'
+
+if mkdir "$room/small" && mount -t tmpfs -o size=64k none "$room/small" 2>/dev/null; then
+    row shows='a full file system' \
+        makefile=$'t:\n\t@head -c 1000000 /dev/zero\n' \
+        run='cp makefile "$room/small"; cd "$room/small"; "$program" >/dev/null 2>&1; test $? -ne 0'
+    umount "$room/small"
+else
+    echo 'skipped: a full file system (no small one may be made here)'
+fi
+
+if command -v cc >/dev/null && command -v ar >/dev/null; then
+    row shows='a C project is made by suffix rules, and a second run starts nothing' \
+        before='cp "$examples"/count/* .' \
+        run='"$program" -j4 CC=cc >first; printf "a b\nc\n" | ./count; "$program" -j4 CC=cc' \
+        out=$'2 3\n' after='[ -s first ]'
+    row shows='a change of one source makes what stands on it, and nothing else' \
+        before='cp "$examples"/count/* . && "$program" CC=cc CFLAGS= >/dev/null
+            touch -d 2001-01-01 ./* && touch -d 2001-01-02 words.c' \
+        run='"$program" CC=cc CFLAGS=' \
+        out=$'cc  -c words.c -o words.o\nar rcs libcount.a lines.o words.o\ncc -o count main.o libcount.a\n'
+else
+    echo 'skipped: a C project (there is no cc or no ar)'
+fi
 
 row shows='a closed standard output' \
     makefile=$'A=1\n' run='"$program" -v A >&-' status=3
