@@ -12,7 +12,8 @@ use Rattle.mk_bytes.specs.Agrees.{AgreesBut, ◌>>=◌}
 use Rattle.mk_mods.specs.Results.{with_result}
 use Rattle.mk_mods.specs.State.{State, plain, text_of}
 use Rattle.mk_expand.specs.Chains.{Chain, modified, given_modified, word_modified, all_modified}
-use Rattle.mk_expand.specs.Chains.{chained, chain_of, each_behind, found_as, given, with_fault}
+use Rattle.mk_expand.specs.Chains.{chained, chain_of, each_behind, found_as, given}
+use Rattle.mk_expand.specs.ModFaults.{with_fault}
 use Rattle.mk_expand.specs.Facts.{IsOutside}
 use Rattle.mk_expand.specs.declared.fault.ExpandFault.{ExpandFault}
 use Rattle.mk_expand.specs.Evaluators.{Counted, Finder, Progress}

@@ -1,23 +1,27 @@
 -- Steps that ask no fact never fail because of one.
 use Rattle.std.proofs.Common.{◌≡◌, ℕ, Bool, true, false, nat_lt, inl, inr, List, ◌++◌, length, ◌+◌, Result}
 use Rattle.std.proofs.Common.{Option, Some, None, Ok, Err, if◌then◌else◌, refl}
-use Rattle.std.specs.Option.{option_map}
-use Rattle.mk_bytes.specs.Agrees.{AgreesErr}
+use Rattle.mk_bytes.specs.Agrees.{◌>>=◌, AgreesErr}
 use Rattle.mk_bytes.specs.declared.pair.Pair.{Pair}
-use Rattle.mk_expand.specs.Locals.{is_part_form, local_named, local_value, local_raw}
+use Rattle.mk_expand.specs.Locals.{local_raw, local_value, part_form, part_value, raw_named}
 use Rattle.mk_expand.specs.Names.{last_value, or_below, raw_above}
+use Rattle.mk_expand.specs.declared.local.Local.{Local}
 use Rattle.mk_expand.specs.declared.local.Locals.{Locals}
+use Rattle.mk_mods.specs.Modifiers.{apply}
+use Rattle.mk_mods.specs.State.{State, plain, text_of}
+use Rattle.mk_mods.specs.declared.modifier.Mod.{Mod}
 use Rattle.mk_ast.specs.declared.fault.AstFault.{AstFault}
 use Rattle.mk_ast.specs.declared.fault.AstFault.TheVariants as ast
 use Rattle.mk_cond.specs.declared.fault.CondFault.{CondFault}
 use Rattle.mk_cond.specs.declared.fault.CondFault.TheVariants as of_conds
 use Rattle.mk_mods.specs.declared.fault.ModFault.{ModFault}
 use Rattle.mk_mods.specs.declared.fault.ModFault.TheVariants as of_mods
-use Rattle.mk_expand.specs.Chains.{of_mod, of_cond}
+use Rattle.mk_expand.specs.Chains.{of_cond}
 use Rattle.mk_expand.specs.Limits.{MayNotOpen, appended, max_text}
+use Rattle.mk_expand.specs.ModFaults.{of_mod, with_fault}
 use Rattle.mk_expand.specs.Texts.{of_tree}
 use Rattle.mk_expand.specs.declared.fault.ExpandFault.{ExpandFault}
-use Rattle.mk_expand.specs.declared.fault.ExpandFault.TheVariants.{Failed, NoMemory, TooLong, Unbuilt}
+use Rattle.mk_expand.specs.declared.fault.ExpandFault.TheVariants.{Failed, NoMemory, TooLong}
 use Rattle.mk_expand.proofs.FactLemmas.{NeverFails}
 
 pub never-of_tree : (fault : AstFault) → of_tree fault ≡ Failed → ⊥
@@ -61,11 +65,22 @@ pub fault_never : {A : Type 0} (fault : ExpandFault) (defined : Result A ExpandF
 fault_never fault defined (inl want) never is = cc
 fault_never fault defined (inr same) never is = never (rw (same, is) refl)
 
-unbuilt : (some form : Bool) (raw : Option (List ℕ))
-    → NeverFails {A = Option (List ℕ)} (if some then (if form then Err Unbuilt else Ok raw) else Ok None)
-unbuilt true true raw = λ is. cc
-unbuilt true false raw = λ is. cc
-unbuilt false form raw = λ is. cc
+never-within : (answer : Result State ModFault)
+    → NeverFails {A = Option (List ℕ)}
+    (with_fault answer >>= λ state. Ok (text_of state) >>= λ value. Ok (Some value))
+never-within (Ok state) = λ is. cc
+never-within (Err fault) = λ is. never-of_mod fault cc
+
+never-named : (locals : Locals) (name : List ℕ) (form : Option (Local × Mod))
+    → NeverFails (raw_named locals name form)
+never-named locals name None = λ is. cc
+never-named locals name (Some form) =
+    never-within (apply form.1 (plain (local_value locals form.0)))
+
+never-where : (some : Bool) (raw : Result (Option (List ℕ)) ExpandFault) → NeverFails raw
+    → NeverFails (if some then raw else Ok None)
+never-where true raw never = never
+never-where false raw never = λ is. cc
 
 never-below : (raw : Option (List ℕ)) (below : Result (Option (List ℕ)) ExpandFault)
     → NeverFails below → NeverFails (or_below raw below)
@@ -76,4 +91,5 @@ pub never-raw_above : (locals : Locals) (bound : List Pair) (name : List ℕ)
     → NeverFails (raw_above locals bound name)
 never-raw_above locals bound name =
     never-below (last_value bound name) (local_raw locals name)
-    (unbuilt locals.some (is_part_form name) (option_map (local_value locals) (local_named name)))
+    (never-where locals.some (raw_named locals name (part_form name))
+    (never-named locals name (part_form name)))

@@ -18,7 +18,7 @@ use Rattle.mk_expand.specs.Facts.{Answers, Lists}
 use Rattle.mk_expand.specs.Parts.{joined}
 use Rattle.mk_expand.specs.Value.{value_of_text, found_at}
 use Rattle.mk_expand.specs.declared.fault.ExpandFault.{ExpandFault}
-use Rattle.mk_expand.specs.declared.fault.ExpandFault.TheVariants.{Recursive, Unbuilt, BadPlace, Tree}
+use Rattle.mk_expand.specs.declared.fault.ExpandFault.TheVariants.{Recursive, BadPlace, Tree}
 use Rattle.mk_expand.specs.declared.local.Locals.{Locals}
 
 abbrev variables : Variables
@@ -174,9 +174,10 @@ local_names : task (codes "$@ ${.ALLSRC} $< $* ${.OODATE}") ≡ Ok (codes "out/a
 unfolding text_at mods_at ref_at begins is_word is_left_out_word found_at joined all_modified spell
 local_names = refl
 
-heads_not_built : task (codes "$@${@D}") ≡ Err Unbuilt
+heads_and_tails : task (codes "${@D} ${@F} ${>D} ${>F} ${<F}${*D}${?F}${.TARGETD}")
+    ≡ Ok (codes "out a.o . . a.c b.h a.c.b.h")
 unfolding text_at mods_at ref_at begins is_word is_left_out_word found_at joined all_modified spell
-heads_not_built = refl
+heads_and_tails = refl
 
 no_local_names : value (codes "$@$<${@D}") ≡ Ok (codes "global")
 unfolding text_at mods_at ref_at begins is_word is_left_out_word found_at joined all_modified spell

@@ -13,8 +13,6 @@ use Rattle.mk_cond.specs.declared.fault.CondFault.TheVariants as of_conds
 use Rattle.mk_mods.specs.Modifiers.{apply}
 use Rattle.mk_mods.specs.Results.{no_results, with_result}
 use Rattle.mk_mods.specs.State.{State, plain, text_of, words_of, with_items, items_of}
-use Rattle.mk_mods.specs.declared.fault.ModFault.{ModFault}
-use Rattle.mk_mods.specs.declared.fault.ModFault.TheVariants as of_mods
 use Rattle.mk_mods.specs.declared.modifier.Mod.{Mod}
 use Rattle.mk_mods.specs.declared.modifier.Mod.TheVariants.{Keep, Without, Subst, Suffix, Head, Tail}
 use Rattle.mk_mods.specs.declared.modifier.Mod.TheVariants.{Root, Extension, Sort, SortBack, Unique}
@@ -24,6 +22,7 @@ use Rattle.mk_mods.specs.declared.modifier.Mod.TheVariants.{Range}
 use Rattle.mk_expand.specs.Conditions.{truth_of}
 use Rattle.mk_expand.specs.Evaluators.{Progress, Counted, Finder}
 use Rattle.mk_expand.specs.Limits.{appended}
+use Rattle.mk_expand.specs.ModFaults.{with_fault}
 use Rattle.mk_expand.specs.Names.{Context, while_bound}
 use Rattle.mk_expand.specs.Parts.{tree_value}
 use Rattle.mk_expand.specs.Separators.{separator_of}
@@ -31,7 +30,7 @@ use Rattle.mk_expand.specs.Substitutions.{at_start, at_end, without_anchors, old
 use Rattle.mk_expand.specs.Texts.{of_tree}
 use Rattle.mk_expand.specs.declared.chain.Found.{Found}
 use Rattle.mk_expand.specs.declared.fault.ExpandFault.{ExpandFault}
-use Rattle.mk_expand.specs.declared.fault.ExpandFault.TheVariants.{TooLong, BadPlace, NoMemory}
+use Rattle.mk_expand.specs.declared.fault.ExpandFault.TheVariants.{NoMemory}
 use Rattle.mk_expand.specs.declared.fault.ExpandFault.TheVariants as faults
 
 -- a reference to a variable without a value
@@ -101,15 +100,6 @@ mod_of find c p (tree.select places) = with_text find c p places Select
 mod_of find c p (tree.range_to number) = with_text find c p number Range
 mod_of find c p (tree.suffix from to) = suffix_of find c p from to
 mod_of find c p m = Ok (textless m, p)
-
-abbrev pub of_mod : ModFault → ExpandFault
-of_mod of_mods.TooLong = TooLong
-of_mod of_mods.BadPlace = BadPlace
-of_mod of_mods.NoMemory = NoMemory
-
-abbrev pub with_fault : Result State ModFault → Result State ExpandFault
-with_fault (Ok state) = Ok state
-with_fault (Err fault) = Err (of_mod fault)
 
 abbrev pub applied : Option Mod → State → Result State ExpandFault
 applied None state = Ok state

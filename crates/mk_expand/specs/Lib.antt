@@ -5,6 +5,7 @@ pub mod Evaluators
 pub mod Facts
 pub mod Limits
 pub mod Locals
+pub mod ModFaults
 pub mod Names
 pub mod Parts
 pub mod Separators

@@ -1,11 +1,16 @@
 -- The local names: they stand for what is made at the moment.
-use Rattle.std.specs.Prelude.{ℕ, ◌==◌, ◌||◌, ◌&&◌, Bool, false, List, [], ◌∷◌, ◌++◌, Option, Some}
-use Rattle.std.specs.Prelude.{None, is_some, Result, Ok, Err, if◌then◌else◌, codes}
+use Rattle.std.specs.Prelude.{ℕ, ◌==◌, ◌||◌, Bool, false, List, [], ◌∷◌, ◌++◌, Option, Some, None}
+use Rattle.std.specs.Prelude.{Result, Ok, if◌then◌else◌, codes}
 use Rattle.std.specs.Option.{option_map}
 use Rattle.std.specs.Str.{bytes_eq}
+use Rattle.mk_bytes.specs.Agrees.{◌>>=◌}
 use Rattle.mk_bytes.specs.Bytes.{space}
+use Rattle.mk_mods.specs.Modifiers.{apply}
+use Rattle.mk_mods.specs.State.{plain, text_of}
+use Rattle.mk_mods.specs.declared.modifier.Mod.{Mod}
+use Rattle.mk_mods.specs.declared.modifier.Mod.TheVariants.{Head, Tail}
+use Rattle.mk_expand.specs.ModFaults.{with_fault}
 use Rattle.mk_expand.specs.declared.fault.ExpandFault.{ExpandFault}
-use Rattle.mk_expand.specs.declared.fault.ExpandFault.TheVariants.{Unbuilt}
 use Rattle.mk_expand.specs.declared.local.Local.{Local}
 use Rattle.mk_expand.specs.declared.local.Local.TheVariants.{Target, All, Implied, Prefix, Oodate}
 use Rattle.mk_expand.specs.declared.local.Locals.{Locals}
@@ -34,10 +39,19 @@ local_named name =
     else (if is_either name (codes ".OODATE") (codes "?") then Some Oodate
     else None))))
 
--- a short form with `D` or `F` behind it
-abbrev pub is_part_form : List ℕ → Bool
-is_part_form (byte ∷ form ∷ []) = is_some (local_named (byte ∷ [])) && (form == 68 || form == 70)
-is_part_form _ = false
+-- the part of each word that `D` or `F` behind a short form names: its head, as `:H` gives it, or its
+-- tail, as `:T` does
+abbrev pub part_named : ℕ → Option Mod
+part_named byte = if byte == 68 then Some Head else (if byte == 70 then Some Tail else None)
+
+abbrev pub of_part : Option Local → Option Mod → Option (Local × Mod)
+of_part (Some local) (Some part) = Some (local, part)
+of_part _ _ = None
+
+-- a short form with `D` or `F` behind it, as `@D`; the long forms have none
+abbrev pub part_form : List ℕ → Option (Local × Mod)
+part_form (byte ∷ part ∷ []) = of_part (local_named (byte ∷ [])) (part_named part)
+part_form _ = None
 
 -- texts with one space before each
 abbrev pub behind_spaces : List (List ℕ) → List ℕ
@@ -56,9 +70,15 @@ local_value l Implied = l.implied
 local_value l Prefix = l.prefix
 local_value l Oodate = spaced l.oodate
 
--- the raw value of a local name, where there are some; the forms with `D` and `F` are not built
+-- a part of each word of a value
+abbrev pub part_value : Mod → List ℕ → Result (List ℕ) ExpandFault
+part_value part value = with_fault (apply part (plain value)) >>= λ state. Ok (text_of state)
+
+abbrev pub raw_named : Locals → List ℕ → Option (Local × Mod) → Result (Option (List ℕ)) ExpandFault
+raw_named l name None = Ok (option_map (local_value l) (local_named name))
+raw_named l name (Some form) =
+    part_value form.1 (local_value l form.0) >>= λ value. Ok (Some value)
+
+-- The raw value of a local name, where there are some.
 abbrev pub local_raw : Locals → List ℕ → Result (Option (List ℕ)) ExpandFault
-local_raw l name =
-    if l.some then (if is_part_form name then Err Unbuilt
-    else Ok (option_map (local_value l) (local_named name)))
-    else Ok None
+local_raw l name = if l.some then raw_named l name (part_form name) else Ok None

@@ -29,8 +29,7 @@ pub enum ExpandFault {
     Undefined,
     /// The text of `:[..]` or of `:range=` is no choice of places.
     BadPlace,
-    /// A reference has a local name that is not built yet: one with `D` or `F` at its end. Or a
-    /// condition asks for a fact where none are built.
+    /// A condition asks for a fact where none are built.
     Unbuilt,
     /// The outside failed when a fact was asked for, and was counted.
     Failed,
@@ -68,7 +67,7 @@ impl From<AstFault> for ExpandFault {
 
 impl From<ModFault> for ExpandFault {
     ghost use Rattle.std.specs.Prelude.{◌≡◌};
-    ghost use Rattle.mk_expand.specs.Chains.{of_mod};
+    ghost use Rattle.mk_expand.specs.ModFaults.{of_mod};
 
     ghost from_gives = { λ given fault. fault ≡ of_mod given };
 

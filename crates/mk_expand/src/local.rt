@@ -6,10 +6,13 @@ ghost use Rattle.mk_expand.specs.declared.fault.ExpandFault.TheVariants.{NoMemor
 
 use crate::fault::ExpandFault;
 use mk_bytes::{Items, NoMemory, Text, Texts};
+use mk_mods::{Mod, Val, apply, text};
+use mk_pool::Region;
 use std::alloc::Global;
 
 /// What the local names stand for. They stand above all variables where there are `some`, and else
-/// they are names like others.
+/// they are names like others. A short name with `D` or `F` behind it, as `@D`, is one of them too:
+/// it stands for the heads or the tails of the words.
 #[derive(Debug, Drop)]
 pub struct Locals {
     /// `.TARGET` and `@`: the target.
@@ -80,14 +83,26 @@ fn local_named(name: &[u8]) -> Option<Local>
     None
 }
 
-// A short name with `D` or `F` behind it.
-fn is_part_form(name: &[u8]) -> bool
-    ensures { result ≡ spec.is_part_form name.now }
+// The part of each word that a byte behind a short name names: its head, as `:H` gives it, or its
+// tail, as `:T` does.
+fn part_named(byte: u8) -> Option<Mod>
+    ensures { result ≡ spec.part_named byte }
 {
-    match name {
-        [byte, form] => local_named(&[*byte]).is_some() && (*form == b'D' || *form == b'F'),
-        _ => false,
+    match byte {
+        b'D' => Some(Mod::Head),
+        b'F' => Some(Mod::Tail),
+        _ => None,
     }
+}
+
+// A short name with `D` or `F` behind it.
+fn part_form(name: &[u8]) -> Option<(Local, Mod)>
+    ensures { result ≡ spec.part_form name.now }
+{
+    let [byte, part] = name else {
+        return None;
+    };
+    Some((local_named(&[*byte])?, part_named(*part)?))
 }
 
 fn spaced(alloc: Global, texts: &Texts) -> Result<Text, NoMemory>
@@ -117,16 +132,26 @@ fn local_value(alloc: Global, locals: &Locals, local: Local) -> Result<Text, NoM
     }
 }
 
-/// The raw value of a local name. `Unbuilt` exactly where there are local names and this is a short
-/// one with `D` or `F` behind it.
+// A part of each word of a value.
+fn part_value(alloc: Global, part: &Mod, value: &[u8]) -> Result<Text, ExpandFault>
+    ensures { Agrees no_memory (λ text. text) result (spec.part_value part.now value.now) }
+{
+    let mut region = Region::new(alloc)?;
+    let words = Val::new(alloc, &mut region, value)?;
+    let parts = apply(alloc, &mut region, words, part)?;
+    Ok(text(alloc, &region, &parts)?)
+}
+
+/// The raw value of a local name, where there are some.
 pub fn local_raw(alloc: Global, locals: &Locals, name: &[u8]) -> Result<Option<Text>, ExpandFault>
     ensures { Agrees no_memory (λ raw. raw) result (spec.local_raw locals.now name.now) }
 {
     if !locals.some {
         return Ok(None);
     }
-    if is_part_form(name) {
-        return Err(ExpandFault::Unbuilt);
+    if let Some((local, part)) = part_form(name) {
+        let value = local_value(alloc, locals, local)?;
+        return Ok(Some(part_value(alloc, &part, value.bytes())?));
     }
     match local_named(name) {
         None => Ok(None),

@@ -177,7 +177,7 @@ fn locals(alloc: Global) -> Result<Locals, NoMemory> {
     })
 }
 
-const LOCAL_VALUES: [(&str, &[u8], &[u8]); 6] = [
+const LOCAL_VALUES: [(&str, &[u8], &[u8]); 7] = [
     (
         "no implied source is a defined one",
         b"[${.IMPSRC:Ux}]",
@@ -188,6 +188,11 @@ const LOCAL_VALUES: [(&str, &[u8], &[u8]); 6] = [
     ("a list", b"$> ${.ALLSRC} ${.OODATE}.", b"a.c b.h a.c b.h ."),
     ("texts", b"[$<] $* ${.IMPSRC}${.PREFIX}", b"[] a a"),
     ("a longer name is a plain one", b"[${.TARGETD}]", b"[]"),
+    (
+        "heads and tails are expanded as all raw values are",
+        b"${@D} ${@F}",
+        b"out a$.o",
+    ),
 ];
 
 #[test]
@@ -202,7 +207,54 @@ fn local_names_have_values(rt: HostRuntime) -> Result<(), Fail> {
             "{shows}"
         );
     }
-    assert!(rt; has_fault(alloc, &scopes, &locals, b"$@${@D}", Wanted::Unbuilt));
+    Ok(())
+}
+
+// Local names with paths of all kinds: with a slash or without one, and below the root.
+fn paths(alloc: Global) -> Result<Locals, NoMemory> {
+    Ok(Locals {
+        target: Text::from_bytes(alloc, b"out/bin/a.o")?,
+        all: texts(alloc, &[b"src/a.c", b"b.h", b"/x"])?,
+        implied: Text::from_bytes(alloc, b"src/a.c")?,
+        prefix: Text::from_bytes(alloc, b"a")?,
+        oodate: texts(alloc, &[b"b.h", b"/usr/y"])?,
+        some: true,
+    })
+}
+
+const HEADS_AND_TAILS: [(&str, &[u8], &[u8]); 9] = [
+    ("the target", b"${@D} $(@F)", b"out/bin a.o"),
+    ("all sources", b"${>D} $(>F)", b"src . / a.c b.h x"),
+    ("the implied source", b"$(<D) ${<F}", b"src a.c"),
+    ("the prefix, which has no slash", b"${*D} ${*F}", b". a"),
+    ("the newer sources", b"${?D} ${?F}", b". /usr b.h y"),
+    ("modifiers behind them", b"${>D:O} ${>F:M*.?}", b". / src a.c b.h"),
+    ("they are defined", b"${defined(@D):?y:n}${@F:Ux}", b"ya.o"),
+    ("the long forms have none", b"[${.TARGETD}${.ALLSRCF}]", b"[]"),
+    ("nor is there another letter", b"[${@E}${@d}${D@}]", b"[]"),
+];
+
+#[test]
+fn heads_and_tails_have_values(rt: HostRuntime) -> Result<(), Fail> {
+    let alloc = rt.alloc();
+    let scopes = scopes(alloc)?;
+    let locals = paths(alloc)?;
+    for row in &HEADS_AND_TAILS {
+        let (shows, text, value) = *row;
+        assert!(rt;
+            has_value(alloc, &scopes, &locals, false, text, value),
+            "{shows}"
+        );
+    }
+    Ok(())
+}
+
+#[test]
+fn without_local_names_there_are_no_heads(rt: HostRuntime) -> Result<(), Fail> {
+    let alloc = rt.alloc();
+    let scopes = scopes(alloc)?;
+    let locals = Locals::none(alloc)?;
+    assert!(rt; has_value(alloc, &scopes, &locals, false, b"[$@${@D}]", b"[global]"));
     Ok(())
 }
 
