@@ -12,7 +12,7 @@ use Rattle.mk_expand.specs.Facts.{Answers, AnsweredBy, AsksMore, IsOutside, List
 use Rattle.mk_expand.specs.declared.facts.Asked.{Asked}
 use Rattle.mk_expand.specs.declared.fault.ExpandFault.{ExpandFault}
 use Rattle.mk_expand.specs.declared.fault.ExpandFault.TheVariants.{Failed, NoMemory}
-use Rattle.mk_world.specs.Causes.{HasCause, Rose}
+use Rattle.mk_world.specs.Causes.{HasCause}
 
 -- Answers
 
@@ -185,28 +185,3 @@ pub agrees_asked : {X : Type 0} (references : ℕ) (asked : List Asked) (answer 
 agrees_asked references asked (Ok x) defined is = rw is refl
 agrees_asked references asked (Err fault) defined agrees =
     fault_of_all fault defined (λ f. Ok (f.0, f.1.asked)) agrees
-
--- No facts
-
--- no question is answered by all answers
-pub answered_none : (answers : Answers) → AnsweredBy answers []
-answered_none answers place one is = absurd cc
-
-never_rose : Rose 0 0 → ⊥
-never_rose (inl rose) = omega (arith, rose)
-never_rose (inr at_end) = omega (arith, at_end)
-
--- a count that stays at 0 has no failure
-pub counts_none : {A : Type 0} (answer : Result A ExpandFault)
-    → HasCause Failed 0 0 answer → NeverFails answer
-counts_none answer cause = λ is. never_rose (cause.rose is)
-
--- where no question is asked, a value is the definition's own
-pub unasked : {X : Type 0} (asked : List Asked) (answer : Result X ExpandFault)
-    (defined : Result (X × List Asked) ExpandFault)
-    → NeverFails answer → AgreesBut IsOutside (λ value. (value, asked)) answer defined
-    → Agrees NoMemory (λ value. value) answer (defined >>= λ v. Ok v.0)
-unasked asked (Ok value) defined never agrees = rw agrees refl
-unasked asked (Err fault) defined never (inl (inl want)) = inl want
-unasked asked (Err fault) defined never (inl (inr failed)) = absurd (never (ap Err failed))
-unasked asked (Err fault) defined never (inr is) = inr (ap (λ r. r >>= λ v. Ok v.0) is)

@@ -3,7 +3,7 @@ use Rattle.std.proofs.Common.{◌≡◌, ℕ, Bool, true, false, nat_lt, inl, in
 use Rattle.std.proofs.Common.{Option, Some, None, Ok, Err, if◌then◌else◌, refl}
 use Rattle.mk_bytes.specs.Agrees.{◌>>=◌, AgreesErr}
 use Rattle.mk_bytes.specs.declared.pair.Pair.{Pair}
-use Rattle.mk_expand.specs.Locals.{local_raw, local_value, part_form, part_value, raw_named}
+use Rattle.mk_expand.specs.Locals.{local_raw, local_value, part_form, raw_named}
 use Rattle.mk_expand.specs.Names.{last_value, or_below, raw_above}
 use Rattle.mk_expand.specs.declared.local.Local.{Local}
 use Rattle.mk_expand.specs.declared.local.Locals.{Locals}
@@ -67,7 +67,7 @@ fault_never fault defined (inr same) never is = never (rw (same, is) refl)
 
 never-within : (answer : Result State ModFault)
     → NeverFails {A = Option (List ℕ)}
-    (with_fault answer >>= λ state. Ok (text_of state) >>= λ value. Ok (Some value))
+    ((with_fault answer >>= λ state. Ok (text_of state)) >>= λ value. Ok (Some value))
 never-within (Ok state) = λ is. cc
 never-within (Err fault) = λ is. never-of_mod fault cc
 

@@ -60,7 +60,6 @@ lists = record {
   requested = codes "all" ∷ [];
   targets = codes "all" ∷ codes "t" ∷ [];
   with_commands = codes "t" ∷ [];
-  built = true;
 }
 
 -- there are two files

@@ -43,16 +43,15 @@ trimmed text = without_back (without_front text)
 abbrev pub is_white_alone : List ℕ → Bool
 is_white_alone text = is_none (position is_no_white text)
 
--- the answer of a fact, where facts are built, and the questions behind it
-abbrev pub fact : Lists → Answers → List Asked → Fun → List ℕ
-    → Result (Bool × List Asked) ExpandFault
+-- the answer of a fact, and the questions behind it
+abbrev pub fact : Lists → Answers → List Asked → Fun → List ℕ → Bool × List Asked
 fact lists answers asked fun argument =
     let answer = fact_of lists answers asked fun argument in
-    if lists.built then Ok (answer, asked_with asked fun argument answer) else Err faults.Unbuilt
+    (answer, asked_with asked fun argument answer)
 
 abbrev pub fact_answer : Context → Progress → Fun → List ℕ → Counted Bool
 fact_answer c p fun argument =
-    fact c.lists c.answers p.asked fun argument >>= λ a. Ok (a.0, with_asked p a.1)
+    let told = fact c.lists c.answers p.asked fun argument in Ok (told.0, with_asked p told.1)
 
 abbrev pub path_answer : Context → Progress → Fun → List ℕ → Counted Bool
 path_answer c p fun name = fact_answer c p fun (clean c.variables.cwd name)

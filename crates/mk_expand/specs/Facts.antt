@@ -11,7 +11,7 @@ use Rattle.mk_expand.specs.declared.facts.Asked.{Asked}
 use Rattle.mk_expand.specs.declared.facts.FactFault.{FactFault}
 use Rattle.mk_expand.specs.declared.facts.FactFault.TheVariants as of_facts
 use Rattle.mk_expand.specs.declared.fault.ExpandFault.{ExpandFault}
-use Rattle.mk_expand.specs.declared.fault.ExpandFault.TheVariants.{Unbuilt, Failed, NoMemory}
+use Rattle.mk_expand.specs.declared.fault.ExpandFault.TheVariants.{Failed, NoMemory}
 
 -- What answers every fact but `exists`: the requested names, or the main targets so far where none is
 -- requested; the targets; and the targets with commands.
@@ -19,19 +19,10 @@ pub record Lists : Type 0 where
   pub requested : List (List ℕ)
   pub targets : List (List ℕ)
   pub with_commands : List (List ℕ)
-  -- false where no facts are built
-  pub built : Bool
 
 -- what `exists` answers, by the number of paths that it was asked of before, and the path
 abbrev pub Answers : Type 0
 Answers = ℕ → List ℕ → Bool
-
--- where no facts are built there are no names, and no answers
-abbrev pub no_lists : Lists
-no_lists = record { requested = []; targets = []; with_commands = []; built = false }
-
-abbrev pub no_answers : Answers
-no_answers place path = false
 
 -- these answers were given so far
 abbrev pub AnsweredBy : Answers → List Asked → Type 0
@@ -78,7 +69,6 @@ pub record AsksMore (old new : List Asked) : Type 0 where
   pub added : new ≡ old ++ more
 
 abbrev pub of_fact : FactFault → ExpandFault
-of_fact of_facts.Unbuilt = Unbuilt
 of_fact of_facts.Failed = Failed
 of_fact of_facts.NoMemory = NoMemory
 

@@ -8,7 +8,7 @@ use Rattle.mk_scopes.specs.Scopes.{Variables}
 use Rattle.mk_expand.specs.Chains.{undefined, defined_as, chained}
 use Rattle.mk_expand.specs.Conditions.{truth_of}
 use Rattle.mk_expand.specs.Evaluators.{Progress, Counted, Finder, progress, with_reference}
-use Rattle.mk_expand.specs.Facts.{Answers, Lists, no_answers, no_lists}
+use Rattle.mk_expand.specs.Facts.{Answers, Lists}
 use Rattle.mk_expand.specs.declared.facts.Asked.{Asked}
 use Rattle.mk_expand.specs.Limits.{max_open, max_references}
 use Rattle.mk_expand.specs.Names.{Context, context, in_name, while_open, is_among, raw_of}
@@ -84,14 +84,3 @@ abbrev pub truth : Variables → Locals → Lists → Answers → List Asked →
 truth variables locals lists answers asked cond =
     with_asked (truth_of finder (context variables locals lists answers false)
     (progress 0 asked) cond)
-
--- The value of a tree, where no facts are built.
-abbrev pub unasked_value : Variables → Locals → Bool → Tree → Result (List ℕ) ExpandFault
-unasked_value variables locals keep tree =
-    value variables locals no_lists no_answers keep [] tree >>= λ v. Ok v.0
-
--- The value of a text, where no facts are built.
-abbrev pub unasked_value_of_text : Variables → Locals → Bool → List ℕ
-    → Result (List ℕ) ExpandFault
-unasked_value_of_text variables locals keep text =
-    value_of_text variables locals no_lists no_answers keep [] text >>= λ v. Ok v.0

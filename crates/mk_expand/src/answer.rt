@@ -1,5 +1,5 @@
 //! The answers of functions to the values of their arguments, and sides that have to be defined.
-ghost use Rattle.std.specs.Prelude.{◌≡◌, false, IsTrue};
+ghost use Rattle.std.specs.Prelude.{◌≡◌, false, IsTrue, Ok};
 ghost use Rattle.std.specs.Option.{option_copied, option_map};
 ghost use Rattle.mk_ast.specs.View.{part_view, tree_view};
 ghost use Rattle.mk_bytes.specs.Agrees.{Agrees};
@@ -40,7 +40,7 @@ fn ask<F: Facts>(
 ) -> Result<bool, ExpandFault>
     requires { IsTrue (is_fact fun) }
     ensures value { Means (F.asked facts.new) (λ answer. (answer, F.asked facts.new)) result
-        (λ answers. spec.fact (F.lists facts.old) answers (F.asked facts.old) fun argument.now) }
+        (λ answers. Ok (spec.fact (F.lists facts.old) answers (F.asked facts.old) fun argument.now)) }
     ensures facts { Asks (F.leads facts.old facts.new) (F.lists facts.old) (F.lists facts.new) (F.asked facts.old)
         (F.asked facts.new) (F.faults facts.old) (F.faults facts.new) result }
 {
@@ -56,8 +56,8 @@ fn ask_path<F: Facts>(
 ) -> Result<bool, ExpandFault>
     requires { IsTrue (is_fact fun) }
     ensures value { Means (F.asked facts.new) (λ answer. (answer, F.asked facts.new)) result
-        (λ answers. spec.fact (F.lists facts.old) answers (F.asked facts.old) fun
-        (clean names.now.scopes.now.cwd name.now)) }
+        (λ answers. Ok (spec.fact (F.lists facts.old) answers (F.asked facts.old) fun
+        (clean names.now.scopes.now.cwd name.now))) }
     ensures facts { Asks (F.leads facts.old facts.new) (F.lists facts.old) (F.lists facts.new) (F.asked facts.old)
         (F.asked facts.new) (F.faults facts.old) (F.faults facts.new) result }
 {

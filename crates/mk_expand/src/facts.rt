@@ -1,8 +1,8 @@
 //! Facts: what conditions ask of what is outside them.
-ghost use Rattle.std.specs.Prelude.{◌≡◌, ℕ, List, true, false, IsTrue, IfOk, IfErr, OnErr};
+ghost use Rattle.std.specs.Prelude.{◌≡◌, ℕ, List, IsTrue, IfOk, OnErr};
 ghost use Rattle.mk_expand.specs.Facts.{IsTold, Lists, asked_with, is_fact};
 ghost use Rattle.mk_expand.specs.declared.facts.Asked.{Asked};
-ghost use Rattle.mk_expand.specs.declared.facts.FactFault.TheVariants.{Failed, Unbuilt};
+ghost use Rattle.mk_expand.specs.declared.facts.FactFault.TheVariants.{Failed};
 ghost use Rattle.mk_world.specs.Causes.{HasCause};
 
 use mk_bytes::{NoMemory, Text};
@@ -21,8 +21,6 @@ pub struct Asked {
 /// Why a fact is not told.
 #[derive(Clone, Copy, Debug, PartialEq, Eq)]
 pub enum FactFault {
-    /// No facts are built where the text stands.
-    Unbuilt,
     /// The outside failed, and was counted.
     Failed,
     /// Memory ran out.
@@ -55,16 +53,13 @@ pub trait Facts {
     ghost leads: { Self → Self → Type 0 };
 
     /// The answer of a function to an argument, which for all but `make` is a clean path. An answer
-    /// of `exists` is added to `asked`, and nothing else changes that. `Unbuilt` comes exactly where
-    /// no facts are built, but for want of memory. `Failed` comes only where the count of faults
-    /// rose in this call or is at its end.
+    /// of `exists` is added to `asked`, and nothing else changes that. `Failed` comes only where the
+    /// count of faults rose in this call or is at its end.
     fn fact(&mut self, alloc: Global, fun: Fun, argument: &[u8]) -> Result<bool, FactFault>
         requires { IsTrue (is_fact fun) }
         ensures told { IfOk result (λ answer. IsTold (lists self.old) fun argument.now answer) }
         ensures asked { IfOk result (λ answer. asked self.new ≡ asked_with (asked self.old) fun argument.now answer) }
         ensures refused { OnErr result (asked self.new ≡ asked self.old) }
-        ensures built { IfOk result (λ answer. (lists self.old).built ≡ true) }
-        ensures unbuilt { IfErr result (λ fault. fault ≡ Unbuilt → (lists self.old).built ≡ false) }
         ensures lists { lists self.new ≡ lists self.old }
         ensures cause { HasCause Failed (faults self.old) (faults self.new) result }
         ensures leads { leads self.old self.new };

@@ -29,8 +29,6 @@ pub enum ExpandFault {
     Undefined,
     /// The text of `:[..]` or of `:range=` is no choice of places.
     BadPlace,
-    /// A condition asks for a fact where none are built.
-    Unbuilt,
     /// The outside failed when a fact was asked for, and was counted.
     Failed,
     /// Memory ran out.
@@ -115,7 +113,6 @@ impl From<FactFault> for ExpandFault {
 
     fn from(fault: FactFault) -> ExpandFault {
         match fault {
-            FactFault::Unbuilt => ExpandFault::Unbuilt,
             FactFault::Failed => ExpandFault::Failed,
             FactFault::NoMemory => ExpandFault::NoMemory,
         }

@@ -18,12 +18,10 @@ mod plain;
 mod separator;
 mod substitution;
 mod trim;
-mod unasked;
 mod whole;
 mod words;
 
 pub use facts::{Asked, FactFault, Facts};
 pub use fault::ExpandFault;
 pub use local::Locals;
-pub use unasked::{expand_unasked, value_of_text_unasked};
 pub use whole::{eval_cond, expand, name_tree, value_of_text};

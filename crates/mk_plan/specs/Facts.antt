@@ -1,5 +1,5 @@
 -- What conditions ask of the makefiles that were read.
-use Rattle.std.specs.Prelude.{ℕ, Bool, true, not, List, [], ◌∷◌, if◌then◌else◌}
+use Rattle.std.specs.Prelude.{ℕ, Bool, not, List, [], ◌∷◌, if◌then◌else◌}
 use Rattle.mk_expand.specs.Facts.{Lists}
 use Rattle.mk_expand.specs.declared.facts.FactFault.{FactFault}
 use Rattle.mk_expand.specs.declared.facts.FactFault.TheVariants as facts
@@ -33,7 +33,6 @@ lists_of made requested = record {
   requested = wanted_of made.main requested;
   targets = names_where is_target made.graph;
   with_commands = names_where has_commands made.graph;
-  built = true;
 }
 
 -- how a fault of the world is answered

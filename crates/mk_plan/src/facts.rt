@@ -1,8 +1,8 @@
 //! What conditions ask of the makefiles that were read and of the world.
-ghost use Rattle.std.specs.Prelude.{◌≡◌, ◌<◌, ℕ, List, Bool, [], true, false, length, is_none, IsTrue, IfOk, IfErr, IfSome, OnErr};
+ghost use Rattle.std.specs.Prelude.{◌≡◌, ◌<◌, ℕ, List, Bool, [], true, false, length, is_none, IsTrue, IfOk, IfSome, OnErr};
 ghost use Rattle.std.specs.List.{list_any};
 ghost use Rattle.mk_expand.specs.Facts.{IsTold, asked_with, is_fact, is_listed};
-ghost use Rattle.mk_expand.specs.declared.facts.FactFault.TheVariants.{Failed, Unbuilt};
+ghost use Rattle.mk_expand.specs.declared.facts.FactFault.TheVariants.{Failed};
 ghost use Rattle.mk_glob.specs.Patterns as patterns;
 ghost use Rattle.mk_cond.specs.declared.cond.Fun.TheVariants.{Exists as exists};
 ghost use Rattle.mk_graph.specs.Nodes.{Node, node_at};
@@ -120,7 +120,6 @@ impl<'a, W: World> MadeFacts<'a, W> {
         ensures refused { OnErr result (self.new.asked.now.items ≡ self.old.asked.now.items) }
         ensures made { self.new.made.now ≡ self.old.made.now }
         ensures requested { self.new.requested.now ≡ self.old.requested.now }
-        ensures built { IfErr result (λ fault. fault ≡ Unbuilt → ⊥) }
         ensures cause { HasCause Failed (W.faults self.old.world.now) (W.faults self.new.world.now) result }
         ensures same_reference { self.new.world.ghost_name ≡ self.old.world.ghost_name }
         ensures asking { W.runs self.old.world.now [] → Asking (W.history self.old.world.now)
@@ -172,10 +171,6 @@ impl<'a, W: World> Facts for MadeFacts<'a, W> {
         ensures asked { IfOk result (λ answer.
             self.new.asked.now.items ≡ asked_with self.old.asked.now.items fun argument.now answer) }
         ensures refused { OnErr result (self.new.asked.now.items ≡ self.old.asked.now.items) }
-        ensures built { IfOk result (λ answer.
-            (spec.lists_of self.old.made.now self.old.requested.now).built ≡ true) }
-        ensures unbuilt { IfErr result (λ fault. fault ≡ Unbuilt
-            → (spec.lists_of self.old.made.now self.old.requested.now).built ≡ false) }
         ensures lists { spec.lists_of self.new.made.now self.new.requested.now
             ≡ spec.lists_of self.old.made.now self.old.requested.now }
         ensures cause { HasCause Failed (W.faults self.old.world.now) (W.faults self.new.world.now) result }

@@ -1,5 +1,5 @@
 -- What conditions ask of the lines that were read.
-use Rattle.std.specs.Prelude.{ℕ, true, List, [], ◌∷◌}
+use Rattle.std.specs.Prelude.{ℕ, List, [], ◌∷◌}
 use Rattle.mk_expand.specs.Facts.{Lists}
 use Rattle.mk_expand.specs.declared.facts.FactFault.{FactFault}
 use Rattle.mk_expand.specs.declared.facts.FactFault.TheVariants as facts
@@ -19,7 +19,6 @@ lists_of r requested = record {
   requested = wanted_of r requested;
   targets = names_where is_target r.nodes;
   with_commands = names_where has_commands r.nodes;
-  built = true;
 }
 
 -- how a fault of the world is answered

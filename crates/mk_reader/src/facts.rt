@@ -1,9 +1,9 @@
 //! What conditions ask of the lines that were read and of the world.
-ghost use Rattle.std.specs.Prelude.{◌≡◌, ◌<◌, [], Bool, true, false, length, is_none, IsTrue, IfOk, IfErr, IfSome, OnErr};
+ghost use Rattle.std.specs.Prelude.{◌≡◌, ◌<◌, [], Bool, true, false, length, is_none, IsTrue, IfOk, IfSome, OnErr};
 ghost use Rattle.std.specs.List.{list_any};
 ghost use Rattle.mk_cond.specs.declared.cond.Fun.TheVariants.{Exists as exists};
 ghost use Rattle.mk_expand.specs.Facts.{IsTold, asked_with, is_fact, is_listed};
-ghost use Rattle.mk_expand.specs.declared.facts.FactFault.TheVariants.{Failed, Unbuilt};
+ghost use Rattle.mk_expand.specs.declared.facts.FactFault.TheVariants.{Failed};
 ghost use Rattle.mk_glob.specs.Patterns as patterns;
 ghost use Rattle.mk_graph.specs.Nodes.{Node, node_at};
 ghost use Rattle.mk_graph.specs.Where.{has_commands, is_target, names_where};
@@ -121,7 +121,6 @@ impl<'a, W: World> ReadFacts<'a, W> {
             (asked_by self.new.notes.now.items ≡ asked_by self.old.notes.now.items) }
         ensures rules { self.new.rules.now ≡ self.old.rules.now }
         ensures requested { self.new.requested.now ≡ self.old.requested.now }
-        ensures built { IfErr result (λ fault. fault ≡ Unbuilt → ⊥) }
         ensures cause { HasCause Failed (W.faults self.old.world.now) (W.faults self.new.world.now) result }
         ensures same_world { self.new.world.ghost_name ≡ self.old.world.ghost_name }
         ensures same_notes { self.new.notes.ghost_name ≡ self.old.notes.ghost_name }
@@ -174,10 +173,6 @@ impl<'a, W: World> Facts for ReadFacts<'a, W> {
             ≡ asked_with (asked_by self.old.notes.now.items) fun argument.now answer) }
         ensures refused { OnErr result
             (asked_by self.new.notes.now.items ≡ asked_by self.old.notes.now.items) }
-        ensures built { IfOk result (λ answer.
-            (spec.lists_of self.old.rules.now self.old.requested.now).built ≡ true) }
-        ensures unbuilt { IfErr result (λ fault. fault ≡ Unbuilt
-            → (spec.lists_of self.old.rules.now self.old.requested.now).built ≡ false) }
         ensures lists { spec.lists_of self.new.rules.now self.new.requested.now
             ≡ spec.lists_of self.old.rules.now self.old.requested.now }
         ensures cause { HasCause Failed (W.faults self.old.world.now) (W.faults self.new.world.now) result }

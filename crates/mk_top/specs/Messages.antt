@@ -31,7 +31,6 @@ fault_text (expand.Cond at) = codes "bad condition at " ++ decimal at
 fault_text expand.NoNumber = codes "not a number"
 fault_text expand.Undefined = codes "undefined variable in condition"
 fault_text expand.BadPlace = codes "bad word selection"
-fault_text expand.Unbuilt = codes "form is not built yet"
 fault_text expand.Failed = codes "an outside call failed"
 fault_text expand.NoMemory = codes "out of memory"
 

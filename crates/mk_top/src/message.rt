@@ -86,7 +86,6 @@ fn fault_text<'t>(fault: &'t ExpandFault, at: &'t [u8]) -> [&'t [u8]; 3]
         ExpandFault::NoNumber => [b"not a number", b"", b""],
         ExpandFault::Undefined => [b"undefined variable in condition", b"", b""],
         ExpandFault::BadPlace => [b"bad word selection", b"", b""],
-        ExpandFault::Unbuilt => [b"form is not built yet", b"", b""],
         ExpandFault::Failed => [b"an outside call failed", b"", b""],
         ExpandFault::NoMemory => [b"out of memory", b"", b""],
     }

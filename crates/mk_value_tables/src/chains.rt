@@ -1,7 +1,8 @@
 //! Values behind chains of modifiers.
+use crate::facts::Untold;
 use crate::variables::environment;
 use mk_bytes::{NoMemory, Text};
-use mk_expand::{ExpandFault, Locals, value_of_text_unasked};
+use mk_expand::{ExpandFault, Locals, value_of_text};
 use mk_scopes::{Class, Scopes};
 use std::alloc::Global;
 use std::test::Fail;
@@ -35,7 +36,7 @@ fn has_value(alloc: Global, scopes: &Scopes, keep: bool, text: &[u8], wanted: &[
     let Ok(locals) = Locals::none(alloc) else {
         return false;
     };
-    match value_of_text_unasked(alloc, scopes, &locals, text, keep) {
+    match value_of_text(alloc, scopes, &locals, text, &mut Untold, keep) {
         Ok(value) => value.bytes() == wanted,
         Err(_) => false,
     }
@@ -119,7 +120,7 @@ fn has_bad_place(alloc: Global, scopes: &Scopes, text: &[u8]) -> bool {
     let Ok(locals) = Locals::none(alloc) else {
         return false;
     };
-    match value_of_text_unasked(alloc, scopes, &locals, text, false) {
+    match value_of_text(alloc, scopes, &locals, text, &mut Untold, false) {
         Err(ExpandFault::BadPlace) => true,
         _ => false,
     }
@@ -142,7 +143,7 @@ fn is_too_deep(alloc: Global, scopes: &Scopes, text: &[u8]) -> bool {
     let Ok(locals) = Locals::none(alloc) else {
         return false;
     };
-    match value_of_text_unasked(alloc, scopes, &locals, text, false) {
+    match value_of_text(alloc, scopes, &locals, text, &mut Untold, false) {
         Err(ExpandFault::TooDeep) => true,
         _ => false,
     }

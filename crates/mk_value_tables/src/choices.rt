@@ -1,8 +1,9 @@
 //! Values that conditions choose, and values for each word.
+use crate::facts::Untold;
 use crate::variables::environment;
 use mk_ast::AstFault::UnknownModifier;
 use mk_bytes::NoMemory;
-use mk_expand::{ExpandFault, Locals, value_of_text_unasked};
+use mk_expand::{ExpandFault, Locals, value_of_text};
 use mk_scopes::{Class, Scopes};
 use std::alloc::Global;
 use std::test::Fail;
@@ -31,7 +32,7 @@ fn has_value(alloc: Global, scopes: &Scopes, text: &[u8], wanted: &[u8]) -> bool
     let Ok(locals) = Locals::none(alloc) else {
         return false;
     };
-    match value_of_text_unasked(alloc, scopes, &locals, text, false) {
+    match value_of_text(alloc, scopes, &locals, text, &mut Untold, false) {
         Ok(value) => value.bytes() == wanted,
         Err(_) => false,
     }
@@ -105,7 +106,7 @@ enum Wanted {
     NoNumber,
     Undefined,
     Recursive,
-    Unbuilt,
+    Untold,
 }
 
 fn is_wanted(fault: &ExpandFault, wanted: Wanted) -> bool {
@@ -115,7 +116,7 @@ fn is_wanted(fault: &ExpandFault, wanted: Wanted) -> bool {
         (ExpandFault::NoNumber, Wanted::NoNumber) => true,
         (ExpandFault::Undefined, Wanted::Undefined) => true,
         (ExpandFault::Recursive(_), Wanted::Recursive) => true,
-        (ExpandFault::Unbuilt, Wanted::Unbuilt) => true,
+        (ExpandFault::NoMemory, Wanted::Untold) => true,
         _ => false,
     }
 }
@@ -124,7 +125,7 @@ fn has_fault(alloc: Global, scopes: &Scopes, text: &[u8], wanted: Wanted) -> boo
     let Ok(locals) = Locals::none(alloc) else {
         return false;
     };
-    match value_of_text_unasked(alloc, scopes, &locals, text, false) {
+    match value_of_text(alloc, scopes, &locals, text, &mut Untold, false) {
         Ok(_) => false,
         Err(fault) => is_wanted(&fault, wanted),
     }
@@ -156,7 +157,7 @@ const FAULTS: [(&str, &[u8], Wanted); 11] = [
     (
         "a fact behind what does not decide",
         b"${0 || exists(q):?y:n}",
-        Wanted::Unbuilt,
+        Wanted::Untold,
     ),
 ];
 

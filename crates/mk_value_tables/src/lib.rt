@@ -6,6 +6,8 @@ mod chains;
 #[cfg(test)]
 mod choices;
 #[cfg(test)]
+mod facts;
+#[cfg(test)]
 mod values;
 #[cfg(test)]
 mod variables;

@@ -1,8 +1,9 @@
 //! Values: of texts as they stand and as `:=` keeps them, of local names, and at the limits.
+use crate::facts::Untold;
 use crate::variables::environment;
 use mk_ast::AstFault::{self, Unclosed};
 use mk_bytes::{Items, NoMemory, Text, Texts};
-use mk_expand::{ExpandFault, Locals, expand_unasked, name_tree, value_of_text_unasked};
+use mk_expand::{ExpandFault, Locals, expand, name_tree, value_of_text};
 use mk_scopes::{Class, Scopes};
 use std::alloc::Global;
 use std::test::Fail;
@@ -38,7 +39,7 @@ fn has_value(
     text: &[u8],
     wanted: &[u8],
 ) -> bool {
-    match value_of_text_unasked(alloc, scopes, locals, text, keep) {
+    match value_of_text(alloc, scopes, locals, text, &mut Untold, keep) {
         Ok(value) => value.bytes() == wanted,
         Err(_) => false,
     }
@@ -91,7 +92,7 @@ enum Wanted {
     TooLong,
     Tree(AstFault),
     BadPlace,
-    Unbuilt,
+    Untold,
 }
 
 fn is_wanted(fault: &ExpandFault, wanted: Wanted) -> bool {
@@ -102,13 +103,13 @@ fn is_wanted(fault: &ExpandFault, wanted: Wanted) -> bool {
         (ExpandFault::TooLong, Wanted::TooLong) => true,
         (ExpandFault::Tree(fault), Wanted::Tree(other)) => *fault == other,
         (ExpandFault::BadPlace, Wanted::BadPlace) => true,
-        (ExpandFault::Unbuilt, Wanted::Unbuilt) => true,
+        (ExpandFault::NoMemory, Wanted::Untold) => true,
         _ => false,
     }
 }
 
 fn has_fault(alloc: Global, scopes: &Scopes, locals: &Locals, text: &[u8], wanted: Wanted) -> bool {
-    match value_of_text_unasked(alloc, scopes, locals, text, false) {
+    match value_of_text(alloc, scopes, locals, text, &mut Untold, false) {
         Ok(_) => false,
         Err(fault) => is_wanted(&fault, wanted),
     }
@@ -137,7 +138,7 @@ const FAULTS: [(&str, &[u8], Wanted); 9] = [
     (
         "a fact that nobody tells",
         b"$A${exists(q):?x:y}$R",
-        Wanted::Unbuilt,
+        Wanted::Untold,
     ),
     (
         "a value comes before its modifiers",
@@ -262,7 +263,7 @@ fn name_has_value(alloc: Global, scopes: &Scopes, name: &[u8], wanted: &[u8]) ->
     let (Ok(locals), Ok(tree)) = (Locals::none(alloc), name_tree(alloc, name)) else {
         return false;
     };
-    match expand_unasked(alloc, scopes, &locals, &tree, false) {
+    match expand(alloc, scopes, &locals, &tree, &mut Untold, false) {
         Ok(value) => value.bytes() == wanted,
         Err(_) => false,
     }
@@ -307,7 +308,7 @@ fn long_scopes(alloc: Global) -> Result<Scopes, NoMemory> {
 }
 
 fn has_length(alloc: Global, scopes: &Scopes, locals: &Locals, text: &[u8], length: usize) -> bool {
-    match value_of_text_unasked(alloc, scopes, locals, text, false) {
+    match value_of_text(alloc, scopes, locals, text, &mut Untold, false) {
         Ok(value) => value.len() == length,
         Err(_) => false,
     }
