@@ -17,6 +17,8 @@ use Rattle.mk_memworld.specs.Meaning.{language}
 use Rattle.mk_memworld.specs.Rest.{answer_of, doing_of}
 use Rattle.mk_memworld.specs.declared.rest.Rest.{Rest}
 use Rattle.mk_memworld.proofs.TimeLemmas.{AreRising-timed, deeds-timed}
+use Rattle.mk_memworld.specs.Running.{AddsSteps}
+use Rattle.mk_memworld.proofs.RunningLemmas.{AddsEvents-behind}
 use Rattle.mk_memworld.proofs.WorldLemmas.{adds_event}
 
 -- a doing from the beginning of a command is the one that it has on the files
@@ -39,6 +41,22 @@ pub unanswered_same : {T E : Type 0} (cmd : Cmd) (result : Result T E) (old new 
 unanswered_same cmd (Ok answer) old new same = tt
 unanswered_same cmd (Err fault) old new same =
     subst (AddsEvents language (OwnUnanswered cmd) old) (sym same) (unanswered_here cmd old)
+
+-- a refused `ask` after steps
+pub unanswered_behind : (cmd : Cmd) (old new : History) → AddsSteps old new
+    → AddsEvents language (OwnUnanswered cmd) old new
+unanswered_behind cmd old new steps =
+    AddsEvents-behind (OwnUnanswered cmd) old new new steps (unanswered_here cmd new)
+
+pub unanswered_after : {T E : Type 0} (cmd : Cmd) (result : Result T E) (old new : History)
+    → AddsSteps old new → OnErr result (AddsEvents language (OwnUnanswered cmd) old new)
+unanswered_after cmd (Ok answer) old new steps = tt
+unanswered_after cmd (Err fault) old new steps = unanswered_behind cmd old new steps
+
+pub unanswered_later : {T E : Type 0} (cmd : Cmd) (result : Result T E) (old mid new : History)
+    → AddsSteps old mid → new ≡ mid → OnErr result (AddsEvents language (OwnUnanswered cmd) old new)
+unanswered_later cmd result old mid new steps same =
+    unanswered_after cmd result old new (subst (AddsSteps old) (sym same) steps)
 
 answers_as : (doing rest : Doing) (ended : Ended) → rest ≡ doing → ended ≡ answer_of rest
     → Answers doing ended

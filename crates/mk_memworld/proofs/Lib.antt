@@ -5,9 +5,11 @@ pub mod FileLemmas
 mod JoinLemmas
 mod LineLemmas
 mod PartLemmas
-pub mod OldestLemmas
+pub mod RunningLemmas
 pub mod RestLemmas
 mod Rows
 pub mod StepLemmas
+pub mod TicketLemmas
 pub mod TimeLemmas
+pub mod TurnLemmas
 pub mod WorldLemmas

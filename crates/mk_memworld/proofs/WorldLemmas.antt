@@ -1,5 +1,5 @@
 -- What the calls of the world add to its history.
-use Rattle.std.proofs.Common.{◌≡◌, ℕ, ◌+◌, ◌<◌, ◌≤◌, ◌∷◌, ◌++◌, ◌⊎◌, List, [], None, Result, Ok, Err, OnErr, false, length, map, inl, inr, refl, sym, ◌∙◌, ap, subst, arith, append_assoc}
+use Rattle.std.proofs.Common.{◌≡◌, ℕ, zero, suc, ◌+◌, ◌<◌, ◌≤◌, ◌∷◌, ◌++◌, ◌⊎◌, List, [], None, Option, Some, IsSome, IsSomeAnd, slice_get, Result, Ok, Err, OnErr, false, length, map, inl, inr, refl, sym, ◌∙◌, ap, subst, arith, append_assoc}
 use Rattle.std.proofs.lemmas.Bool.Decides.{nat_tests}
 use Rattle.std.proofs.lemmas.Grind.{common_steps}
 use Rattle.std.proofs.lemmas.List.{append-nil, map-append}
@@ -17,9 +17,10 @@ use Rattle.mk_world.proofs.TalkLemmas.{doings_equal}
 use Rattle.mk_memworld.specs.Chronicle.{with_event}
 use Rattle.mk_memworld.specs.Clock.{last_number, numbers}
 use Rattle.mk_memworld.specs.Meaning.{language}
-use Rattle.mk_memworld.specs.Oldest.{GivesUp, IsRest, IsRestOf, IsShort, OfOldest}
+use Rattle.mk_memworld.specs.Running.{AddsSteps, GivesUp, IsRest, IsRestOf, IsShort, OfOldest}
 use Rattle.mk_memworld.proofs.ChildLemmas.{child_in-first, without_child-first}
 use Rattle.mk_memworld.proofs.ChronicleLemmas.{state_of-with_event}
+use Rattle.mk_memworld.proofs.RunningLemmas.{AddsSteps-then, refused_behind}
 
 -- a refused call, after which the history is as it was
 pub refused_here : (history : History) → AddsEvents language OwnNothing history history
@@ -30,6 +31,22 @@ pub refused_same : {T E : Type 0} (result : Result T E) (old new : History) → 
 refused_same (Ok answer) old new same = tt
 refused_same (Err fault) old new same =
     subst (AddsEvents language OwnNothing old) (sym same) (refused_here old)
+
+-- a refused call after steps
+pub refused_after : {T E : Type 0} (result : Result T E) (old new : History) → AddsSteps old new
+    → OnErr result (AddsEvents language OwnNothing old new)
+refused_after (Ok answer) old new steps = tt
+refused_after (Err fault) old new steps = refused_behind steps
+
+pub refused_later : {T E : Type 0} (result : Result T E) (old mid new : History)
+    → AddsSteps old mid → new ≡ mid → OnErr result (AddsEvents language OwnNothing old new)
+refused_later result old mid new steps same =
+    refused_after result old new (subst (AddsSteps old) (sym same) steps)
+
+pub refused_both : {T E : Type 0} (result : Result T E) (old mid new : History)
+    → AddsSteps old mid → AddsSteps mid new → OnErr result (AddsEvents language OwnNothing old new)
+refused_both result old mid new first second =
+    refused_after result old new (AddsSteps-then first second)
 
 -- a call with one event of its own
 pub adds_event : (Own : State → List Happening → Type 0) (old new : History) (event : Happening)
@@ -50,25 +67,45 @@ pub tickets_of-append : (children more : List Child)
     → tickets_of (children ++ more) ≡ tickets_of children ++ tickets_of more
 tickets_of-append children more = map-append (λ (child : Child). child.ticket) children more
 
--- the first ticket was taken out
-pub TakenOut-first : (ticket : ℕ) (others old new : List ℕ) → old ≡ ticket ∷ others
-    → new ≡ remove old 0 → TakenOut ticket old new
-TakenOut-first ticket others old new was is =
-    record { front = []; back = others; was = was; now = is ∙ ap (λ l. remove l 0) was }
+-- one ticket was taken out
+pub TakenOut-at : (ticket place : ℕ) (old new : List ℕ) → slice_get old place ≡ Some ticket
+    → new ≡ remove old place → TakenOut ticket old new
+TakenOut-at ticket place [] new at is = cc
+TakenOut-at ticket zero (one ∷ others) new at is = record {
+  front = [];
+  back = others;
+  was = cc;
+  now = is;
+}
+TakenOut-at ticket (suc place) (one ∷ others) new at is =
+    let taken = TakenOut-at ticket place others (remove others place) at refl in record {
+      front = one ∷ taken.front;
+      back = taken.back;
+      was = ap (λ l. one ∷ l) taken.was;
+      now = is ∙ ap (λ l. one ∷ l) taken.now;
+    }
 
--- a doing of the oldest child for which the clock has enough numbers is its only one
-enough_as : (state : State) (rest other : Doing) (children : List Child)
-    → OfOldest children (IsRestOf state rest) → OfOldest children (IsRestOf state other)
+-- a ticket that is held is that of a child
+pub held_by : (ticket place : ℕ) (children : List Child)
+    → slice_get (tickets_of children) place ≡ Some ticket → IsSome (child_in children ticket)
+held_by ticket place [] at = cc
+held_by ticket zero (child ∷ others) at = grind (arith, nat_tests, common_steps)
+held_by ticket (suc place) (child ∷ others) at =
+    grind (arith, nat_tests, common_steps, held_by ticket place others)
+
+-- a doing of a child for which the clock has enough numbers is its only one
+enough_as : (state : State) (rest other : Doing) (child : Option Child)
+    → IsSomeAnd child (IsRestOf state rest) → IsSomeAnd child (IsRestOf state other)
     → rest ≡ other
-enough_as state rest other [] is also = absurd is
-enough_as state rest other (child ∷ others) is also =
+enough_as state rest other None is also = absurd is
+enough_as state rest other (Some child) is also =
     doings_equal language.next child.cmd (map answer child.deeds) (contents state.files) rest
     other is also
 
-pub not_short : (state : State) (rest : Doing) → IsRest state rest
-    → state.clock + numbers rest.deeds ≤ last_number → IsShort state → ⊥
-not_short state rest is enough short =
-    let same = enough_as state rest short.rest state.children is short.is_rest in
+pub not_short : (state : State) (ticket : ℕ) (rest : Doing) → IsRest state ticket rest
+    → state.clock + numbers rest.deeds ≤ last_number → IsShort state ticket → ⊥
+not_short state ticket rest is enough short =
+    let same = enough_as state rest short.rest (child_in state.children ticket) is short.is_rest in
     let few = ap (λ (d : Doing). numbers d.deeds) same in
     let more = short.short in
     absurd (omega arith)

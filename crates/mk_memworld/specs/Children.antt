@@ -1,21 +1,21 @@
--- The first of a list of children, and its steps.
-use Rattle.std.specs.Prelude.{◌-◌, ◌<◌, List, [], ◌∷◌, ◌++◌, length, take}
+-- The running children, by their tickets.
+use Rattle.std.specs.Prelude.{◌≡◌, ℕ, zero, suc, ◌==◌, true, false, List, [], ◌∷◌, IsSomeAnd, if◌then◌else◌}
+use Rattle.mk_world.specs.History.{child_in}
 use Rattle.mk_world.specs.declared.history.Child.{Child}
-use Rattle.mk_world.specs.declared.step.Deed.{Deed}
 
--- the first child has done one step more
-abbrev pub first_with_deed : Deed → List Child → List Child
-first_with_deed deed [] = []
-first_with_deed deed (child ∷ others) =
-    record child { deeds = child.deeds ++ deed ∷ [] } ∷ others
+-- a fact on the running child with a ticket, which there is
+abbrev pub OfChild : ℕ → List Child → (Child → Type 0) → Type 0
+OfChild ticket children Fact = IsSomeAnd (child_in children ticket) Fact
 
--- the first child has done a step
-abbrev pub HasDeed : List Child → Type 0
-HasDeed [] = ⊥
-HasDeed (child ∷ others) = 0 < length child.deeds
+-- the first child with a ticket stands at this place
+abbrev pub StandsAt : ℕ → ℕ → List Child → Type 0
+StandsAt ticket place [] = ⊥
+StandsAt ticket zero (child ∷ others) = (child.ticket == ticket) ≡ true
+StandsAt ticket (suc place) (child ∷ others) =
+    ((child.ticket == ticket) ≡ false) × StandsAt ticket place others
 
--- the first child has not done its last step
-abbrev pub first_without_last : List Child → List Child
-first_without_last [] = []
-first_without_last (child ∷ others) =
-    record child { deeds = take (length child.deeds - 1) child.deeds } ∷ others
+-- tickets without the first that is this one
+abbrev pub without_first : ℕ → List ℕ → List ℕ
+without_first ticket [] = []
+without_first ticket (one ∷ others) =
+    if one == ticket then others else one ∷ without_first ticket others

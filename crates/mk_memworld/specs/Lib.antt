@@ -9,11 +9,13 @@ pub mod Files
 pub mod Language
 pub mod LineEnds
 pub mod Meaning
-pub mod Oldest
+pub mod Running
+pub mod Schedule
 pub mod Outages
 pub mod Rest
 pub mod Seen
 pub mod TalkEnds
 pub mod ToldChildren
+pub mod Turned
 pub mod Turns
 pub mod Words

@@ -1,21 +1,22 @@
 //! A history, with the present state beside it.
-ghost use Rattle.std.specs.Prelude.{◌≡◌, ◌↔◌, ◌+◌, ◌^◌, ◌<◌, ◌≤◌, [], ◌∷◌, length, IsTrue, IfOk, OnOk, OnErr};
+ghost use Rattle.std.specs.Prelude.{◌≡◌, ◌↔◌, ◌+◌, ◌^◌, ◌<◌, ◌≤◌, ◌==◌, [], ◌∷◌, Some, length, position, vec_len, IsSome, IsTrue, IfOk, OnOk, OnErr};
 ghost use Rattle.std.specs.Option.{option_copied};
-ghost use Rattle.mk_world.specs.Calls.{AddsEvents, OwnEnd, OwnNothing};
+ghost use Rattle.mk_world.specs.Calls.{AddsEvents, OwnEnd};
 ghost use Rattle.mk_world.specs.Deeds.{changes};
-ghost use Rattle.mk_world.specs.History.{at_time, effected_all, files_of, state_of, tickets_of};
+ghost use Rattle.mk_world.specs.History.{at_time, child_in, effected_all, files_of, state_of, stepped, tickets_of, without_child};
 ghost use Rattle.mk_world.specs.Talks.{does};
-ghost use Rattle.mk_world.specs.declared.history.Happening.TheVariants.{Ask, Edit, Gone, Look, Start};
-ghost use Rattle.mk_memworld.specs.Children.{first_with_deed, first_without_last, HasDeed};
+ghost use Rattle.mk_world.specs.declared.history.Happening.TheVariants.{Ask, Edit, End, Gone, Look, Start};
+ghost use Rattle.mk_memworld.specs.Children.{OfChild, without_first};
 ghost use Rattle.mk_memworld.specs.Clock.{last_number, numbers, numbers_of, timed};
 ghost use Rattle.mk_memworld.specs.Files.{as_filed, files_in};
 ghost use Rattle.mk_memworld.specs.Meaning.{language};
 ghost use Rattle.mk_memworld.specs.Rest.{answer_of, doing_of};
+ghost use Rattle.mk_memworld.specs.Schedule.{deed_by, going, named};
 
 use crate::clock::{self, all_taken, numbers_taken};
 use crate::copy::{copy_cmd, copy_deed};
 use crate::files::{Files, Stored};
-use crate::rest::{Rest, records_of, rest_of};
+use crate::rest::{Rest, deed_after, records_of, rest_of};
 use mk_bytes::{Items, NoMemory, Text};
 use mk_world::{Bases, Child, Cmd, Deed, Ended, Happening, Ops, Ticket};
 use std::alloc::Global;
@@ -46,7 +47,7 @@ impl Model for Chronicle {
 
 impl Chronicle {
     ghost use Rattle.mk_memworld.specs.Chronicle.{with_event};
-    ghost use Rattle.mk_memworld.specs.Oldest.{AddsSteps, AreRecordsOf, DidStep, GivesUp, IsAtEnd, IsRest, OfOldest, TakesIn};
+    ghost use Rattle.mk_memworld.specs.Running.{AddsSteps, AreRecordsOf, DidStep, GivesUp, IsAtEnd, IsRest, OfOldest, ended_of};
 
     /// These files, with nothing done to them yet.
     pub fn new(alloc: Global, base: Bases) -> Result<Chronicle, NoMemory>
@@ -213,12 +214,41 @@ impl Chronicle {
         Ok(())
     }
 
-    /// What the oldest child does from here to its end.
-    pub fn rest(&self) -> Result<Rest, NoMemory>
-        requires { 0 < length (state_of self.now).children }
-        ensures { IfOk result (λ rest. IsRest (state_of self.now) (doing_of rest)) }
+    /// The child that a number names, counted from 1, among those that have not come to their end.
+    pub fn named(&self, ended: &[u32], number: u32) -> Option<u32>
+        ensures { result
+            ≡ named number (going ended.now (tickets_of (state_of self.now).children)) }
     {
-        let child = &self.children[0];
+        nth_going(&self.children, ended, number)
+    }
+
+    /// The next step of a child on the files as they stand; `None` where it is at its end, and
+    /// where there is no such child.
+    pub fn deed(&self, ticket: u32) -> Result<Option<Deed>, NoMemory>
+        ensures { IfOk result (λ deed. deed ≡ deed_by (state_of self.now) ticket) }
+    {
+        match find(&self.children, ticket) {
+            None => Ok(None),
+            Some(child) => {
+                deed_after(self.alloc, &self.files, &child.cmd, child.deeds.as_slice())
+            }
+        }
+    }
+
+    /// Whether the clock has a number for a step.
+    pub fn has_number(&self, deed: &Deed) -> bool
+        ensures { IsTrue result
+            ↔ ((state_of self.now).clock + numbers_of deed.now ≤ last_number) }
+    {
+        numbers_taken(deed) <= u64::MAX - self.clock
+    }
+
+    /// What a child does from here to its end.
+    pub fn rest(&self, ticket: u32) -> Result<Rest, NoMemory>
+        requires { IsSome (child_in (state_of self.now).children ticket) }
+        ensures { IfOk result (λ rest. IsRest (state_of self.now) ticket (doing_of rest)) }
+    {
+        let child = find(&self.children, ticket).unwrap();
         rest_of(self.alloc, &self.files, &child.cmd, child.deeds.as_slice())
     }
 
@@ -230,19 +260,26 @@ impl Chronicle {
         all_taken(rest.deeds.as_slice()) <= u64::MAX - self.clock
     }
 
-    // The oldest child does one step.
-    fn step(&mut self, deed: &Deed) -> Result<(), NoMemory>
-        requires some { 0 < length (state_of self.old).children }
+    /// A child does one step.
+    pub fn step(&mut self, ticket: u32, deed: &Deed) -> Result<(), NoMemory>
+        requires held { IsSome (child_in (state_of self.old).children ticket) }
         requires numbers { (state_of self.old).clock + numbers_of deed.now ≤ last_number }
-        ensures ok { OnOk result (DidStep self.old deed.now self.new) }
+        ensures ok { OnOk result (DidStep self.old ticket deed.now self.new) }
         ensures err { OnErr result (self.new ≡ self.old) }
     {
-        let Child { ticket, owner, .. } = self.children[0];
+        let owner = find(&self.children, ticket).unwrap().owner;
         let time = self.clock + numbers_taken(deed);
         let copy = copy_deed(self.alloc, deed)?;
         let again = copy_deed(self.alloc, deed)?;
         self.events.reserve(self.children.len() + 1)?;
-        do_step(&mut self.files, &mut self.children, deed, again, time)?;
+        do_step(
+            &mut self.files,
+            &mut self.children,
+            ticket,
+            deed,
+            again,
+            time,
+        )?;
         self.clock = time;
         let event = Happening::Step {
             ticket,
@@ -254,38 +291,40 @@ impl Chronicle {
         Ok(())
     }
 
-    // The oldest child does all its remaining steps.
-    fn steps(&mut self, rest: &Rest) -> Result<(), NoMemory>
-        requires is_rest { IsRest (state_of self.old) (doing_of rest.now) }
+    // A child does all its remaining steps.
+    fn steps(&mut self, ticket: u32, rest: &Rest) -> Result<(), NoMemory>
+        requires is_rest { IsRest (state_of self.old) ticket (doing_of rest.now) }
         requires numbers { (state_of self.old).clock + numbers rest.now.deeds ≤ last_number }
         ensures steps { AddsSteps self.old self.new }
         ensures tickets { tickets_of (state_of self.new).children
             ≡ tickets_of (state_of self.old).children }
-        ensures at_end { OnOk result (OfOldest (state_of self.new).children
+        ensures at_end { OnOk result (OfChild ticket (state_of self.new).children
             (IsAtEnd rest.now.status rest.now.output)) }
     {
         for deed in rest.deeds.as_slice() {
-            self.step(deed)?;
+            self.step(ticket, deed)?;
         }
         Ok(())
     }
 
-    // The records of what the oldest child did.
-    fn records(&self) -> Result<Ops, NoMemory>
-        requires { 0 < length (state_of self.now).children }
+    // The records of what a child did.
+    fn records(&self, ticket: u32) -> Result<Ops, NoMemory>
+        requires { IsSome (child_in (state_of self.now).children ticket) }
         ensures { IfOk result
-            (λ records. OfOldest (state_of self.now).children (AreRecordsOf records)) }
+            (λ records. OfChild ticket (state_of self.now).children (AreRecordsOf records)) }
     {
-        records_of(self.alloc, self.children[0].deeds.as_slice())
+        let child = find(&self.children, ticket).unwrap();
+        records_of(self.alloc, child.deeds.as_slice())
     }
 
-    // The oldest child is taken in.
-    fn end(&mut self, status: u8, output: Text, records: Ops) -> Ended
-        requires at_end { OfOldest (state_of self.old).children (IsAtEnd status output) }
-        requires records { OfOldest (state_of self.old).children (AreRecordsOf records) }
-        ensures { OfOldest (state_of self.old).children (TakesIn self.old result self.new) }
+    // A child is taken in.
+    fn end(&mut self, ticket: u32, status: u8, output: Text, records: Ops) -> Ended
+        requires { IsSome (child_in (state_of self.old).children ticket) }
+        ensures event { OfChild ticket (state_of self.old).children
+            (λ child. self.new ≡ with_event self.old (End ticket child.owner)) }
+        ensures ended { result ≡ ended_of ticket status output records }
     {
-        let Child { ticket, owner, .. } = self.children.remove(0);
+        let Child { owner, .. } = take_child(&mut self.children, ticket);
         self.events.push(Happening::End { ticket, owner }).unwrap();
         Ended {
             ticket: Ticket(ticket),
@@ -295,23 +334,24 @@ impl Chronicle {
         }
     }
 
-    /// The oldest child does all its remaining steps, and is taken in. After a refusal it has done
-    /// some of them.
-    pub fn finish(&mut self, rest: Rest) -> Result<Ended, NoMemory>
-        requires is_rest { IsRest (state_of self.old) (doing_of rest) }
+    /// A child does all its remaining steps, and is taken in. After a refusal it has done some of
+    /// them.
+    pub fn finish(&mut self, ticket: u32, rest: Rest) -> Result<Ended, NoMemory>
+        requires is_rest { IsRest (state_of self.old) ticket (doing_of rest) }
         requires numbers { (state_of self.old).clock + numbers rest.deeds ≤ last_number }
         ensures done { IfOk result
             (λ ended. AddsEvents language (OwnEnd language ended) self.old self.new) }
-        ensures refused { OnErr result (AddsEvents language OwnNothing self.old self.new) }
-        ensures taken { IfOk result (λ ended. tickets_of (state_of self.old).children
-            ≡ ended.ticket.0 ∷ tickets_of (state_of self.new).children) }
+        ensures refused { OnErr result (AddsSteps self.old self.new) }
+        ensures named { IfOk result (λ ended. ended.ticket.0 ≡ ticket) }
+        ensures taken { IfOk result (λ ended. tickets_of (state_of self.new).children
+            ≡ without_first ticket (tickets_of (state_of self.old).children)) }
         ensures same { OnErr result (tickets_of (state_of self.new).children
             ≡ tickets_of (state_of self.old).children) }
     {
-        self.steps(&rest)?;
-        let records = self.records()?;
+        self.steps(ticket, &rest)?;
+        let records = self.records(ticket)?;
         let Rest { status, output, .. } = rest;
-        Ok(self.end(status, output, records))
+        Ok(self.end(ticket, status, output, records))
     }
 
     /// The oldest child is given up. Takes no memory.
@@ -324,43 +364,83 @@ impl Chronicle {
     }
 }
 
-// The first child does a step.
+// The first child with a ticket.
+fn find(children: &[Child], ticket: u32) -> Option<&Child>
+    ensures { option_copied result ≡ child_in children.now ticket }
+{
+    for child in children {
+        if child.ticket == ticket {
+            return Some(child);
+        }
+    }
+    None
+}
+
+// Where the first child with a ticket stands.
+fn place_of(children: &[Child], ticket: u32) -> Option<usize>
+    ensures { result ≡ position (λ child. child.ticket == ticket) children.now }
+{
+    children.iter().position(|child| child.ticket == ticket)
+}
+
+// The first child with a ticket is taken out.
+fn take_child(children: &mut Vec<Child>, ticket: u32) -> Child
+    requires { IsSome (child_in children.old.items ticket) }
+    ensures child { child_in children.old.items ticket ≡ Some result }
+    ensures others { children.new.items ≡ without_child ticket children.old.items }
+    ensures fewer { vec_len children.new + 1 ≡ vec_len children.old }
+{
+    let place = place_of(children, ticket).unwrap();
+    children.remove(place)
+}
+
+// The child that a number names, counted from 1, among those that have not come to their end.
+fn nth_going(children: &[Child], ended: &[u32], number: u32) -> Option<u32>
+    ensures { result ≡ named number (going ended.now (tickets_of children.now)) }
+{
+    let mut left = number;
+    for child in children {
+        if ended.contains(&child.ticket) {
+            continue;
+        }
+        if left == 1 {
+            return Some(child.ticket);
+        }
+        left = left.saturating_sub(1);
+    }
+    None
+}
+
+// A child does a step.
 fn do_step(
     files: &mut Files,
     children: &mut Vec<Child>,
+    ticket: u32,
     deed: &Deed,
     copy: Deed,
     time: u64,
 ) -> Result<(), NoMemory>
-    requires { 0 < length children.old.items }
+    requires { IsSome (child_in children.old.items ticket) }
     ensures files { OnOk result (files_in files.new
         ≡ effected_all (files_in files.old) (at_time time (changes deed.now))) }
-    ensures children { OnOk result
-        (children.new.items ≡ first_with_deed copy children.old.items) }
+    ensures children { OnOk result (children.new.items ≡ stepped ticket copy children.old.items) }
+    ensures count { vec_len children.new ≡ vec_len children.old }
     ensures same_files { OnErr result (files_in files.new ≡ files_in files.old) }
     ensures same_children { OnErr result (children.new.items ≡ children.old.items) }
 {
-    add_deed(children, copy)?;
-    match files.apply(deed, time) {
-        Ok(()) => Ok(()),
-        Err(fault) => {
-            drop_deed(children);
-            Err(fault)
-        }
-    }
+    let change = files.prepare(deed, time)?;
+    add_deed(children, ticket, copy)?;
+    files.make(change);
+    Ok(())
 }
 
-fn add_deed(children: &mut Vec<Child>, deed: Deed) -> Result<(), NoMemory>
-    requires { 0 < length children.old.items }
-    ensures ok { OnOk result (children.new.items ≡ first_with_deed deed children.old.items) }
+fn add_deed(children: &mut Vec<Child>, ticket: u32, deed: Deed) -> Result<(), NoMemory>
+    requires { IsSome (child_in children.old.items ticket) }
+    ensures ok { OnOk result (children.new.items ≡ stepped ticket deed children.old.items) }
     ensures err { OnErr result (children.new.items ≡ children.old.items) }
+    ensures count { vec_len children.new ≡ vec_len children.old }
 {
-    children[0].deeds.push(deed)
-}
-
-fn drop_deed(children: &mut Vec<Child>)
-    requires { HasDeed children.old.items }
-    ensures { children.new.items ≡ first_without_last children.old.items }
-{
-    children[0].deeds.drop_last();
+    let place = place_of(children, ticket).unwrap();
+    children[place].deeds.push(deed)?;
+    Ok(())
 }

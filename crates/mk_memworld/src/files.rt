@@ -1,9 +1,9 @@
 //! The files as they stand.
-ghost use Rattle.std.specs.Prelude.{◌≡◌, ◌+◌, ◌<◌, ◌≤◌, ℕ, Some, None, OnOk, OnErr, length};
+ghost use Rattle.std.specs.Prelude.{◌≡◌, ◌+◌, ◌<◌, ◌≤◌, ℕ, Some, None, IfOk, OnOk, OnErr, length};
 ghost use Rattle.std.specs.Option.{option_copied};
 ghost use Rattle.mk_world.specs.Deeds.{changes};
 ghost use Rattle.mk_world.specs.History.{at_time, contents, effected, effected_all, timed_effects};
-ghost use Rattle.mk_memworld.specs.Changes.{changed, changed_all, written};
+ghost use Rattle.mk_memworld.specs.Changes.{HasEffects, changed, changed_all, written};
 ghost use Rattle.mk_memworld.specs.Files.{as_filed, files_in, no_files, room_in};
 
 use crate::change::{Change, change_of, changes_of};
@@ -84,8 +84,8 @@ impl Files {
         self.stored.insert(path, file).unwrap();
     }
 
-    // A change is made, where there is room. Takes no memory.
-    fn make(&mut self, change: Change)
+    /// A change is made, where there is room. Takes no memory.
+    pub fn make(&mut self, change: Change)
         requires { 0 < room_in self.old }
         ensures files { files_in self.new ≡ changed (files_in self.old) change }
         ensures room { room_in self.old ≤ room_in self.new + 1 }
@@ -111,16 +111,16 @@ impl Files {
         }
     }
 
-    /// The files after a step at this time.
-    pub fn apply(&mut self, deed: &Deed, time: u64) -> Result<(), NoMemory>
-        ensures ok { OnOk result (files_in self.new
-            ≡ effected_all (files_in self.old) (at_time time (changes deed.now))) }
-        ensures err { OnErr result (files_in self.new ≡ files_in self.old) }
+    /// What a step at this time changes, with room for it.
+    pub fn prepare(&mut self, deed: &Deed, time: u64) -> Result<Change, NoMemory>
+        ensures effects { IfOk result
+            (λ change. HasEffects change (at_time time (changes deed.now))) }
+        ensures room { OnOk result (0 < room_in self.new) }
+        ensures same { files_in self.new ≡ files_in self.old }
     {
         let change = change_of(self.alloc, deed, time)?;
         self.stored.reserve(1)?;
-        self.make(change);
-        Ok(())
+        Ok(change)
     }
 
     /// The files after steps at their times.

@@ -3,9 +3,25 @@
 //! A [`MemWorld`] keeps its files at the beginning and all that has happened since, and this is the
 //! history that it tells. Each change, an edit, a removal, a step of a child or of a command that
 //! is asked, takes the next number of the clock as its time: a move takes one number, a look none,
-//! and the removal of a missing file one. A child does nothing until `World::wait_any`, in which
-//! the oldest one does all its remaining steps and is taken in. A [`MemSink`] holds what was
-//! written. In both, calls that [`Fails`] names fail.
+//! and the removal of a missing file one. A [`MemSink`] holds what was written. In both, calls that
+//! [`Fails`] names fail.
+//!
+//! ## The schedule
+//!
+//! A child does nothing by itself. Each call but `World::abandon` takes the next number of the
+//! world's schedule, [`Turns`], 0 at its end. Where it is 1 to the number of running children that
+//! have not come to their end, that one of them, in the order of start, does its next step before
+//! the call does anything of its own. A child comes to its end with its last step, and one that has
+//! none at its first turn.
+//!
+//! `World::wait_any` then takes a second number, and takes in one of the children that have come to
+//! their end, in the order of coming to it: the one at the place of this number, counted from 0 and
+//! round. Where none has come to its end, the oldest child does all its remaining steps and is taken
+//! in. So under an empty schedule children are run one after the other, in the order of start.
+//!
+//! A call that fails takes its number too, and lets the child go on; a `wait_any` that fails takes
+//! no second number, and nobody is taken in. Only where the clock has no number for the step of the
+//! child does the call fail before anybody goes on.
 //!
 //! ## The commands
 //!
@@ -41,6 +57,7 @@ mod files;
 mod language;
 mod outage;
 mod rest;
+mod schedule;
 mod sink;
 mod turn;
 mod verb;
@@ -50,5 +67,6 @@ mod world;
 pub use base::are_clean;
 pub use language::next;
 pub use outage::{CallKind, Fail, Fails};
+pub use schedule::Turns;
 pub use sink::{MemSink, ROOM};
-pub use world::{MemWorld, Turns};
+pub use world::MemWorld;

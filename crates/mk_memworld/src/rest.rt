@@ -8,6 +8,7 @@ ghost use Rattle.mk_world.specs.Talks as spec;
 ghost use Rattle.mk_memworld.specs.Files.{files_in};
 ghost use Rattle.mk_memworld.specs.Language.{language_next};
 ghost use Rattle.mk_memworld.specs.Rest.{doing_of};
+ghost use Rattle.mk_memworld.specs.Schedule.{deed_at_next};
 
 use crate::files::Files;
 use crate::language::next;
@@ -116,6 +117,24 @@ fn answers_to(alloc: Global, deeds: &[Deed]) -> Result<Answers, NoMemory>
         answers.push(answer_to(alloc, deed)?)?;
     }
     Ok(answers)
+}
+
+/// The next step of a command that has done these steps, on the files as they stand; `None` at its
+/// end.
+pub fn deed_after(
+    alloc: Global,
+    files: &Files,
+    cmd: &Cmd,
+    done: &[Deed],
+) -> Result<Option<Deed>, NoMemory>
+    ensures { IfOk result (λ deed. deed ≡ deed_at_next (contents (files_in files.now))
+        (language_next cmd.now (map spec.answer done.now))) }
+{
+    let answers = answers_to(alloc, done)?;
+    match next(alloc, cmd, answers.as_slice())? {
+        Next::Over { .. } => Ok(None),
+        Next::More { request } => Ok(Some(deed_on(alloc, files, &[], request)?)),
+    }
 }
 
 /// What a command that has done these steps does from here to its end, on files that no one else

@@ -1,24 +1,27 @@
-ghost use Rattle.std.specs.Prelude.{◌≡◌, ◌⊎◌, ◌+◌, ◌<◌, ℕ, List, [], ◌∷◌, ◌++◌, Some, false, length, nat_eq, IsTrue, IfOk, OnOk, OnErr};
+ghost use Rattle.std.specs.Prelude.{◌≡◌, ◌⊎◌, ◌+◌, ◌<◌, ℕ, List, [], ◌∷◌, ◌++◌, Some, false, drop, length, nat_eq, remove, slice_get, slice_index, IsSome, IsTrue, IfOk, OnOk, OnErr};
 ghost use Rattle.std.specs.List.{list_any};
 ghost use Rattle.std.specs.Option.{option_copied};
 ghost use Rattle.mk_bytes.specs.Paths.{is_clean_directory};
 ghost use Rattle.mk_world.specs.Calls as spec;
-ghost use Rattle.mk_world.specs.Calls.{Adds, OwnAsk, OwnEnd, OwnGone, OwnLeft, OwnNothing, OwnRead, OwnStart, OwnTime, OwnUnanswered, TakenOut};
+ghost use Rattle.mk_world.specs.Calls.{Adds, AddsEvents, OwnAsk, OwnEnd, OwnGone, OwnLeft, OwnNothing, OwnRead, OwnStart, OwnTime, OwnUnanswered, TakenOut};
 ghost use Rattle.mk_world.specs.Causes.{HasCause};
-ghost use Rattle.mk_world.specs.History.{files_of, state_of, tickets_of};
+ghost use Rattle.mk_world.specs.History.{child_in, files_of, state_of, tickets_of};
 ghost use Rattle.mk_world.specs.Runs.{Run};
 ghost use Rattle.mk_world.specs.Talks.{does};
 ghost use Rattle.mk_world.specs.declared.fault.WorldFault.TheVariants.{Failed};
-ghost use Rattle.mk_world.specs.declared.history.Happening.TheVariants.{Ask, Edit, Gone};
+ghost use Rattle.mk_world.specs.declared.history.Happening.TheVariants.{Ask, Edit, Gone, Look, Start};
 ghost use Rattle.mk_memworld.specs.Base.{are_clean, base_of};
+ghost use Rattle.mk_memworld.specs.Children.{without_first};
 ghost use Rattle.mk_memworld.specs.Chronicle.{with_event};
 ghost use Rattle.mk_memworld.specs.Clock.{last_number, timed};
 ghost use Rattle.mk_memworld.specs.Files.{as_filed};
 ghost use Rattle.mk_memworld.specs.Meaning.{language};
-ghost use Rattle.mk_memworld.specs.Oldest.{IsShort};
 ghost use Rattle.mk_memworld.specs.Outages.{FailsWhere, IsStruck, OnFailed, first_outages, with_answer, with_call};
 ghost use Rattle.mk_memworld.specs.Rest.{IsTooShort, answer_of};
+ghost use Rattle.mk_memworld.specs.Running.{AddsSteps, IsShort};
+ghost use Rattle.mk_memworld.specs.Schedule.{IsTurnShort, after_turn, course_after, deed_by, gone_on, next_taken, noted, or_oldest, taken_in};
 ghost use Rattle.mk_memworld.specs.ToldChildren.{told_children};
+ghost use Rattle.mk_memworld.specs.Turned.{HasFailed, HasTurned, IsAtLastNumber, IsOutOfTime, IsWaitShort, turned};
 ghost use Rattle.mk_memworld.specs.declared.outage.CallKind.TheVariants as kind;
 
 use crate::base;
@@ -26,24 +29,22 @@ use crate::chronicle::Chronicle;
 use crate::copy::copy_bytes;
 use crate::files::Stored;
 use crate::outage::{CallKind, Fails, Outages};
-use mk_bytes::{Items, NoMemory, Pairs, Text};
+use crate::schedule::{Schedule, Turns};
+use mk_bytes::{NoMemory, Pairs, Text};
 use mk_world::{Cmd, Ended, Kids, Ticket, Time, When, World, WorldFault};
 use std::alloc::Global;
-
-/// Which child goes on at each call: for now there are no turns.
-pub type Turns = Items<u32>;
 
 /// A world in memory. It tells everything.
 #[derive(Drop)]
 pub struct MemWorld {
     chronicle: Chronicle,
     outages: Outages,
-    schedule: Turns,
+    schedule: Schedule,
 }
 
 impl MemWorld {
-    /// A world with these files, which get the times 1, 2, 3 and so on, and in which these calls
-    /// fail. The paths are clean, as they are named from `cwd`, and differ (`are_clean`).
+    /// A world with these files, which get the times 1, 2, 3 and so on, in which children go on as
+    /// this schedule says, and in which these calls fail. The paths are clean, as they are named from `cwd`, and differ (`are_clean`).
     pub fn new(
         alloc: Global,
         cwd: Text,
@@ -53,10 +54,11 @@ impl MemWorld {
     ) -> Result<MemWorld, NoMemory>
         requires directory { IsTrue (is_clean_directory cwd) }
         requires clean { IsTrue (are_clean cwd files) }
-        requires no_turns { schedule ≡ [] }
         ensures fresh { IfOk result
             (λ world. world.chronicle ≡ record { base = base_of files; events = [] }) }
         ensures outages { IfOk result (λ world. world.outages ≡ first_outages fails) }
+        ensures schedule { IfOk result
+            (λ world. world.schedule ≡ record { numbers = schedule; ended = [] }) }
         ensures idle { IfOk result
             (λ world. tickets_of (state_of world.chronicle).children ≡ []) }
     {
@@ -64,7 +66,7 @@ impl MemWorld {
         Ok(MemWorld {
             chronicle: Chronicle::new(alloc, base)?,
             outages: Outages::new(fails),
-            schedule,
+            schedule: Schedule::new(alloc, schedule),
         })
     }
 
@@ -98,6 +100,155 @@ impl MemWorld {
     }
 }
 
+// How a call begins.
+impl MemWorld {
+    // A child does its next step, where it has one. `Failed`, which is counted, comes exactly where
+    // the clock has no number for it.
+    fn step(&mut self, ticket: u32) -> Result<(), WorldFault>
+        ensures history { OnOk result
+            (self.new.chronicle ≡ gone_on self.old.chronicle (Some ticket)) }
+        ensures same { OnErr result (self.new.chronicle ≡ self.old.chronicle) }
+        ensures schedule { self.new.schedule ≡ self.old.schedule }
+        ensures steps { AddsSteps self.old.chronicle self.new.chronicle }
+        ensures tickets { tickets_of (state_of self.new.chronicle).children
+            ≡ tickets_of (state_of self.old.chronicle).children }
+        ensures exactly { FailsWhere
+            (IsTurnShort (state_of self.old.chronicle) (Some ticket)) result }
+        ensures counted { self.new.outages ≡ with_answer self.old.outages result }
+        ensures cause { HasCause Failed self.old.outages.faults self.new.outages.faults result }
+    {
+        let Some(deed) = self.chronicle.deed(ticket)? else {
+            return Ok(());
+        };
+        if !self.chronicle.has_number(&deed) {
+            self.outages.fail();
+            return Err(WorldFault::Failed);
+        }
+        self.chronicle.step(ticket, &deed)?;
+        Ok(())
+    }
+
+    // A child that has no step left has come to its end.
+    fn note(&mut self, ticket: u32) -> Result<(), NoMemory>
+        ensures noted { OnOk result (self.new.schedule ≡ record self.old.schedule {
+          ended = noted self.old.schedule.ended ticket
+              (deed_by (state_of self.old.chronicle) ticket);
+        }) }
+        ensures same { OnErr result (self.new.schedule ≡ self.old.schedule) }
+        ensures history { self.new.chronicle ≡ self.old.chronicle }
+        ensures outages { self.new.outages ≡ self.old.outages }
+    {
+        if self.chronicle.deed(ticket)?.is_some() {
+            return Ok(());
+        }
+        self.schedule.note(ticket)
+    }
+
+    // The next number is taken, and the child that it names goes on.
+    fn turn(&mut self) -> Result<(), WorldFault>
+        ensures turned { OnOk result (HasTurned self.old self.new) }
+        ensures same { OnFailed result (self.new.chronicle ≡ self.old.chronicle) }
+        ensures taken { self.new.schedule.numbers ≡ drop 1 self.old.schedule.numbers }
+        ensures steps { AddsSteps self.old.chronicle self.new.chronicle }
+        ensures tickets { tickets_of (state_of self.new.chronicle).children
+            ≡ tickets_of (state_of self.old.chronicle).children }
+        ensures exactly { FailsWhere (IsOutOfTime self.old) result }
+        ensures counted { self.new.outages ≡ with_answer self.old.outages result }
+        ensures cause { HasCause Failed self.old.outages.faults self.new.outages.faults result }
+    {
+        let number = self.schedule.take();
+        let Some(ticket) = self.chronicle.named(self.schedule.ended(), number) else {
+            return Ok(());
+        };
+        self.step(ticket)?;
+        self.note(ticket)?;
+        Ok(())
+    }
+
+    // A call is counted, takes its number, and lets the child go on that this names. `Failed` comes
+    // exactly where the clock has no number for the step, and where the call is to fail.
+    fn begin(&mut self, kind: CallKind) -> Result<(), WorldFault>
+        ensures turned { OnOk result (HasTurned self.old self.new) }
+        ensures failed { OnFailed result (HasFailed self.old self.new) }
+        ensures taken { self.new.schedule.numbers ≡ drop 1 self.old.schedule.numbers }
+        ensures steps { AddsSteps self.old.chronicle self.new.chronicle }
+        ensures tickets { tickets_of (state_of self.new.chronicle).children
+            ≡ tickets_of (state_of self.old.chronicle).children }
+        ensures exactly { FailsWhere
+            (IsStruck self.old.outages kind ⊎ IsOutOfTime self.old) result }
+        ensures counted { self.new.outages ≡ with_answer (with_call self.old.outages kind) result }
+        ensures cause { HasCause Failed self.old.outages.faults self.new.outages.faults result }
+    {
+        let is_struck = self.outages.strikes(kind);
+        self.turn()?;
+        if is_struck {
+            self.outages.fail();
+            return Err(WorldFault::Failed);
+        }
+        Ok(())
+    }
+
+    // Where the child stands that is to be taken in.
+    fn place(&self, kids: &Kids<()>) -> usize
+        requires { 0 < length kids.now.tickets }
+        ensures within { result < length kids.now.tickets }
+        ensures taken { slice_get kids.now.tickets result
+            ≡ next_taken self.now.schedule kids.now.tickets }
+        ensures first { without_first (slice_index kids.now.tickets result) kids.now.tickets
+            ≡ remove kids.now.tickets result }
+    {
+        match self.schedule.chosen() {
+            None => 0,
+            Some(ticket) => place_in(kids, ticket),
+        }
+    }
+
+    // A child does all its remaining steps and is taken in, for which a number is taken. `Failed`,
+    // which is counted, comes exactly where the clock has too few numbers for these steps.
+    fn take_in(&mut self, ticket: u32) -> Result<Ended, WorldFault>
+        requires held { IsSome (child_in (state_of self.old.chronicle).children ticket) }
+        ensures done { IfOk result (λ ended. AddsEvents language (OwnEnd language ended)
+            self.old.chronicle self.new.chronicle) }
+        ensures refused { OnErr result (AddsSteps self.old.chronicle self.new.chronicle) }
+        ensures named { IfOk result (λ ended. ended.ticket.0 ≡ ticket) }
+        ensures taken { IfOk result (λ ended. tickets_of (state_of self.new.chronicle).children
+            ≡ without_first ticket (tickets_of (state_of self.old.chronicle).children)) }
+        ensures same { OnErr result (tickets_of (state_of self.new.chronicle).children
+            ≡ tickets_of (state_of self.old.chronicle).children) }
+        ensures course { OnOk result (self.new.schedule ≡ taken_in self.old.schedule ticket) }
+        ensures same_course { OnErr result (self.new.schedule ≡ self.old.schedule) }
+        ensures exactly { FailsWhere (IsShort (state_of self.old.chronicle) ticket) result }
+        ensures nothing { OnFailed result (self.new.chronicle ≡ self.old.chronicle) }
+        ensures counted { self.new.outages ≡ with_answer self.old.outages result }
+        ensures cause { HasCause Failed self.old.outages.faults self.new.outages.faults result }
+    {
+        let rest = self.chronicle.rest(ticket)?;
+        if !self.chronicle.has_numbers(&rest) {
+            self.outages.fail();
+            return Err(WorldFault::Failed);
+        }
+        let ended = self.chronicle.finish(ticket, rest)?;
+        self.schedule.take_in(ticket);
+        Ok(ended)
+    }
+}
+
+// Where the child with a ticket stands; where there is none, the oldest one.
+fn place_in(kids: &Kids<()>, ticket: u32) -> usize
+    requires { 0 < length kids.now.tickets }
+    ensures within { result < length kids.now.tickets }
+    ensures taken { slice_get kids.now.tickets result ≡ or_oldest kids.now.tickets (Some ticket) }
+    ensures first { without_first (slice_index kids.now.tickets result) kids.now.tickets
+        ≡ remove kids.now.tickets result }
+{
+    for place in 0..kids.len() {
+        if kids.ticket(place).0 == ticket {
+            return place;
+        }
+    }
+    0
+}
+
 // When a file was changed last.
 fn when_of(file: Option<&Stored>) -> When
     ensures { result ≡ spec.when_of (as_filed (option_copied file.entry)) }
@@ -108,7 +259,7 @@ fn when_of(file: Option<&Stored>) -> When
     }
 }
 
-#[tactic(auto, using(crate::proofs::WorldLemmas::refused_here, crate::proofs::WorldLemmas::refused_same, crate::proofs::AskLemmas::unanswered_here, crate::proofs::AskLemmas::unanswered_same))]
+#[tactic(auto, using(crate::proofs::WorldLemmas::refused_here, crate::proofs::WorldLemmas::refused_same, crate::proofs::WorldLemmas::refused_after, crate::proofs::WorldLemmas::refused_later, crate::proofs::WorldLemmas::refused_both, crate::proofs::RunningLemmas::refused_behind, crate::proofs::AskLemmas::unanswered_after, crate::proofs::AskLemmas::unanswered_later, crate::proofs::AskLemmas::unanswered_behind, crate::proofs::AskLemmas::unanswered_here, crate::proofs::AskLemmas::unanswered_same))]
 impl World for MemWorld {
     type Kid = ();
 
@@ -123,26 +274,33 @@ impl World for MemWorld {
     ghost told_children = { λ world history kids runs told.
         told_children world.chronicle history kids runs told };
 
-    /// The whole of a file, or `None` where it is missing. In this call, `time`, `start` and
-    /// `wait_any` `Failed` comes exactly where the call is to fail, and then nothing happens.
+    /// The whole of a file, or `None` where it is missing.
+    ///
+    /// This call, as all but `abandon`, takes a number of the schedule and begins with the turn of
+    /// the child that this names. `Failed` comes exactly where the call is to fail, and where the
+    /// clock has no number for the step of this child, which then does nothing. A call that is to
+    /// fail lets the child go on, and does nothing of its own.
     fn read(&mut self, alloc: Global, path: &[u8]) -> Result<Option<Text>, WorldFault>
         ensures done { IfOk result (λ answer. Adds language (Some self.old.chronicle)
             (Some self.new.chronicle) (OwnRead path.now answer)) }
+        ensures history { OnOk result
+            (self.new.chronicle ≡ with_event (turned self.old) (Look path.now)) }
+        ensures course { OnOk result (self.new.schedule
+            ≡ course_after self.old.chronicle self.old.schedule) }
         ensures refused { OnErr result (Adds language (Some self.old.chronicle)
             (Some self.new.chronicle) OwnNothing) }
         ensures cause { HasCause Failed self.old.outages.faults self.new.outages.faults result }
         ensures children { (kids : List ℕ)
             → tickets_of (state_of self.old.chronicle).children ≡ kids
             → tickets_of (state_of self.new.chronicle).children ≡ kids }
-        ensures exactly { FailsWhere (IsStruck self.old.outages kind.Read) result }
-        ensures nothing { OnFailed result (self.new.chronicle ≡ self.old.chronicle) }
+        ensures exactly { FailsWhere
+            (IsStruck self.old.outages kind.Read ⊎ IsOutOfTime self.old) result }
+        ensures failed { OnFailed result (HasFailed self.old self.new) }
+        ensures taken { self.new.schedule.numbers ≡ drop 1 self.old.schedule.numbers }
         ensures counted { self.new.outages
             ≡ with_answer (with_call self.old.outages kind.Read) result }
     {
-        if self.outages.strikes(CallKind::Read) {
-            self.outages.fail();
-            return Err(WorldFault::Failed);
-        }
+        self.begin(CallKind::Read)?;
         let bytes = copy_bytes(alloc, self.chronicle.bytes(path))?;
         self.chronicle.look(path)?;
         Ok(bytes)
@@ -152,28 +310,31 @@ impl World for MemWorld {
     fn time(&mut self, _: Global, path: &[u8]) -> Result<When, WorldFault>
         ensures done { IfOk result (λ when. Adds language (Some self.old.chronicle)
             (Some self.new.chronicle) (OwnTime path.now when)) }
+        ensures history { OnOk result
+            (self.new.chronicle ≡ with_event (turned self.old) (Look path.now)) }
+        ensures course { OnOk result (self.new.schedule
+            ≡ course_after self.old.chronicle self.old.schedule) }
         ensures refused { OnErr result (Adds language (Some self.old.chronicle)
             (Some self.new.chronicle) OwnNothing) }
         ensures cause { HasCause Failed self.old.outages.faults self.new.outages.faults result }
         ensures children { (kids : List ℕ)
             → tickets_of (state_of self.old.chronicle).children ≡ kids
             → tickets_of (state_of self.new.chronicle).children ≡ kids }
-        ensures exactly { FailsWhere (IsStruck self.old.outages kind.Time) result }
-        ensures nothing { OnFailed result (self.new.chronicle ≡ self.old.chronicle) }
+        ensures exactly { FailsWhere
+            (IsStruck self.old.outages kind.Time ⊎ IsOutOfTime self.old) result }
+        ensures failed { OnFailed result (HasFailed self.old self.new) }
+        ensures taken { self.new.schedule.numbers ≡ drop 1 self.old.schedule.numbers }
         ensures counted { self.new.outages
             ≡ with_answer (with_call self.old.outages kind.Time) result }
     {
-        if self.outages.strikes(CallKind::Time) {
-            self.outages.fail();
-            return Err(WorldFault::Failed);
-        }
+        self.begin(CallKind::Time)?;
         let when = when_of(self.chronicle.file(path));
         self.chronicle.look(path)?;
         Ok(when)
     }
 
     /// Takes a file away, at the next time, also where it is missing. `Failed` comes also where the
-    /// clock is at its last number.
+    /// clock is at its last number by then.
     fn remove(&mut self, _: Global, path: &[u8]) -> Result<(), WorldFault>
         ensures done { OnOk result (Adds language (Some self.old.chronicle)
             (Some self.new.chronicle) (OwnGone path.now)) }
@@ -183,15 +344,19 @@ impl World for MemWorld {
         ensures children { (kids : List ℕ)
             → tickets_of (state_of self.old.chronicle).children ≡ kids
             → tickets_of (state_of self.new.chronicle).children ≡ kids }
-        ensures event { OnOk result (self.new.chronicle ≡ with_event self.old.chronicle
-            (Gone path.now ((state_of self.old.chronicle).clock + 1))) }
-        ensures exactly { FailsWhere (IsStruck self.old.outages kind.Remove
-            ⊎ ((state_of self.old.chronicle).clock ≡ last_number)) result }
-        ensures nothing { OnErr result (self.new.chronicle ≡ self.old.chronicle) }
+        ensures history { OnOk result (self.new.chronicle ≡ with_event (turned self.old)
+            (Gone path.now ((state_of (turned self.old)).clock + 1))) }
+        ensures course { OnOk result (self.new.schedule
+            ≡ course_after self.old.chronicle self.old.schedule) }
+        ensures exactly { FailsWhere ((IsStruck self.old.outages kind.Remove
+            ⊎ IsOutOfTime self.old) ⊎ IsAtLastNumber self.old) result }
+        ensures failed { OnFailed result (HasFailed self.old self.new) }
+        ensures taken { self.new.schedule.numbers ≡ drop 1 self.old.schedule.numbers }
         ensures counted { self.new.outages
             ≡ with_answer (with_call self.old.outages kind.Remove) result }
     {
-        if self.outages.strikes(CallKind::Remove) || self.chronicle.clock() == u64::MAX {
+        self.begin(CallKind::Remove)?;
+        if self.chronicle.clock() == u64::MAX {
             self.outages.fail();
             return Err(WorldFault::Failed);
         }
@@ -199,8 +364,8 @@ impl World for MemWorld {
         Ok(())
     }
 
-    /// Runs a command to its end on the files as they stand. `Failed` comes also where the clock has
-    /// too few numbers for its changes. After a refusal nothing has happened.
+    /// Runs a command to its end on the files as they stand after the turn. `Failed` comes also where
+    /// the clock has too few numbers for its changes by then.
     fn ask(&mut self, _: Global, cmd: &Cmd) -> Result<Ended, WorldFault>
         requires directory { IsTrue (is_clean_directory cmd.now.cwd) }
         ensures done { IfOk result (λ ended. Adds language (Some self.old.chronicle)
@@ -213,20 +378,20 @@ impl World for MemWorld {
             → tickets_of (state_of self.old.chronicle).children ≡ kids
             → tickets_of (state_of self.new.chronicle).children ≡ kids }
         ensures answer { IfOk result (λ ended. ended
-            ≡ answer_of (does language cmd.now (files_of self.old.chronicle))) }
-        ensures event { OnOk result (self.new.chronicle ≡ with_event self.old.chronicle
-            (Ask cmd.now (timed (state_of self.old.chronicle).clock
-            (does language cmd.now (files_of self.old.chronicle)).deeds))) }
-        ensures exactly { FailsWhere (IsStruck self.old.outages kind.Ask
-            ⊎ IsTooShort cmd.now (state_of self.old.chronicle)) result }
-        ensures nothing { OnErr result (self.new.chronicle ≡ self.old.chronicle) }
+            ≡ answer_of (does language cmd.now (files_of (turned self.old)))) }
+        ensures history { OnOk result (self.new.chronicle ≡ with_event (turned self.old)
+            (Ask cmd.now (timed (state_of (turned self.old)).clock
+            (does language cmd.now (files_of (turned self.old))).deeds))) }
+        ensures course { OnOk result (self.new.schedule
+            ≡ course_after self.old.chronicle self.old.schedule) }
+        ensures exactly { FailsWhere ((IsStruck self.old.outages kind.Ask
+            ⊎ IsOutOfTime self.old) ⊎ IsTooShort cmd.now (state_of (turned self.old))) result }
+        ensures failed { OnFailed result (HasFailed self.old self.new) }
+        ensures taken { self.new.schedule.numbers ≡ drop 1 self.old.schedule.numbers }
         ensures counted { self.new.outages
             ≡ with_answer (with_call self.old.outages kind.Ask) result }
     {
-        if self.outages.strikes(CallKind::Ask) {
-            self.outages.fail();
-            return Err(WorldFault::Failed);
-        }
+        self.begin(CallKind::Ask)?;
         let rest = self.chronicle.doing(cmd)?;
         if !self.chronicle.has_numbers(&rest) {
             self.outages.fail();
@@ -251,6 +416,10 @@ impl World for MemWorld {
         requires directory { IsTrue (is_clean_directory cmd.now.cwd) }
         ensures done { OnOk result (Adds language (Some self.old.chronicle)
             (Some self.new.chronicle) (OwnStart ticket.0 owner.0 cmd.now)) }
+        ensures history { OnOk result (self.new.chronicle
+            ≡ with_event (turned self.old) (Start ticket.0 owner.0 cmd.now)) }
+        ensures course { OnOk result (self.new.schedule
+            ≡ course_after self.old.chronicle self.old.schedule) }
         ensures refused { OnErr result (Adds language (Some self.old.chronicle)
             (Some self.new.chronicle) OwnNothing) }
         ensures added { OnOk result (kids.new.tickets ≡ kids.old.tickets ++ ticket.0 ∷ []) }
@@ -258,23 +427,23 @@ impl World for MemWorld {
         ensures same_room { kids.new.room ≡ kids.old.room }
         ensures cause { HasCause Failed self.old.outages.faults self.new.outages.faults result }
         ensures children { tickets_of (state_of self.new.chronicle).children ≡ kids.new.tickets }
-        ensures exactly { FailsWhere (IsStruck self.old.outages kind.Start) result }
-        ensures nothing { OnFailed result (self.new.chronicle ≡ self.old.chronicle) }
+        ensures exactly { FailsWhere
+            (IsStruck self.old.outages kind.Start ⊎ IsOutOfTime self.old) result }
+        ensures failed { OnFailed result (HasFailed self.old self.new) }
+        ensures taken { self.new.schedule.numbers ≡ drop 1 self.old.schedule.numbers }
         ensures counted { self.new.outages
             ≡ with_answer (with_call self.old.outages kind.Start) result }
     {
-        if self.outages.strikes(CallKind::Start) {
-            self.outages.fail();
-            return Err(WorldFault::Failed);
-        }
+        self.begin(CallKind::Start)?;
         self.chronicle.start(ticket.0, owner.0, cmd)?;
         kids.add(ticket, ());
         Ok(())
     }
 
-    /// The oldest child does all its remaining steps and is taken in. `Failed` comes also where the
-    /// clock has too few numbers for its changes. Where memory runs out it may have done some of
-    /// its steps.
+    /// Takes in a child. Behind the turn a second number is taken, which chooses one of those that
+    /// have come to their end; where none has, the oldest child does all its remaining steps.
+    /// `Failed` comes also where the clock has too few numbers for these by then. A call that fails
+    /// takes no second number. Where memory runs out some steps may be done.
     fn wait_any(&mut self, _: Global, kids: &mut Kids<()>) -> Result<Ended, WorldFault>
         requires exact { tickets_of (state_of self.old.chronicle).children ≡ kids.old.tickets }
         requires some { 0 < length kids.old.tickets }
@@ -284,33 +453,31 @@ impl World for MemWorld {
             (Some self.new.chronicle) OwnNothing) }
         ensures taken { IfOk result
             (λ ended. TakenOut ended.ticket.0 kids.old.tickets kids.new.tickets) }
-        ensures oldest { IfOk result
-            (λ ended. kids.old.tickets ≡ ended.ticket.0 ∷ kids.new.tickets) }
+        ensures chosen { IfOk result (λ ended. Some ended.ticket.0
+            ≡ next_taken (course_after self.old.chronicle self.old.schedule) kids.old.tickets) }
+        ensures course { IfOk result (λ ended. self.new.schedule
+            ≡ taken_in (course_after self.old.chronicle self.old.schedule) ended.ticket.0) }
         ensures same { OnErr result (kids.new ≡ kids.old) }
         ensures same_room { kids.new.room ≡ kids.old.room }
         ensures cause { HasCause Failed self.old.outages.faults self.new.outages.faults result }
         ensures children { tickets_of (state_of self.new.chronicle).children ≡ kids.new.tickets }
-        ensures exactly { FailsWhere (IsStruck self.old.outages kind.WaitAny
-            ⊎ IsShort (state_of self.old.chronicle)) result }
-        ensures nothing { OnFailed result (self.new.chronicle ≡ self.old.chronicle) }
+        ensures exactly { FailsWhere ((IsStruck self.old.outages kind.WaitAny
+            ⊎ IsOutOfTime self.old) ⊎ IsWaitShort self.old kids.old.tickets) result }
+        ensures failed { OnFailed result (HasFailed self.old self.new) }
+        ensures taken_number { OnErr result
+            (self.new.schedule.numbers ≡ drop 1 self.old.schedule.numbers) }
         ensures counted { self.new.outages
             ≡ with_answer (with_call self.old.outages kind.WaitAny) result }
     {
-        if self.outages.strikes(CallKind::WaitAny) {
-            self.outages.fail();
-            return Err(WorldFault::Failed);
-        }
-        let rest = self.chronicle.rest()?;
-        if !self.chronicle.has_numbers(&rest) {
-            self.outages.fail();
-            return Err(WorldFault::Failed);
-        }
-        let ended = self.chronicle.finish(rest)?;
-        kids.take(0);
+        self.begin(CallKind::WaitAny)?;
+        let place = self.place(kids);
+        let ended = self.take_in(kids.ticket(place).0)?;
+        kids.take(place);
         Ok(ended)
     }
 
-    /// Gives up all children, each after the steps that it has done.
+    /// Gives up all children, each after the steps that it has done. Nobody goes on, and no number is
+    /// taken.
     fn abandon(&mut self, kids: &mut Kids<()>)
         requires exact { tickets_of (state_of self.old.chronicle).children ≡ kids.old.tickets }
         ensures done { Adds language (Some self.old.chronicle) (Some self.new.chronicle) OwnLeft }
@@ -319,10 +486,12 @@ impl World for MemWorld {
         ensures faults { self.new.outages.faults ≡ self.old.outages.faults }
         ensures children { tickets_of (state_of self.new.chronicle).children ≡ [] }
         ensures outages { self.new.outages ≡ self.old.outages }
+        ensures course { self.new.schedule ≡ record self.old.schedule { ended = [] } }
     {
         while !kids.is_empty() {
             self.chronicle.leave();
             kids.take(0);
         }
+        self.schedule.forget();
     }
 }

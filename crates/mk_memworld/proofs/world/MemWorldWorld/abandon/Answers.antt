@@ -19,6 +19,7 @@ loop-self-preserved c =
       runs = gone.tickets ∙ ap (λ ks. remove ks 0) c.loop-self.invariant.runs
           ∙ sym c.take.ensures.tickets;
       outages = c.loop-self.invariant.outages;
+      schedule = c.loop-self.invariant.schedule;
       room = c.take.ensures.room ∙ c.loop-self.invariant.room;
     }
 

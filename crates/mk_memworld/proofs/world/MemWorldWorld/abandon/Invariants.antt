@@ -11,6 +11,7 @@ invariant-loop-self l = record {
       ≡ l.initial.self.chronicle.events ++ left_all (state_of l.initial.self.chronicle).children;
   runs : tickets_of (state_of l.self.chronicle).children ≡ l.kids.tickets;
   outages : l.self.outages ≡ l.initial.self.outages;
+  schedule : l.self.schedule ≡ l.initial.self.schedule;
   room : l.kids.room ≡ l.initial.kids.room;
 }
 

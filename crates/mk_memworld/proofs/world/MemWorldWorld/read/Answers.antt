@@ -3,18 +3,21 @@ use Rattle.mk_world.specs.Calls.{OwnRead}
 use Rattle.mk_world.specs.History.{State, tickets_of}
 use Rattle.mk_world.specs.declared.history.Happening.TheVariants.{Look}
 use Rattle.mk_memworld.proofs.ChronicleLemmas.{state_of-with_event}
+use Rattle.mk_memworld.proofs.RunningLemmas.{AddsEvents-behind}
 use Rattle.mk_memworld.proofs.WorldLemmas.{adds_event}
 use Rattle.mk_memworld.proofs.world.MemWorldWorld.read.Goals as goal
 
 pub returns-clause-done : goal.returns-clause-done
 returns-clause-done c =
     let path = c.args.path.now in
-    adds_event (OwnRead path c.in_ok-bytes.bytes) c.args.self.now.chronicle c.look.new.self
-    (Look path) c.in_ok-look.ensures.ok (tt, tt) (refl, c.in_ok-bytes.ensures ∙ c.bytes.ensures)
+    let mid = c.begin.new.self.chronicle in
+    AddsEvents-behind (OwnRead path c.in_ok-bytes.bytes) c.args.self.now.chronicle mid c.look.new.self c.begin.ensures.steps
+    (adds_event (OwnRead path c.in_ok-bytes.bytes) mid c.look.new.self (Look path) c.in_ok-look.ensures.ok (tt, tt)
+    (refl, c.in_ok-bytes.ensures ∙ c.bytes.ensures))
 
 pub returns-clause-children : goal.returns-clause-children
 returns-clause-children c = λ kids runs.
     ap (λ (s : State). tickets_of s.children)
-    (state_of-with_event c.args.self.now.chronicle c.look.new.self (Look c.args.path.now)
+    (state_of-with_event c.begin.new.self.chronicle c.look.new.self (Look c.args.path.now)
     c.in_ok-look.ensures.ok)
-    ∙ runs
+    ∙ c.begin.ensures.tickets ∙ runs

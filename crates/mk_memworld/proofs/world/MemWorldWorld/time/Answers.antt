@@ -3,19 +3,21 @@ use Rattle.mk_world.specs.Calls.{OwnTime, when_of}
 use Rattle.mk_world.specs.History.{State, tickets_of}
 use Rattle.mk_world.specs.declared.history.Happening.TheVariants.{Look}
 use Rattle.mk_memworld.proofs.ChronicleLemmas.{state_of-with_event}
+use Rattle.mk_memworld.proofs.RunningLemmas.{AddsEvents-behind}
 use Rattle.mk_memworld.proofs.WorldLemmas.{adds_event}
 use Rattle.mk_memworld.proofs.world.MemWorldWorld.time.Goals as goal
 
 pub returns-clause-done : goal.returns-clause-done
 returns-clause-done c =
     let path = c.args.path.now in
-    adds_event (OwnTime path c.when_of-when.result) c.args.self.now.chronicle c.look.new.self
-    (Look path) c.in_ok-look.ensures.ok (tt, tt)
-    (refl, c.when_of-when.ensures ∙ ap when_of c.file.ensures)
+    let mid = c.begin.new.self.chronicle in
+    AddsEvents-behind (OwnTime path c.when_of-when.result) c.args.self.now.chronicle mid c.look.new.self c.begin.ensures.steps
+    (adds_event (OwnTime path c.when_of-when.result) mid c.look.new.self (Look path) c.in_ok-look.ensures.ok (tt, tt)
+    (refl, c.when_of-when.ensures ∙ ap when_of c.file.ensures))
 
 pub returns-clause-children : goal.returns-clause-children
 returns-clause-children c = λ kids runs.
     ap (λ (s : State). tickets_of s.children)
-    (state_of-with_event c.args.self.now.chronicle c.look.new.self (Look c.args.path.now)
+    (state_of-with_event c.begin.new.self.chronicle c.look.new.self (Look c.args.path.now)
     c.in_ok-look.ensures.ok)
-    ∙ runs
+    ∙ c.begin.ensures.tickets ∙ runs

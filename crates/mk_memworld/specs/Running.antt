@@ -1,5 +1,5 @@
--- The oldest of the running children: what it still has to do, its steps and its end.
-use Rattle.std.specs.Prelude.{◌≡◌, ℕ, ◌+◌, ◌<◌, List, [], ◌∷◌, ◌++◌, map}
+-- What a running child still has to do, its steps and its end.
+use Rattle.std.specs.Prelude.{◌≡◌, ℕ, ◌+◌, ◌<◌, List, [], ◌∷◌, ◌++◌, Some, map}
 use Rattle.mk_world.specs.Calls.{AreSteps, EndsAs, op_of}
 use Rattle.mk_world.specs.History.{State, MayAll, contents, state_of}
 use Rattle.mk_world.specs.Talks.{Doing, IsDoing, answer}
@@ -11,34 +11,30 @@ use Rattle.mk_world.specs.declared.step.Deed.{Deed}
 use Rattle.mk_world.specs.declared.step.Ended.{Ended}
 use Rattle.mk_world.specs.declared.step.Next.TheVariants.{Over}
 use Rattle.mk_world.specs.declared.step.Op.{Op}
+use Rattle.mk_memworld.specs.Children.{OfChild}
 use Rattle.mk_memworld.specs.Chronicle.{with_event}
 use Rattle.mk_memworld.specs.Clock.{last_number, numbers, time_of}
 use Rattle.mk_memworld.specs.Meaning.{language}
-
--- a fact on the oldest child, which there is
-abbrev pub OfOldest : List Child → (Child → Type 0) → Type 0
-OfOldest [] Fact = ⊥
-OfOldest (child ∷ others) Fact = Fact child
 
 -- what a child does from here to its end, on the files as they stand
 abbrev pub IsRestOf : State → Doing → Child → Type 0
 IsRestOf state rest child =
     IsDoing language.next child.cmd (map answer child.deeds) (contents state.files) rest
 
-abbrev pub IsRest : State → Doing → Type 0
-IsRest state rest = OfOldest state.children (IsRestOf state rest)
+abbrev pub IsRest : State → ℕ → Doing → Type 0
+IsRest state ticket rest = OfChild ticket state.children (IsRestOf state rest)
 
--- fewer numbers of the clock are left than the oldest child's remaining changes take
-pub record IsShort (state : State) : Type 0 where
+-- fewer numbers of the clock are left than a child's remaining changes take
+pub record IsShort (state : State) (ticket : ℕ) : Type 0 where
   pub rest : Doing
-  pub is_rest : IsRest state rest
+  pub is_rest : IsRest state ticket rest
   pub short : last_number < state.clock + numbers rest.deeds
 
--- the oldest child did one step
-abbrev pub DidStep : History → Deed → History → Type 0
-DidStep old deed new = OfOldest (state_of old).children (λ child.
+-- a child did one step
+abbrev pub DidStep : History → ℕ → Deed → History → Type 0
+DidStep old ticket deed new = OfChild ticket (state_of old).children (λ child.
     new ≡ with_event old
-    (Step child.ticket child.owner deed (time_of (state_of old).clock deed)))
+    (Step ticket child.owner deed (time_of (state_of old).clock deed)))
 
 -- steps of running children, each of which may happen
 pub record AddsSteps (old new : History) : Type 0 where
@@ -56,11 +52,26 @@ IsAtEnd status output child =
 abbrev pub AreRecordsOf : List Op → Child → Type 0
 AreRecordsOf records child = records ≡ map op_of child.deeds
 
--- the oldest child was taken in
-pub record TakesIn (old : History) (ended : Ended) (new : History) (child : Child) : Type 0 where
-  pub event : new ≡ with_event old (End child.ticket child.owner)
-  pub ticket : ended.ticket.0 ≡ child.ticket
+-- what is told of a child that was taken in
+abbrev pub ended_of : ℕ → ℕ → List ℕ → List Op → Ended
+ended_of ticket status output records = record {
+  ticket = record { 0 = ticket };
+  status = status;
+  output = output;
+  records = Some records;
+}
+
+-- a child was taken in
+pub record TakesIn (old : History) (ticket : ℕ) (ended : Ended) (new : History) (child : Child)
+    : Type 0 where
+  pub event : new ≡ with_event old (End ticket child.owner)
+  pub named : ended.ticket.0 ≡ ticket
   pub ends : EndsAs language ended child
+
+-- a fact on the oldest of the running children, which there is
+abbrev pub OfOldest : List Child → (Child → Type 0) → Type 0
+OfOldest [] Fact = ⊥
+OfOldest (child ∷ others) Fact = Fact child
 
 -- the oldest child was given up
 abbrev pub GivesUp : History → History → Child → Type 0
