@@ -1,16 +1,12 @@
 //! Builds of plans: what is made by the ages of sources, and what commands are told.
-ghost use Rattle.std.specs.Prelude.{◌≡◌, [], false, IfOk};
-ghost use Rattle.mk_world.specs.History.{state_of, tickets_of};
-
 use crate::plans::{Node, ladder, plan_of};
+use crate::scene::{built, world};
 use Attr::{Exec, Ignore, Phony, Remake, Silent};
-use mk_bytes::{Items, NoMemory, Pair, Text, Texts, is_clean_directory};
-use mk_driver::{BuildEnd, BuildResult, Event, build};
-use mk_flags::Flags;
-use mk_graph::{Attr, Graph, Made, Mode};
-use mk_memworld::{MemSink, MemWorld, are_clean};
+use mk_bytes::{Items, NoMemory, Text};
+use mk_driver::{BuildResult, Event};
+use mk_graph::Attr;
+use mk_memworld::MemSink;
 use mk_plan::Plan;
-use mk_scopes::{Env, Scopes};
 use std::alloc::Global;
 use std::process::Abort;
 use std::test::Fail;
@@ -190,88 +186,6 @@ const ROWS: [Row; 18] = [
     ),
 ];
 
-pub fn texts(alloc: Global, all: &[&str]) -> Result<Texts, NoMemory> {
-    let mut texts = Items::new(alloc, all.len())?;
-    for text in all {
-        texts.push(Text::from_bytes(alloc, text.as_bytes())?)?;
-    }
-    Ok(texts)
-}
-
-pub fn world(rt: &impl Abort, alloc: Global, paths: &[&str]) -> Result<MemWorld, NoMemory>
-    ensures { IfOk result (λ world. tickets_of (state_of world.chronicle).children ≡ []) }
-{
-    let cwd = Text::from_bytes(alloc, b"/w")?;
-    let mut files = Items::new(alloc, paths.len())?;
-    for path in paths {
-        files.push(Pair {
-            name: Text::from_bytes(alloc, path.as_bytes())?,
-            value: Text::new(alloc),
-        })?;
-    }
-    assert!(rt; is_clean_directory(cwd.bytes()));
-    assert!(rt; are_clean(alloc, &cwd, &files)?);
-    MemWorld::new(
-        alloc,
-        cwd,
-        files,
-        Items::new(alloc, 0)?,
-        Items::new(alloc, 0)?,
-    )
-}
-
-fn scopes(rt: &impl Abort, alloc: Global) -> Result<Scopes, NoMemory> {
-    let cwd = Text::from_bytes(alloc, b"/w")?;
-    assert!(rt; is_clean_directory(cwd.bytes()));
-    let vars = Items::new(alloc, 0)?;
-    Scopes::new(alloc, &Env { vars, cwd }, false)
-}
-
-fn mode(alloc: Global) -> Result<Mode, NoMemory> {
-    let ignore_paths = Items::new(alloc, 0)?;
-    Ok(Mode {
-        meta: false,
-        curdir_ok: false,
-        missing_meta: false,
-        missing_filemon: false,
-        nofilemon: false,
-        ignore_cmd: false,
-        silent: false,
-        one_job: false,
-        delete_on_error: false,
-        ignore_paths,
-    })
-}
-
-pub fn made(rt: &impl Abort, alloc: Global) -> Result<Made, NoMemory> {
-    let suffixes = texts(alloc, &[".c"])?;
-    let main = Items::new(alloc, 0)?;
-    let mode = mode(alloc)?;
-    let scopes = scopes(rt, alloc)?;
-    let graph = Graph::new(alloc)?;
-    Ok(Made {
-        scopes,
-        graph,
-        suffixes,
-        main,
-        mode,
-    })
-}
-
-pub fn flags(alloc: Global) -> Result<Flags, NoMemory>
-    ensures jobs { IfOk result (λ flags. flags.jobs ≡ 1) }
-{
-    Ok(Flags {
-        jobs: 1,
-        keep_going: false,
-        ignore: false,
-        silent: false,
-        dry: false,
-        query: false,
-        requested: Items::new(alloc, 0)?,
-    })
-}
-
 // The names of the nodes whose lines were started, in order.
 fn started(alloc: Global, plan: &Plan, events: &[Event]) -> Result<Text, NoMemory> {
     let mut names = Text::new(alloc);
@@ -286,19 +200,6 @@ fn started(alloc: Global, plan: &Plan, events: &[Event]) -> Result<Text, NoMemor
     Ok(names)
 }
 
-fn built(
-    rt: &impl Abort,
-    alloc: Global,
-    plan: &Plan,
-    files: &[&str],
-    out: &mut MemSink,
-) -> Result<BuildEnd, NoMemory> {
-    let mut world = world(rt, alloc, files)?;
-    let flags = flags(alloc)?;
-    let made = made(rt, alloc)?;
-    Ok(build(alloc, plan, &made, &flags, &mut world, out))
-}
-
 fn is_built(
     rt: &impl Abort,
     alloc: Global,
@@ -308,7 +209,8 @@ fn is_built(
     printed: &str,
 ) -> Result<bool, NoMemory> {
     let mut out = MemSink::new(alloc, Items::new(alloc, 0)?)?;
-    let built = built(rt, alloc, plan, files, &mut out)?;
+    let mut world = world(rt, alloc, files, &[])?;
+    let built = built(rt, alloc, plan, &mut world, &mut out, 1, false)?;
     let names = started(alloc, plan, built.events.as_slice())?;
     Ok(
         matches!(built.result, BuildResult::Done)

@@ -1,6 +1,6 @@
 //! Tasks of a node: the text of each line, and how it is carried out.
-use crate::builds::{flags, made, texts, world};
 use crate::plans::{Node, node_of, ordered};
+use crate::scene::{flags, made, texts, world};
 use mk_bytes::{Items, NoMemory, Text};
 use mk_graph::Made;
 use mk_memworld::MemWorld;
@@ -71,7 +71,7 @@ fn has_lines(
     made: &Made,
 ) -> Result<bool, NoMemory> {
     let newer = texts(alloc, &["a"])?;
-    let flags = flags(alloc)?;
+    let flags = flags(alloc, 1, false)?;
     if plan.len() < 2 {
         return Ok(false);
     }
@@ -88,7 +88,7 @@ fn lines_have_their_marks(rt: HostRuntime) -> Result<(), Fail> {
     let alloc = rt.alloc();
     let made = made(&rt, alloc)?;
     let plan = plan(&rt, alloc)?;
-    let mut world = world(&rt, alloc, &["a"])?;
+    let mut world = world(&rt, alloc, &["a"], &[])?;
     assert!(rt; has_lines(alloc, &mut world, &plan, &made)?);
     Ok(())
 }

@@ -1,10 +1,10 @@
 //! The world in memory: what its commands do, and what its calls answer.
-ghost use Rattle.std.specs.Prelude.{◌≡◌, [], IsTrue, IfOk};
+ghost use Rattle.std.specs.Prelude.{◌≡◌, ◌≤◌, [], IsTrue, IfOk};
 ghost use Rattle.mk_bytes.specs.Paths.{is_clean_directory};
 ghost use Rattle.mk_world.specs.History.{state_of, tickets_of};
 
 use mk_bytes::{Items, NoMemory, Pair, Pairs, Text, is_clean_directory};
-use mk_memworld::{CallKind, Fail as Outage, Fails, MemSink, MemWorld, ROOM, are_clean};
+use mk_memworld::{CallKind, Fail as Outage, Fails, MemSink, MemWorld, ROOM, Turns, are_clean};
 use mk_world::{Cmd, Ended, Kids, Op, Ops, Sink, SinkFault, Ticket, Time, When, World, WorldFault};
 use std::alloc::Global;
 use std::process::Abort;
@@ -32,15 +32,36 @@ fn failing(alloc: Global, call: CallKind, numbers: &[u32]) -> Result<Fails, NoMe
     Ok(fails)
 }
 
-// A world with the file `a`.
-fn world(rt: &impl Abort, alloc: Global, fails: Fails) -> Result<MemWorld, NoMemory>
+fn turns(alloc: Global, numbers: &[u32]) -> Result<Turns, NoMemory> {
+    let mut turns = Items::new(alloc, numbers.len())?;
+    for number in numbers {
+        turns.push(*number)?;
+    }
+    Ok(turns)
+}
+
+// A world with the file `a` and a schedule.
+fn scheduled(
+    rt: &impl Abort,
+    alloc: Global,
+    numbers: &[u32],
+    fails: Fails,
+) -> Result<MemWorld, NoMemory>
     ensures { IfOk result (λ world. tickets_of (state_of world.chronicle).children ≡ []) }
 {
     let cwd = Text::from_bytes(alloc, b"/w")?;
     let files = files(alloc)?;
     assert!(rt; is_clean_directory(cwd.bytes()));
     assert!(rt; are_clean(alloc, &cwd, &files)?);
-    MemWorld::new(alloc, cwd, files, Items::new(alloc, 0)?, fails)
+    let schedule = turns(alloc, numbers)?;
+    MemWorld::new(alloc, cwd, files, schedule, fails)
+}
+
+// A world with the file `a`.
+fn world(rt: &impl Abort, alloc: Global, fails: Fails) -> Result<MemWorld, NoMemory>
+    ensures { IfOk result (λ world. tickets_of (state_of world.chronicle).children ≡ []) }
+{
+    scheduled(rt, alloc, &[], fails)
 }
 
 fn command(rt: &impl Abort, alloc: Global, line: &str) -> Result<Cmd, NoMemory>
@@ -209,6 +230,194 @@ fn a_named_call_fails_alone(rt: HostRuntime) -> Result<(), Fail> {
     assert!(rt; stands(alloc, &mut memory, "b", "1\n1\n", Some(2))?);
     assert!(rt; is_run(alloc, &mut memory, &cmd));
     assert!(rt; stands(alloc, &mut memory, "b", "22", Some(4))?);
+    Ok(())
+}
+
+// A child is taken in, if one runs; its ticket.
+fn wait(alloc: Global, world: &mut MemWorld, kids: &mut Kids<()>) -> Result<u32, WorldFault>
+    requires exact { tickets_of (state_of world.old.chronicle).children ≡ kids.old.tickets }
+    ensures exact { tickets_of (state_of world.new.chronicle).children ≡ kids.new.tickets }
+{
+    if kids.len() == 0 {
+        return Err(WorldFault::Failed);
+    }
+    let ended = world.wait_any(alloc, kids)?;
+    Ok(ended.ticket.0)
+}
+
+// Two children are started.
+fn start_two(
+    alloc: Global,
+    world: &mut MemWorld,
+    kids: &mut Kids<()>,
+    first: &Cmd,
+    second: &Cmd,
+) -> Result<(), WorldFault>
+    requires exact { tickets_of (state_of world.old.chronicle).children ≡ kids.old.tickets }
+    requires none { kids.old.tickets ≡ [] }
+    requires room { 2 ≤ kids.old.room }
+    requires first_directory { IsTrue (is_clean_directory first.now.cwd) }
+    requires second_directory { IsTrue (is_clean_directory second.now.cwd) }
+    ensures exact { tickets_of (state_of world.new.chronicle).children ≡ kids.new.tickets }
+{
+    world.start(alloc, kids, Ticket(1), Time(0), first)?;
+    world.start(alloc, kids, Ticket(2), Time(0), second)?;
+    Ok(())
+}
+
+fn look(alloc: Global, world: &mut MemWorld) -> Result<(), WorldFault>
+    ensures { tickets_of (state_of world.new.chronicle).children
+        ≡ tickets_of (state_of world.old.chronicle).children }
+{
+    world.time(alloc, b"x")?;
+    Ok(())
+}
+
+// The tickets of two children, as they are taken in behind so many looks, and behind a wait that is
+// to fail, if there is one.
+fn order(
+    alloc: Global,
+    world: &mut MemWorld,
+    kids: &mut Kids<()>,
+    looks: u32,
+    one_fails: bool,
+) -> Result<(u32, u32), WorldFault>
+    requires exact { tickets_of (state_of world.old.chronicle).children ≡ kids.old.tickets }
+    ensures exact { tickets_of (state_of world.new.chronicle).children ≡ kids.new.tickets }
+{
+    if one_fails && wait(alloc, world, kids).is_ok() {
+        return Err(WorldFault::Failed);
+    }
+    for _ in 0..looks {
+        look(alloc, world)?;
+    }
+    let first = wait(alloc, world, kids)?;
+    let second = wait(alloc, world, kids)?;
+    Ok((first, second))
+}
+
+// Two children under a schedule: the tickets, in the order in which they are taken in.
+fn taken_in(
+    alloc: Global,
+    world: &mut MemWorld,
+    first: &Cmd,
+    second: &Cmd,
+    looks: u32,
+    one_fails: bool,
+) -> Result<(u32, u32), WorldFault>
+    requires idle { tickets_of (state_of world.old.chronicle).children ≡ [] }
+    requires first_directory { IsTrue (is_clean_directory first.now.cwd) }
+    requires second_directory { IsTrue (is_clean_directory second.now.cwd) }
+    ensures { tickets_of (state_of world.new.chronicle).children ≡ [] }
+{
+    let mut kids: Kids<()> = Kids::new(alloc, 2)?;
+    let taken = match start_two(alloc, world, &mut kids, first, second) {
+        Ok(()) => order(alloc, world, &mut kids, looks, one_fails),
+        Err(fault) => Err(fault),
+    };
+    world.abandon(&mut kids);
+    kids.finish();
+    taken
+}
+
+/// What a schedule shows, its numbers, how many looks there are, whether the first wait is to fail, the
+/// tickets of `put p 1 ; copy p q`, which is 1, and of `put p 2`, which is 2, in the order in which they
+/// are taken in, and what `p` and `q` hold then.
+type Turned = (
+    &'static str,
+    &'static [u32],
+    u32,
+    bool,
+    (u32, u32),
+    &'static str,
+    &'static str,
+);
+
+const TURNS: [Turned; 6] = [
+    (
+        "no numbers: one child after the other",
+        &[],
+        1,
+        false,
+        (1, 2),
+        "2\n",
+        "1\n",
+    ),
+    (
+        "a step of one child between two of the other",
+        &[0, 1, 2, 1, 0, 0, 0],
+        1,
+        false,
+        (2, 1),
+        "2\n",
+        "2\n",
+    ),
+    (
+        "numbers that name no running child",
+        &[3, 3, 3, 3, 3, 3, 3],
+        1,
+        false,
+        (1, 2),
+        "2\n",
+        "1\n",
+    ),
+    (
+        "a schedule that ends early",
+        &[0, 1],
+        1,
+        false,
+        (1, 2),
+        "2\n",
+        "1\n",
+    ),
+    (
+        "the second number chooses among those that have come to their end",
+        &[0, 1, 2, 1, 1, 0, 1],
+        3,
+        false,
+        (1, 2),
+        "2\n",
+        "2\n",
+    ),
+    (
+        "a wait that fails takes its number, and the child goes on",
+        &[0, 0, 2, 1, 1, 1, 0, 1],
+        3,
+        true,
+        (1, 2),
+        "1\n",
+        "1\n",
+    ),
+];
+
+fn turn_as(rt: &impl Abort, alloc: Global, row: Turned) -> Result<bool, WorldFault> {
+    let (_, numbers, looks, one_fails, tickets, p, q) = row;
+    let waits: &[u32] = if one_fails { &[1] } else { &[] };
+    let mut memory = scheduled(
+        rt,
+        alloc,
+        numbers,
+        failing(alloc, CallKind::WaitAny, waits)?,
+    )?;
+    let first = command(rt, alloc, "put p 1 ; copy p q")?;
+    let second = command(rt, alloc, "put p 2")?;
+    let taken = taken_in(alloc, &mut memory, &first, &second, looks, one_fails)?;
+    Ok(taken == tickets && holds(&memory, b"p", p) && holds(&memory, b"q", q))
+}
+
+fn holds(world: &MemWorld, path: &[u8], bytes: &str) -> bool {
+    match world.file(path) {
+        Some(text) => text.bytes() == bytes.as_bytes(),
+        None => false,
+    }
+}
+
+#[test]
+fn children_go_on_by_a_schedule(rt: HostRuntime) -> Result<(), Fail> {
+    let alloc = rt.alloc();
+    for row in &TURNS {
+        assert!(rt; turn_as(&rt, alloc, *row)?, "{}", row.0);
+    }
     Ok(())
 }
 
