@@ -1,6 +1,7 @@
 -- A text without any `$` is its own value.
 use Rattle.std.proofs.Common.{◌≡◌, ℕ, Bool, true, false, ◌==◌, ◌&&◌, List, [], ◌∷◌}
-use Rattle.std.proofs.Common.{◌++◌, Result, Ok, Err, Some, refl, sym, ap, ◌∙◌, arith}
+use Rattle.std.proofs.Common.{◌++◌, ◌+◌, ◌≤◌, length, nat_lt, if◌then◌else◌, Result, Ok, Err, Some, refl, sym, ap, ◌∙◌, arith}
+use Rattle.std.proofs.lemmas.Bool.Decides.{nat_tests}
 use Rattle.std.proofs.lemmas.Bool.{or_parts}
 use Rattle.std.proofs.lemmas.List.{append-nil}
 use Rattle.mk_bytes.specs.Agrees.{Agrees, ◌>>=◌}
@@ -15,12 +16,14 @@ use Rattle.mk_ast.specs.WellFormed.{after_all, FitsTree, IsWellFormed}
 use Rattle.mk_ast.specs.declared.place.Place.TheVariants.{Whole}
 use Rattle.mk_ast.proofs.ReadAgain.{tree_of_text-spell}
 use Rattle.mk_expand.specs.Evaluators.{Counted, Finder, Progress}
-use Rattle.mk_expand.specs.Limits.{appended}
+use Rattle.mk_cond.specs.Cond.{Side}
+use Rattle.mk_expand.specs.Conditions.{side_value}
+use Rattle.mk_expand.specs.Limits.{appended, max_text}
 use Rattle.mk_expand.specs.Chains.{defined_as, plain_found}
 use Rattle.mk_expand.specs.Names.{Context, is_among, raw_above, raw_of, while_open}
-use Rattle.mk_expand.specs.Parts.{text_value, joined}
+use Rattle.mk_expand.specs.Parts.{text_value, tree_value, joined}
 use Rattle.mk_expand.specs.Texts.{has_dollar, with_fault, parsed}
-use Rattle.mk_expand.specs.Value.{variable}
+use Rattle.mk_expand.specs.Value.{opened_value, variable}
 use Rattle.mk_expand.specs.declared.fault.ExpandFault.{ExpandFault}
 
 -- what is found, with no progress
@@ -80,11 +83,38 @@ text_value-plain find c p [] none = refl
 text_value-plain find c p (byte ∷ bytes) none =
     rw (parsed-plain byte bytes none) (joined-plain find c p (byte ∷ bytes))
 
+pub tree_value-plain : (find : Finder) (c : Context) (p : Progress) (bytes : List ℕ)
+    → length bytes ≤ max_text
+    → tree_value find c p (part (plain bytes) end) ≡ Ok (bytes, p)
+tree_value-plain find c p bytes short =
+    let fits : nat_lt max_text (length {A = ℕ} [] + length bytes) ≡ false =
+    grind (arith, nat_tests, short) in
+    joined-plain find c p bytes ∙ rw fits refl
+
+both_same : {A : Type 0} (b : Bool) (one : A) → (if b then one else one) ≡ one
+both_same true one = refl
+both_same false one = refl
+
+-- a plain text as a side
+pub side_value-plain : (find : Finder) (c : Context) (p : Progress) (side : Side) (bytes : List ℕ)
+    → side.text ≡ part (plain bytes) end → length bytes ≤ max_text
+    → side_value find c p side ≡ Ok (bytes, p)
+side_value-plain find c p side bytes is short =
+    rw (is, tree_value-plain find c p bytes short) (both_same side.quoted (Ok (bytes, p)))
+
 plain_found-counted : (p : Progress) (value : Result (List ℕ) ExpandFault)
     → (counted p value >>= λ v. Ok (defined_as v.0, v.1))
     ≡ counted p (value >>= λ v. Ok (defined_as v))
 plain_found-counted p (Ok value) = refl
 plain_found-counted p (Err fault) = refl
+
+-- a raw value without any `$`
+pub opened_value-plain : (find : Finder) (c : Context) (p : Progress) (name raw : List ℕ)
+    → has_dollar raw ≡ false
+    → opened_value find c p name raw ≡ counted p (plain_found raw)
+opened_value-plain find c p name raw none =
+    rw (text_value-plain find (while_open c name) p raw none)
+    (plain_found-counted p (appended [] raw))
 
 -- a variable whose raw value has no `$`
 pub variable-plain : (find : Finder) (c : Context) (p : Progress) (name raw : List ℕ)

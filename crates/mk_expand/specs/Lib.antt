@@ -9,6 +9,7 @@ pub mod ModFaults
 pub mod Names
 pub mod Parts
 pub mod Separators
+pub mod Steps
 pub mod Substitutions
 pub mod Texts
 pub mod Value

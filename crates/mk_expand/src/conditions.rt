@@ -12,6 +12,7 @@ use crate::evaluation::{Run, found, tree_value};
 use crate::facts::Facts;
 use crate::fault::ExpandFault;
 use crate::name::Names;
+use crate::plain::plain_bytes;
 use mk_ast::Tree;
 use mk_bytes::Text;
 use mk_cond::{CmpOp, Cond, Conds, Fun, Side, compare, truth};
@@ -144,6 +145,9 @@ fn test_truth<F: Facts>(
     ensures facts { Asks (F.leads facts.old facts.new) (F.lists facts.old) (F.lists facts.new) (F.asked facts.old)
         (F.asked facts.new) (F.faults facts.old) (F.faults facts.new) result }
 {
+    if let Some(value) = plain_bytes(argument.as_slice()) {
+        return answer_of(names, run, facts, fun, value);
+    }
     let value = tree_value(names, run, facts, room, false, argument)?;
     answer_of(names, run, facts, fun, value.bytes())
 }
@@ -189,6 +193,9 @@ fn both_truth<F: Facts>(
         (F.asked facts.new) (F.faults facts.old) (F.faults facts.new) result }
 {
     let first = side_value(names, run, facts, room, left)?;
+    if let Some(second) = plain_bytes(right.text.as_slice()) {
+        return Ok(compare(first.bytes(), left.quoted, op, second, right.quoted)?);
+    }
     let second = side_value(names, run, facts, room, right)?;
     Ok(compare(first.bytes(), left.quoted, op, second.bytes(), right.quoted)?)
 }

@@ -4,6 +4,7 @@ ghost use Rattle.mk_ast.specs.View.{mods_view, part_view, tree_view};
 ghost use Rattle.mk_expand.specs.Calls.{Asks, Keeps, at, behind, here};
 ghost use Rattle.mk_expand.specs.Facts.{Means};
 ghost use Rattle.mk_expand.specs.Parts as joint;
+ghost use Rattle.mk_expand.specs.Steps.{named};
 ghost use Rattle.mk_expand.specs.Value as spec;
 ghost use Rattle.mk_expand.specs.Value.{found_at};
 
@@ -13,7 +14,7 @@ use crate::fault::ExpandFault;
 use crate::limit::{append, open_reference};
 use crate::modifiers::chained;
 use crate::name::{Names, is_among, known, raw_above};
-use crate::plain::{double, has_dollar, plain_value};
+use crate::plain::{double, has_dollar, plain_bytes, plain_value};
 use mk_ast::{ModTrees, Part, Tree, parse};
 use mk_bytes::{Pairs, Text, Texts};
 use mk_pool::Region;
@@ -199,10 +200,7 @@ fn found_inside<F: Facts>(
         (F.asked facts.new) (F.faults facts.old) (F.faults facts.new) result }
 {
     match part {
-        Part::Short(byte) => {
-            let name = Text::from_bytes(names.alloc, &[*byte])?;
-            variable(names, run, facts, room, keep, name)
-        }
+        Part::Short(byte) => variable(names, run, facts, room, keep, &[*byte]),
         Part::Ref {
             round: _,
             name,
@@ -231,15 +229,37 @@ fn reference<F: Facts>(
     ensures facts { Asks (F.leads facts.old facts.new) (F.lists facts.old) (F.lists facts.new) (F.asked facts.old)
         (F.asked facts.new) (F.faults facts.old) (F.faults facts.new) result }
 {
-    let name = tree_value(names, run, facts, room, false, name)?;
-    if mods.is_empty() {
-        return variable(names, run, facts, room, keep, name);
+    if let Some(name) = plain_bytes(name.as_slice()) {
+        return named(names, run, facts, room, keep, name, mods);
     }
-    let own = name.copy(names.alloc)?;
-    let found = variable(names, run, facts, room, keep, own)?;
-    chained(names, run, facts, room, name.bytes(), found, mods)
+    let name = tree_value(names, run, facts, room, false, name)?;
+    named(names, run, facts, room, keep, name.bytes(), mods)
 }
 
+// What a name finds, behind its modifiers.
+#[cycle(value)]
+fn named<F: Facts>(
+    names: &Names<'_>,
+    run: &mut Run,
+    facts: &mut F,
+    room: usize,
+    keep: bool,
+    name: &[u8],
+    mods: &ModTrees,
+) -> Result<Found, ExpandFault>
+    ensures value { Means (F.asked facts.new) (behind run.new (F.asked facts.new)) result
+        (λ answers. named (found_at room)
+        (here names.now.scopes.now names.now.locals.now (F.lists facts.old) run.old keep answers)
+        (at run.old (F.asked facts.old)) name.now (mods_view mods.now)) }
+    ensures run { OnOk result (Keeps run.old run.new) }
+    ensures facts { Asks (F.leads facts.old facts.new) (F.lists facts.old) (F.lists facts.new) (F.asked facts.old)
+        (F.asked facts.new) (F.faults facts.old) (F.faults facts.new) result }
+{
+    let found = variable(names, run, facts, room, keep, name)?;
+    chained(names, run, facts, room, name, found, mods)
+}
+
+// The value of a variable's raw value. One without any `$` is its own value.
 #[cycle(value)]
 fn variable<F: Facts>(
     names: &Names<'_>,
@@ -247,29 +267,54 @@ fn variable<F: Facts>(
     facts: &mut F,
     room: usize,
     keep: bool,
-    name: Text,
+    name: &[u8],
 ) -> Result<Found, ExpandFault>
     ensures value { Means (F.asked facts.new) (behind run.new (F.asked facts.new)) result
         (λ answers. spec.variable (found_at room)
         (here names.now.scopes.now names.now.locals.now (F.lists facts.old) run.old keep answers)
-        (at run.old (F.asked facts.old)) name) }
+        (at run.old (F.asked facts.old)) name.now) }
     ensures run { OnOk result (Keeps run.old run.new) }
     ensures facts { Asks (F.leads facts.old facts.new) (F.lists facts.old) (F.lists facts.new) (F.asked facts.old)
         (F.asked facts.new) (F.faults facts.old) (F.faults facts.new) result }
 {
-    if is_among(&run.open_names, name.bytes()) {
-        return Err(ExpandFault::Recursive(name));
+    if is_among(&run.open_names, name) {
+        return Err(ExpandFault::Recursive(Text::from_bytes(names.alloc, name)?));
     }
-    if let Some(raw) = raw_above(names, &run.bound, name.bytes())? {
+    if let Some(raw) = raw_above(names, &run.bound, name)? {
         if !has_dollar(raw.bytes()) {
             return plain_found(raw);
         }
         return opened_value(names, run, facts, room, keep, name, raw.bytes());
     }
-    match known(names.scopes, name.bytes()) {
-        Some(raw) => opened_value(names, run, facts, room, keep, name, raw.bytes()),
+    match known(names.scopes, name) {
+        Some(raw) => known_value(names, run, facts, room, keep, name, raw),
         None => Ok(nothing_found(names.alloc)),
     }
+}
+
+// The value of a raw value of a class.
+#[cycle(value)]
+fn known_value<F: Facts>(
+    names: &Names<'_>,
+    run: &mut Run,
+    facts: &mut F,
+    room: usize,
+    keep: bool,
+    name: &[u8],
+    raw: &Text,
+) -> Result<Found, ExpandFault>
+    ensures value { Means (F.asked facts.new) (behind run.new (F.asked facts.new)) result
+        (λ answers. spec.opened_value (found_at room)
+        (here names.now.scopes.now names.now.locals.now (F.lists facts.old) run.old keep answers)
+        (at run.old (F.asked facts.old)) name.now raw.now) }
+    ensures run { OnOk result (Keeps run.old run.new) }
+    ensures facts { Asks (F.leads facts.old facts.new) (F.lists facts.old) (F.lists facts.new) (F.asked facts.old)
+        (F.asked facts.new) (F.faults facts.old) (F.faults facts.new) result }
+{
+    if !has_dollar(raw.bytes()) {
+        return plain_found(raw.copy(names.alloc)?);
+    }
+    opened_value(names, run, facts, room, keep, name, raw.bytes())
 }
 
 // The value of a raw value, while its name is open.
@@ -280,18 +325,18 @@ fn opened_value<F: Facts>(
     facts: &mut F,
     room: usize,
     keep: bool,
-    name: Text,
+    name: &[u8],
     raw: &[u8],
 ) -> Result<Found, ExpandFault>
     ensures value { Means (F.asked facts.new) (behind run.new (F.asked facts.new)) result
         (λ answers. spec.opened_value (found_at room)
         (here names.now.scopes.now names.now.locals.now (F.lists facts.old) run.old keep answers)
-        (at run.old (F.asked facts.old)) name raw.now) }
+        (at run.old (F.asked facts.old)) name.now raw.now) }
     ensures run { OnOk result (Keeps run.old run.new) }
     ensures facts { Asks (F.leads facts.old facts.new) (F.lists facts.old) (F.lists facts.new) (F.asked facts.old)
         (F.asked facts.new) (F.faults facts.old) (F.faults facts.new) result }
 {
-    run.open_names.push(name)?;
+    run.open_names.push(Text::from_bytes(names.alloc, name)?)?;
     let value = text_value(names, run, facts, room, keep, raw)?;
     run.open_names.drop_last();
     Ok(Found {

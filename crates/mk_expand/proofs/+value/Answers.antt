@@ -6,6 +6,7 @@ use Rattle.mk_ast.specs.Tree.{range_to}
 use Rattle.mk_ast.specs.View.{mod_view, tree_view}
 use Rattle.mk_ast.specs.declared.tree.ModTree.{the_lemmas as mod_lemmas}
 use Rattle.mk_cond.proofs.Views.{views, view-Any, view-All}
+use Rattle.mk_cond.specs.View.{side_view}
 use Rattle.mk_cond.specs.declared.cond.Cond.{the_lemmas}
 use Rattle.mk_mods.proofs.PieceLemmas.{Begins-refl}
 use Rattle.mk_expand.specs.Calls.{at, here}
@@ -21,7 +22,9 @@ use Rattle.mk_expand.proofs.ConditionLemmas.{all_truth-end}
 use Rattle.mk_expand.proofs.FactLemmas.{earlier, never_fails, ok_never, Asks-none, Asks-err, Asks-ok, Asks-then}
 use Rattle.mk_expand.proofs.FactLemmas.{Keeps-then, Extends-then, agrees_but, fault_of_all, outside}
 use Rattle.mk_expand.proofs.FaultLemmas.{never-appended, never-raw_above, err_never, fault_never}
-use Rattle.mk_expand.proofs.PlainLemmas.{Agrees-counted, text_value-plain, variable-plain, raw_of-above}
+use Rattle.mk_expand.proofs.PlainLemmas.{Agrees-counted, opened_value-plain, raw_of-above}
+use Rattle.mk_expand.proofs.PlainLemmas.{side_value-plain, text_value-plain, tree_value-plain}
+use Rattle.mk_expand.proofs.PlainLemmas.{variable-plain}
 use Rattle.mk_expand.proofs.ValueLemmas.{joined-part, joined-end, joined-new, joined-new-end}
 use Rattle.mk_expand.proofs.ValueLemmas.{found-not, found-may, old_text_start}
 use Rattle.mk_expand.proofs.+value.Goals as goal
@@ -521,44 +524,6 @@ evaluation::found-returns-clause-value g t c =
     rw (found-may c.args.room c.args.run.now.references c.open_reference.new.references _ _ _
     c.in_ok-open_reference.ensures.ok) (c.found_inside.ensures.value answers by)
 
-pub evaluation::reference-returns-in_err-found-clause-value : goal.evaluation::reference-returns-in_err-found-clause-value
-evaluation::reference-returns-in_err-found-clause-value g t c =
-    let p = err_from_is_err_and c.from_residual-in_err-found.result c.from_residual-in_err-found.ensures.1 in
-    let first_run = c.in_ok-name.ensures.run in
-    rw (p.1, p.2) (λ answers by.
-    let before = earlier _ _ answers c.in_err-found.ensures.facts.asked by in
-    let first = c.in_ok-name.ensures.value answers before in
-    let fault = rw (
-      first_run.open_names,
-      first_run.bound,
-      c.in_ok-name.ensures.facts.lists,
-      c.in_ok-own.ensures,
-    ) at (c.in_err-found.ensures.value answers by) in
-    rw first (fault_of_all c.in_err-found.field-0.0 _ _ fault))
-
-pub evaluation::reference-returns-clause-value : goal.evaluation::reference-returns-clause-value
-evaluation::reference-returns-clause-value g t c =
-    λ answers by.
-    let later = earlier _ _ answers c.chained.ensures.facts.asked by in
-    let before = earlier _ _ answers c.in_ok-found.ensures.facts.asked later in
-    let first = c.in_ok-name.ensures.value answers before in
-    let found = rw (
-      c.in_ok-name.ensures.run.open_names,
-      c.in_ok-name.ensures.run.bound,
-      c.in_ok-name.ensures.facts.lists,
-      c.in_ok-own.ensures,
-    ) at (c.in_ok-found.ensures.value answers later) in
-    let behind = rw (
-      c.in_ok-found.ensures.run.open_names,
-      c.in_ok-name.ensures.run.open_names,
-      c.in_ok-found.ensures.run.bound,
-      c.in_ok-name.ensures.run.bound,
-      c.in_ok-found.ensures.facts.lists,
-      c.in_ok-name.ensures.facts.lists,
-      c.bytes.ensures.value,
-    ) at (c.chained.ensures.value answers by) in
-    rw (first, found) behind
-
 pub words::suffix-returns-in_err-new-clause-value : goal.words::suffix-returns-in_err-new-clause-value
 words::suffix-returns-in_err-new-clause-value g t c =
     λ answers by.
@@ -599,28 +564,12 @@ conditions::both_truth-returns-in_err-second-clause-value g t c =
     let second = c.in_err-second.ensures.value answers by in
     search rules
 
-pub conditions::both_truth-returns-in_err-compare-clause-value : goal.conditions::both_truth-returns-in_err-compare-clause-value
-conditions::both_truth-returns-in_err-compare-clause-value g t c =
-    λ answers by.
-    let before = earlier _ _ answers c.in_ok-second.ensures.facts.asked by in
-    let first = c.in_ok-first.ensures.value answers before in
-    let second = c.in_ok-second.ensures.value answers by in
-    search rules
-
 pub conditions::both_truth-returns-clause-value : goal.conditions::both_truth-returns-clause-value
 conditions::both_truth-returns-clause-value g t c =
     λ answers by.
     let before = earlier _ _ answers c.in_ok-second.ensures.facts.asked by in
     let first = c.in_ok-first.ensures.value answers before in
     let second = c.in_ok-second.ensures.value answers by in
-    search rules
-
-pub conditions::test_truth-returns-clause-value : goal.conditions::test_truth-returns-clause-value
-conditions::test_truth-returns-clause-value g t c =
-    λ answers by.
-    let before = earlier _ _ answers c.answer_of.ensures.facts.asked by in
-    let first = c.in_ok-value.ensures.value answers before in
-    let second = c.answer_of.ensures.value answers by in
     search rules
 
 pub modifiers::chosen-returns-then-branch-clause-value : goal.modifiers::chosen-returns-then-branch-clause-value
@@ -639,10 +588,6 @@ modifiers::chosen-returns-clause-value g t c =
     let second = c.tree_value-2.ensures.value answers by in
     search rules
 
-pub conditions::test_truth-returns-clause-facts : goal.conditions::test_truth-returns-clause-facts
-conditions::test_truth-returns-clause-facts g t c =
-    Asks-then (g.met.F.Facts.goes_on _ _ _) c.in_ok-value.ensures.facts c.answer_of.ensures.facts
-
 pub modifiers::chosen-returns-then-branch-clause-facts : goal.modifiers::chosen-returns-then-branch-clause-facts
 modifiers::chosen-returns-then-branch-clause-facts g t c =
     Asks-then (g.met.F.Facts.goes_on _ _ _) c.in_ok-truth_of.ensures.facts c.tree_value.ensures.facts
@@ -651,54 +596,27 @@ pub modifiers::chosen-returns-clause-facts : goal.modifiers::chosen-returns-clau
 modifiers::chosen-returns-clause-facts g t c =
     Asks-then (g.met.F.Facts.goes_on _ _ _) c.in_ok-truth_of.ensures.facts c.tree_value-2.ensures.facts
 
-pub evaluation::reference-returns-clause-facts : goal.evaluation::reference-returns-clause-facts
-evaluation::reference-returns-clause-facts g t c =
-    Asks-then (g.met.F.Facts.goes_on _ _ _) c.in_ok-name.ensures.facts
-    (Asks-then (g.met.F.Facts.goes_on _ _ _) c.in_ok-found.ensures.facts c.chained.ensures.facts)
-
-pub evaluation::found_inside-returns-in_ok-name-in-Short-clause-value : goal.evaluation::found_inside-returns-in_ok-name-in-Short-clause-value
-evaluation::found_inside-returns-in_ok-name-in-Short-clause-value g t c =
-    rw (c.in-Short.is, view-Short c.in-Short.byte)
-    (rw c.in_ok-name-in-Short.ensures at c.variable.ensures.value)
-
-pub evaluation::reference-returns-then-is_empty-clause-value : goal.evaluation::reference-returns-then-is_empty-clause-value
-evaluation::reference-returns-then-is_empty-clause-value g t c =
-    let none : c.args.mods.now ≡ [] = c.is_empty.ensures.0 c.if-is_empty.true in
-    λ answers by.
-    let before = earlier _ _ answers c.variable.ensures.facts.asked by in
-    let first = c.in_ok-name.ensures.value answers before in
-    let found = rw (
-      c.in_ok-name.ensures.run.open_names,
-      c.in_ok-name.ensures.run.bound,
-      c.in_ok-name.ensures.facts.lists,
-    ) at (c.variable.ensures.value answers by) in
-    rw (none, first) (agrees_unmodified _ _ (found_at c.args.room) _ c.in_ok-name.name _ found)
-
-pub evaluation::reference-returns-then-is_empty-clause-facts : goal.evaluation::reference-returns-then-is_empty-clause-facts
-evaluation::reference-returns-then-is_empty-clause-facts g t c =
-    Asks-then (g.met.F.Facts.goes_on _ _ _) c.in_ok-name.ensures.facts c.variable.ensures.facts
-
 pub evaluation::variable-returns-then-not-has_dollar-clause-value : goal.evaluation::variable-returns-then-not-has_dollar-clause-value
 evaluation::variable-returns-then-not-has_dollar-clause-value g t c =
     let raw = c.in-Some.raw in
-    let plain = rw c.bytes-in-Some.ensures.value at (sym c.has_dollar.ensures ∙ c.if-not-has_dollar.true) in
-    let among = rw c.bytes.ensures.value at (sym c.is_among.ensures ∙ c.if-is_among.false) in
+    let plain = rw c.bytes.ensures.value at (sym c.has_dollar.ensures ∙ c.if-not-has_dollar.true) in
+    let among = sym c.is_among.ensures ∙ c.if-is_among.false in
     λ answers by.
     let here = here c.args.names.now.scopes.now c.args.names.now.locals.now
     (g.F.Facts.lists c.args.facts.now) c.args.run.now c.args.keep answers in
     let p = at c.args.run.now (g.F.Facts.asked c.args.facts.now) in
-    let name = c.args.name in
-    let above = rw (c.in-Some.is, c.bytes-2.ensures.value) at c.in_ok-raw.ensures in
+    let name = c.args.name.now in
+    let above = rw c.in-Some.is at c.in_ok-raw.ensures in
     rw (variable-plain (found_at c.args.room) here p name raw among (raw_of-above here name raw above) plain)
     (agrees_but (λ found. (found, p)) _ _
     (Agrees-counted no_memory p c.plain_found.result _ c.plain_found.ensures))
 
 pub evaluation::variable-returns-in_err-raw-clause-facts : goal.evaluation::variable-returns-in_err-raw-clause-facts
 evaluation::variable-returns-in_err-raw-clause-facts g t c =
-    let p = err_from_is_err_and c.from_residual.result c.from_residual.ensures.1 in
+    let p = err_from_is_err_and c.from_residual-in_err-raw.result c.from_residual-in_err-raw.ensures.1 in
     rw (p.1, p.2)
     (Asks-none (g.met.F.Facts.stays _) _ _ _ _ (err_never _ (fault_never _ _ c.in_err-raw.ensures
-    (never-raw_above c.args.names.now.locals.now c.args.run.now.bound c.bytes-2.result.now))))
+    (never-raw_above c.args.names.now.locals.now c.args.run.now.bound c.args.name.now))))
 
 pub words::modifier-returns-in_err-tree_value-in-Keep-clause-value : goal.words::modifier-returns-in_err-tree_value-in-Keep-clause-value
 words::modifier-returns-in_err-tree_value-in-Keep-clause-value g t c =
@@ -801,3 +719,109 @@ modifiers::chained-returns-clause-value g t c =
           (tree_view text.now) c.if-not-found.true,
     )
     (c.default_found.ensures.value answers by)
+
+pub conditions::both_truth-returns-in_err-compare-clause-value : goal.conditions::both_truth-returns-in_err-compare-clause-value
+conditions::both_truth-returns-in_err-compare-clause-value g t c =
+    let text = rw c.as_slice.ensures.value at c.in-Some.ensures.text in
+    λ answers by.
+    let here = here c.args.names.now.scopes.now c.args.names.now.locals.now
+    (g.F.Facts.lists c.args.facts.now) c.args.run.now false answers in
+    let p = at c.side_value.new.run (g.F.Facts.asked c.side_value.new.facts) in
+    let first = c.in_ok-first.ensures.value answers by in
+    let second = side_value-plain (found_at c.args.room) here p (side_view c.args.right.now) c.in-Some.second.now
+    text c.in-Some.ensures.short in
+    search rules
+
+pub conditions::both_truth-returns-in-Some-clause-value : goal.conditions::both_truth-returns-in-Some-clause-value
+conditions::both_truth-returns-in-Some-clause-value g t c =
+    let text = rw c.as_slice.ensures.value at c.in-Some.ensures.text in
+    λ answers by.
+    let here = here c.args.names.now.scopes.now c.args.names.now.locals.now
+    (g.F.Facts.lists c.args.facts.now) c.args.run.now false answers in
+    let p = at c.side_value.new.run (g.F.Facts.asked c.side_value.new.facts) in
+    let first = c.in_ok-first.ensures.value answers by in
+    let second = side_value-plain (found_at c.args.room) here p (side_view c.args.right.now) c.in-Some.second.now
+    text c.in-Some.ensures.short in
+    search rules
+
+pub conditions::both_truth-returns-in_err-compare-2-clause-value : goal.conditions::both_truth-returns-in_err-compare-2-clause-value
+conditions::both_truth-returns-in_err-compare-2-clause-value g t c =
+    λ answers by.
+    let before = earlier _ _ answers c.in_ok-second.ensures.facts.asked by in
+    let first = c.in_ok-first.ensures.value answers before in
+    let second = c.in_ok-second.ensures.value answers by in
+    search rules
+
+pub conditions::test_truth-returns-in-Some-clause-value : goal.conditions::test_truth-returns-in-Some-clause-value
+conditions::test_truth-returns-in-Some-clause-value g t c =
+    let text = rw c.as_slice.ensures.value at c.in-Some.ensures.text in
+    λ answers by.
+    let here = here c.args.names.now.scopes.now c.args.names.now.locals.now
+    (g.F.Facts.lists c.args.facts.now) c.args.run.now false answers in
+    let p = at c.args.run.now (g.F.Facts.asked c.args.facts.now) in
+    rw (
+      text,
+      tree_value-plain (found_at c.args.room) here p c.in-Some.value.now c.in-Some.ensures.short,
+    ) (c.answer_of.ensures.value answers by)
+
+pub conditions::test_truth-returns-clause-value : goal.conditions::test_truth-returns-clause-value
+conditions::test_truth-returns-clause-value g t c =
+    λ answers by.
+    let before = earlier _ _ answers c.answer_of-2.ensures.facts.asked by in
+    let first = c.in_ok-value.ensures.value answers before in
+    let second = c.answer_of-2.ensures.value answers by in
+    search rules
+
+pub evaluation::known_value-returns-then-not-has_dollar-clause-value : goal.evaluation::known_value-returns-then-not-has_dollar-clause-value
+evaluation::known_value-returns-then-not-has_dollar-clause-value g t c =
+    let plain = rw c.bytes.ensures.value at (sym c.has_dollar.ensures ∙ c.if-not-has_dollar.true) in
+    λ answers by.
+    let here = here c.args.names.now.scopes.now c.args.names.now.locals.now
+    (g.F.Facts.lists c.args.facts.now) c.args.run.now c.args.keep answers in
+    let p = at c.args.run.now (g.F.Facts.asked c.args.facts.now) in
+    let found = rw c.in_ok-copy.ensures at c.plain_found.ensures in
+    rw (opened_value-plain (found_at c.args.room) here p c.args.name.now c.args.raw.now plain)
+    (agrees_but (λ found. (found, p)) _ _ (Agrees-counted no_memory p c.plain_found.result _ found))
+
+pub evaluation::named-returns-in_err-found-clause-value : goal.evaluation::named-returns-in_err-found-clause-value
+evaluation::named-returns-in_err-found-clause-value g t c =
+    let p = err_from_is_err_and c.from_residual.result c.from_residual.ensures.1 in
+    rw (p.1, p.2) (λ answers by.
+    fault_of_all c.in_err-found.field-0.0 _ _ (c.in_err-found.ensures.value answers by))
+
+pub evaluation::named-returns-clause-value : goal.evaluation::named-returns-clause-value
+evaluation::named-returns-clause-value g t c =
+    λ answers by.
+    let before = earlier _ _ answers c.chained.ensures.facts.asked by in
+    let found = c.in_ok-found.ensures.value answers before in
+    let behind = rw (
+      c.in_ok-found.ensures.run.open_names,
+      c.in_ok-found.ensures.run.bound,
+      c.in_ok-found.ensures.facts.lists,
+    ) at (c.chained.ensures.value answers by) in
+    rw found behind
+
+pub evaluation::reference-returns-in-Some-clause-value : goal.evaluation::reference-returns-in-Some-clause-value
+evaluation::reference-returns-in-Some-clause-value g t c =
+    let text = rw c.as_slice.ensures.value at c.in-Some.ensures.text in
+    λ answers by.
+    let here = here c.args.names.now.scopes.now c.args.names.now.locals.now
+    (g.F.Facts.lists c.args.facts.now) c.args.run.now false answers in
+    let p = at c.args.run.now (g.F.Facts.asked c.args.facts.now) in
+    rw (
+      text,
+      tree_value-plain (found_at c.args.room) here p c.in-Some.name.now c.in-Some.ensures.short,
+    ) (c.named.ensures.value answers by)
+
+pub evaluation::reference-returns-clause-value : goal.evaluation::reference-returns-clause-value
+evaluation::reference-returns-clause-value g t c =
+    λ answers by.
+    let before = earlier _ _ answers c.named-2.ensures.facts.asked by in
+    let first = c.in_ok-name.ensures.value answers before in
+    let behind = rw (
+      c.in_ok-name.ensures.run.open_names,
+      c.in_ok-name.ensures.run.bound,
+      c.in_ok-name.ensures.facts.lists,
+      c.bytes.ensures.value,
+    ) at (c.named-2.ensures.value answers by) in
+    rw first behind

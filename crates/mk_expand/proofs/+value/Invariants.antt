@@ -33,8 +33,14 @@ decreases-evaluation::text_value g l = 4096 * l.room + 5
 abbrev pub decreases-evaluation::opened_value : goal.decreases-evaluation::opened_value
 decreases-evaluation::opened_value g l = 4096 * l.room + 6
 
+abbrev pub decreases-evaluation::known_value : goal.decreases-evaluation::known_value
+decreases-evaluation::known_value g l = 4096 * l.room + 7
+
 abbrev pub decreases-evaluation::variable : goal.decreases-evaluation::variable
-decreases-evaluation::variable g l = 4096 * l.room + 7
+decreases-evaluation::variable g l = 4096 * l.room + 8
+
+abbrev pub decreases-evaluation::named : goal.decreases-evaluation::named
+decreases-evaluation::named g l = 4096 * l.room + 2069
 
 abbrev pub decreases-evaluation::reference : goal.decreases-evaluation::reference
 decreases-evaluation::reference g l = 4096 * l.room + 2070
