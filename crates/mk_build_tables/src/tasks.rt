@@ -13,7 +13,7 @@ use std::test::Fail;
 // A command, its text, whether it is ignored, silent, always run and compared.
 type Line = (&'static str, &'static str, bool, bool, bool, bool);
 
-const LINES: [Line; 9] = [
+const LINES: [Line; 11] = [
     ("say $@", "say t", false, false, false, true),
     ("@say", "say", false, true, false, true),
     ("- +fail 3", "fail 3", true, false, true, true),
@@ -22,6 +22,8 @@ const LINES: [Line; 9] = [
     ("say $(?:)", "say a", false, false, false, false),
     ("say ${X${?}}", "say ", false, false, false, false),
     ("say ${.OODATE$X}", "say a", false, false, false, true),
+    ("say ${?D} $(?F)", "say . a", false, false, false, true),
+    ("${:U@-}say", "say", true, true, false, true),
     (
         "say $$? .OODATE",
         "say $? .OODATE",
