@@ -6,6 +6,7 @@ use mk_top::Event;
 
 /// A build: what it shows, the makefile and the other files, the words, the calls that fail, and
 /// then standard output, standard error, the exit status and the events that are wanted.
+#[derive(Clone, Copy)]
 pub struct Case {
     pub shows: &'static str,
     pub makefile: &'static str,
@@ -20,6 +21,19 @@ pub struct Case {
 
 const TWO: [(&str, &str); 2] = [("a", "1\n"), ("b", "2\n")];
 
+/// A build that has nothing to do when it is run again.
+pub const AGAIN: Case = Case {
+    shows: "a missing target is made behind its sources",
+    makefile: "t: a b\n\tcat t a b\n",
+    files: &TWO,
+    words: &[],
+    fails: &[],
+    out: "cat t a b\n",
+    err: "",
+    status: 0,
+    events: &[Kept(0), Kept(1), Start(2, 1), Wait, End(2, 1, 0)],
+};
+
 /// Builds.
 pub const CASES: [Case; 28] = [
     Case {
@@ -33,17 +47,7 @@ pub const CASES: [Case; 28] = [
         status: 3,
         events: &[],
     },
-    Case {
-        shows: "a missing target is made behind its sources",
-        makefile: "t: a b\n\tcat t a b\n",
-        files: &TWO,
-        words: &[],
-        fails: &[],
-        out: "cat t a b\n",
-        err: "",
-        status: 0,
-        events: &[Kept(0), Kept(1), Start(2, 1), Wait, End(2, 1, 0)],
-    },
+    AGAIN,
     Case {
         shows: "what a line prints stands behind its text, and a silent line has none",
         makefile: "t: a\n\t@say one\n\tshow a ; put t x\n",
@@ -404,7 +408,14 @@ pub const CASES: [Case; 28] = [
         out: "",
         err: "bmake: target x command 1: status 3\n",
         status: 1,
-        events: &[Start(0, 1), Start(1, 1), Wait, End(0, 1, 3), Wait, End(1, 1, 0)],
+        events: &[
+            Start(0, 1),
+            Start(1, 1),
+            Wait,
+            End(0, 1, 3),
+            Wait,
+            End(1, 1, 0),
+        ],
     },
     Case {
         shows: ".DELETE_ON_ERROR: the target of a failed job is removed",
@@ -415,7 +426,14 @@ pub const CASES: [Case; 28] = [
         out: "no\n",
         err: "bmake: target t command 1: status 2\n",
         status: 1,
-        events: &[Start(0, 1), Wait, End(0, 1, 2), Start(1, 1), Wait, End(1, 1, 0)],
+        events: &[
+            Start(0, 1),
+            Wait,
+            End(0, 1, 2),
+            Start(1, 1),
+            Wait,
+            End(1, 1, 0),
+        ],
     },
     Case {
         shows: ".DELETE_ON_ERROR: a .PRECIOUS target stays",
@@ -426,6 +444,13 @@ pub const CASES: [Case; 28] = [
         out: "yes\n",
         err: "bmake: target t command 1: status 2\n",
         status: 1,
-        events: &[Start(0, 1), Wait, End(0, 1, 2), Start(1, 1), Wait, End(1, 1, 0)],
+        events: &[
+            Start(0, 1),
+            Wait,
+            End(0, 1, 2),
+            Start(1, 1),
+            Wait,
+            End(1, 1, 0),
+        ],
     },
 ];

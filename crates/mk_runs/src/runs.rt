@@ -3,7 +3,7 @@ ghost use Rattle.std.specs.Prelude.{◌≡◌, [], IsTrue, IfOk};
 ghost use Rattle.mk_bytes.specs.Paths.{is_clean_directory as is_clean};
 ghost use Rattle.mk_world.specs.History.{state_of, tickets_of};
 
-use crate::build_runs::{CASES, Case};
+use crate::build_runs::{AGAIN, CASES, Case};
 use crate::directive_runs::{CONDITIONS, INCLUDES, LOOPS};
 use crate::print_runs::{ENVIRONMENT, FILES, PRINTS, Printed};
 use crate::refusal_runs::REFUSALS;
@@ -82,12 +82,7 @@ fn environment(alloc: Global) -> Result<Env, NoMemory>
 }
 
 /// A world with these files under `/w`, in which these calls fail.
-fn world(
-    rt: &impl Abort,
-    alloc: Global,
-    files: Pairs,
-    fails: Fails,
-) -> Result<MemWorld, NoMemory>
+fn world(rt: &impl Abort, alloc: Global, files: Pairs, fails: Fails) -> Result<MemWorld, NoMemory>
     ensures { IfOk result (λ world. tickets_of (state_of world.chronicle).children ≡ []) }
 {
     let cwd = Text::from_bytes(alloc, b"/w")?;
@@ -352,11 +347,11 @@ fn failed_writes_end_a_run(rt: HostRuntime) -> Result<(), Fail> {
 }
 
 // Whether a run keeps all nodes and prints nothing.
-fn keeps_all(alloc: Global, world: &mut MemWorld, case: &Case) -> Result<bool, NoMemory>
+fn keeps_all(alloc: Global, world: &mut MemWorld) -> Result<bool, NoMemory>
     requires idle { tickets_of (state_of world.old.chronicle).children ≡ [] }
     ensures { tickets_of (state_of world.new.chronicle).children ≡ [] }
 {
-    let ran = run_well(alloc, world, case.words)?;
+    let ran = run_well(alloc, world, AGAIN.words)?;
     let mut kept = ran.out.bytes().is_empty();
     for event in ran.report.events.as_slice() {
         kept = kept && matches!(event, Event::Kept(_));
@@ -364,15 +359,29 @@ fn keeps_all(alloc: Global, world: &mut MemWorld, case: &Case) -> Result<bool, N
     Ok(kept)
 }
 
+// Whether a run makes something, and one behind it nothing.
+fn is_made_once(alloc: Global, world: &mut MemWorld) -> Result<bool, NoMemory>
+    requires idle { tickets_of (state_of world.old.chronicle).children ≡ [] }
+    ensures { tickets_of (state_of world.new.chronicle).children ≡ [] }
+{
+    let first = keeps_all(alloc, world)?;
+    let second = keeps_all(alloc, world)?;
+    Ok(!first && second)
+}
+
+// Whether it is so at first, and behind a change of a file.
+fn follows_changes(alloc: Global, world: &mut MemWorld) -> Result<bool, NoMemory>
+    requires idle { tickets_of (state_of world.old.chronicle).children ≡ [] }
+{
+    let first = is_made_once(alloc, world)?;
+    let edited = world.edit(b"b", Some(b"3\n")).is_ok();
+    let again = is_made_once(alloc, world)?;
+    Ok(first && edited && again)
+}
+
 #[test]
 fn second_run_makes_what_has_changed(rt: HostRuntime) -> Result<(), Fail> {
-    let case = &CASES[1];
-    let mut world = case_world(&rt, rt.alloc(), case)?;
-    let first = keeps_all(rt.alloc(), &mut world, case)?;
-    let second = keeps_all(rt.alloc(), &mut world, case)?;
-    let edited = world.edit(b"b", Some(b"3\n")).is_ok();
-    let third = keeps_all(rt.alloc(), &mut world, case)?;
-    let fourth = keeps_all(rt.alloc(), &mut world, case)?;
-    assert!(rt; !first && second && edited && !third && fourth);
+    let mut world = case_world(&rt, rt.alloc(), &AGAIN)?;
+    assert!(rt; follows_changes(rt.alloc(), &mut world)?);
     Ok(())
 }
