@@ -8,13 +8,12 @@ use Rattle.mk_ast.specs.declared.tree.ModTree.{ModTree, IfUndefined, IfDefined, 
 use Rattle.mk_ast.specs.declared.tree.ModTree.{Each, the_lemmas}
 use Rattle.mk_ast.specs.declared.tree.Part.{Part}
 use Rattle.mk_ast.proofs.Views.{views}
-use Rattle.mk_bytes.specs.Agrees.{AgreesBut, ◌>>=◌}
+use Rattle.mk_bytes.specs.Agrees.{◌>>=◌}
 use Rattle.mk_mods.specs.Results.{with_result}
 use Rattle.mk_mods.specs.State.{State, plain, text_of}
 use Rattle.mk_expand.specs.Chains.{Chain, modified, given_modified, word_modified, all_modified}
 use Rattle.mk_expand.specs.Chains.{chained, chain_of, each_behind, found_as, given}
 use Rattle.mk_expand.specs.ModFaults.{with_fault}
-use Rattle.mk_expand.specs.Facts.{IsOutside}
 use Rattle.mk_expand.specs.declared.fault.ExpandFault.{ExpandFault}
 use Rattle.mk_expand.specs.Evaluators.{Counted, Finder, Progress}
 use Rattle.mk_expand.specs.Names.{Context, while_bound}
@@ -72,18 +71,6 @@ pub chained-default : (find : Finder) (c : Context) (p : Progress) (name : List 
 unfolding all_modified
 chained-default find c p name found text undefined =
     rw undefined (given-found find c name found (tree_value find c p text))
-
--- a value without modifiers is what is found
-pub unmodified : (find : Finder) (c : Context) (name : List ℕ) (found : Counted Found)
-    → (found >>= λ v. chained find c v.1 name v.0 no_mods) ≡ found
-unmodified find c name (Ok v) = chained_none find c v.1 name v.0
-unmodified find c name (Err fault) = refl
-
-pub agrees_unmodified : {X : Type 0} (view : X → Found × Progress) (answer : Result X ExpandFault)
-    (find : Finder) (c : Context) (name : List ℕ) (found : Counted Found)
-    → AgreesBut IsOutside view answer found
-    → AgreesBut IsOutside view answer (found >>= λ v. chained find c v.1 name v.0 no_mods)
-agrees_unmodified view answer find c name found agrees = rw (unmodified find c name found) agrees
 
 pub each_behind-word : (find : Finder) (c : Context) (p : Progress) (name : List ℕ) (body : Tree)
     (results : State) (words : List (List ℕ)) (i : ℕ) (word : List ℕ)

@@ -15,7 +15,7 @@ use Rattle.mk_expand.specs.Value.{found_at}
 use Rattle.mk_expand.specs.View.{chain_view}
 use Rattle.mk_expand.specs.declared.fault.ExpandFault.TheVariants.{NoMemory as no_memory}
 use Rattle.mk_expand.proofs.ChainLemmas.{all_modified-mod, all_modified-end, each_behind-word}
-use Rattle.mk_expand.proofs.ChainLemmas.{agrees_unmodified, each_behind-end, modified-words, modified-given}
+use Rattle.mk_expand.proofs.ChainLemmas.{each_behind-end, modified-words, modified-given}
 use Rattle.mk_expand.proofs.ChainLemmas.{chained-default}
 use Rattle.mk_expand.proofs.ConditionLemmas.{any_truth-cond, any_truth-end, all_truth-cond}
 use Rattle.mk_expand.proofs.ConditionLemmas.{all_truth-end}
