@@ -40,20 +40,24 @@ impl Run<'_> {
         open
     }
 
-    // Whether a node is undecided, and all before it are settled well.
-    fn is_ready(&self, n: usize) -> bool {
-        if self.nodes.get(n) != Some(&Stand::Undecided) {
-            return false;
-        }
-        let Some(row) = self.plan.get(n) else {
-            return false;
-        };
-        for one in row.1 {
-            if self.nodes.get(*one as usize) != Some(&Stand::Settled) {
+    fn are_settled(&self, nodes: &[u32]) -> bool {
+        for n in nodes {
+            if self.nodes.get(*n as usize) != Some(&Stand::Settled) {
                 return false;
             }
         }
         true
+    }
+
+    // Whether a node is undecided, and all its sources are settled well.
+    fn is_ready(&self, n: usize) -> bool {
+        if self.nodes.get(n) != Some(&Stand::Undecided) {
+            return false;
+        }
+        match self.plan.get(n) {
+            Some(row) => self.are_settled(row.1),
+            None => false,
+        }
     }
 
     // Whether nothing is started any more.

@@ -273,6 +273,16 @@ fn look(alloc: Global, world: &mut MemWorld) -> Result<(), WorldFault>
     Ok(())
 }
 
+fn look_often(alloc: Global, world: &mut MemWorld, looks: u32) -> Result<(), WorldFault>
+    ensures { tickets_of (state_of world.new.chronicle).children
+        ≡ tickets_of (state_of world.old.chronicle).children }
+{
+    'looks: for _ in 0..looks {
+        look(alloc, world)?;
+    }
+    Ok(())
+}
+
 // The tickets of two children, as they are taken in behind so many looks, and behind a wait that is
 // to fail, if there is one.
 fn order(
@@ -288,9 +298,7 @@ fn order(
     if one_fails && wait(alloc, world, kids).is_ok() {
         return Err(WorldFault::Failed);
     }
-    for _ in 0..looks {
-        look(alloc, world)?;
-    }
+    look_often(alloc, world, looks)?;
     let first = wait(alloc, world, kids)?;
     let second = wait(alloc, world, kids)?;
     Ok((first, second))
