@@ -17,7 +17,6 @@ use Rattle.mk_world.specs.declared.fault.SinkFault.{SinkFault}
 use Rattle.mk_world.specs.declared.fault.SinkFault.TheVariants as sink_fault
 use Rattle.mk_world.specs.declared.fault.WorldFault.{WorldFault}
 use Rattle.mk_world.specs.declared.fault.WorldFault.TheVariants as world_fault
-use Rattle.mk_world.specs.declared.history.History.{History}
 use Rattle.mk_world.proofs.SinkLemmas.{Gains-nothing}
 use Rattle.mk_reader.specs.Acts.{Did, Did-nothing, DidPart-more, DidPart-whole, acts_of, acts_of-append, asked_in, written}
 use Rattle.mk_reader.specs.Leads.{told-none}

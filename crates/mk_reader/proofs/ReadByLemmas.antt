@@ -8,12 +8,11 @@ use Rattle.mk_blocks.specs.Ties.{Does, Goes}
 use Rattle.mk_blocks.specs.Ties as verdict
 use Rattle.mk_world.specs.Causes.{HasCause}
 use Rattle.mk_world.specs.Talks.{Meaning}
-use Rattle.mk_world.specs.Told.{Told}
 use Rattle.mk_world.specs.declared.history.History.{History}
 use Rattle.mk_reader.specs.Acts.{Did, Did-nothing, DidPart, DidPart-more, DidPart-whole, acts_of}
 use Rattle.mk_reader.specs.Leads.{told-none}
 use Rattle.mk_reader.specs.Notes.{questions_in}
-use Rattle.mk_reader.specs.Questions.{Answered, Answers, Question}
+use Rattle.mk_reader.specs.Questions.{Answered, Answers}
 use Rattle.mk_reader.specs.ReadFaults.{Reads, of_stop, sorted}
 use Rattle.mk_reader.specs.Results.{ReadBy}
 use Rattle.mk_reader.specs.Ties.{Leads, Outer, acts_at, did, did_part, ended, has_answered, idle, reader_ties}

@@ -1,5 +1,5 @@
 -- What directives print on standard error.
-use Rattle.std.specs.Prelude.{ℕ, List, [], ◌∷◌, ◌++◌, Ok, codes, decimal}
+use Rattle.std.specs.Prelude.{ℕ, List, [], ◌∷◌, ◌++◌, codes, decimal}
 use Rattle.mk_blocks.specs.Acts.{wrote}
 use Rattle.mk_blocks.specs.Outcomes.{refused, ◌>>=◌}
 use Rattle.mk_bytes.specs.Bytes.{newline}
