@@ -1,7 +1,6 @@
 //! Builds with several jobs, in whatever order their children go on and end.
-ghost use Rattle.std.specs.Prelude.{◌≡◌, [], IsTrue, IfOk};
+ghost use Rattle.std.specs.Prelude.{IsTrue, IfOk};
 ghost use Rattle.mk_bytes.specs.Paths.{is_clean_directory};
-ghost use Rattle.mk_world.specs.History.{state_of, tickets_of};
 
 use crate::legal::is_legal;
 use crate::plans::{Node, plan_of};
