@@ -229,9 +229,17 @@ const HEADS_AND_TAILS: [(&str, &[u8], &[u8]); 9] = [
     ("the implied source", b"$(<D) ${<F}", b"src a.c"),
     ("the prefix, which has no slash", b"${*D} ${*F}", b". a"),
     ("the newer sources", b"${?D} ${?F}", b". /usr b.h y"),
-    ("modifiers behind them", b"${>D:O} ${>F:M*.?}", b". / src a.c b.h"),
+    (
+        "modifiers behind them",
+        b"${>D:O} ${>F:M*.?}",
+        b". / src a.c b.h",
+    ),
     ("they are defined", b"${defined(@D):?y:n}${@F:Ux}", b"ya.o"),
-    ("the long forms have none", b"[${.TARGETD}${.ALLSRCF}]", b"[]"),
+    (
+        "the long forms have none",
+        b"[${.TARGETD}${.ALLSRCF}]",
+        b"[]",
+    ),
     ("nor is there another letter", b"[${@E}${@d}${D@}]", b"[]"),
 ];
 
