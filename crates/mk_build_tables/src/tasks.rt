@@ -1,7 +1,9 @@
 //! Tasks of a node: the text of each line, and how it is carried out.
 use crate::plans::{Node, node_of, ordered};
 use crate::scene::{flags, made, texts, world};
-use mk_bytes::{Items, NoMemory, Text};
+use mk_bytes::{Items, NoMemory, Text, Texts};
+use mk_expand::Facts;
+use mk_flags::Flags;
 use mk_graph::Made;
 use mk_memworld::MemWorld;
 use mk_plan::{MadeFacts, Plan, task};
@@ -66,6 +68,23 @@ fn are_lines(lines: &[TaskLine]) -> bool {
     wanted
 }
 
+fn are_told<F: Facts>(
+    alloc: Global,
+    plan: &Plan,
+    made: &Made,
+    newer: &Texts,
+    flags: &Flags,
+    facts: &mut F,
+) -> bool {
+    if plan.len() < 2 {
+        return false;
+    }
+    match task(alloc, plan, made, 1, newer, flags, facts) {
+        Ok(task) => are_lines(task.lines.as_slice()),
+        Err(_) => false,
+    }
+}
+
 fn has_lines(
     alloc: Global,
     world: &mut MemWorld,
@@ -74,15 +93,9 @@ fn has_lines(
 ) -> Result<bool, NoMemory> {
     let newer = texts(alloc, &["a"])?;
     let flags = flags(alloc, 1, false)?;
-    if plan.len() < 2 {
-        return Ok(false);
-    }
     let mut asked = Vec::new(alloc);
     let mut facts = MadeFacts::new(made, &flags.requested, world, &mut asked);
-    match task(alloc, plan, made, 1, &newer, &flags, &mut facts) {
-        Ok(task) => Ok(are_lines(task.lines.as_slice())),
-        Err(_) => Ok(false),
-    }
+    Ok(are_told(alloc, plan, made, &newer, &flags, &mut facts))
 }
 
 #[test]

@@ -160,10 +160,12 @@ fn locals_of(
 
 /// The task of a node of a plan: its command lines, expanded with its local names, where these of
 /// its sources are newer than it. `@` before a line's text makes it silent, `-` ignored and `+`
-/// always run; the options and the attributes `.SILENT` and `.IGNORE` make all lines so. A line whose raw text has a reference with the plain name `.OODATE` or `?` anywhere
-/// in it is not compared with that of another build. A fault has the number of its line, the first
-/// such, counted from 1; it is `Failed` only where the count of the facts rose in this call or is
-/// at its end.
+/// always run; the options and the attributes `.SILENT` and `.IGNORE` make all lines so. A line whose
+/// raw text has a reference with the plain name `.OODATE` or `?` anywhere in it is not compared with
+/// that of another build.
+///
+/// A fault has the number of its line, the first such, counted from 1; it is `Failed` only where the
+/// count of the facts rose in this call or is at its end.
 pub fn task<F: Facts>(
     alloc: Global,
     plan: &Plan,

@@ -258,7 +258,9 @@ impl Rules {
 
     /// Adds what a dependency line says: nodes for its names, with their sources, attributes and
     /// orders, or what its special target does. The commands behind it go to the targets that have none
-    /// yet, each once; behind a special target that is no node they are passed over. `Operators` comes exactly where a target stood with the other operator before, and else
+    /// yet, each once; behind a special target that is no node they are passed over.
+    ///
+    /// `Operators` comes exactly where a target stood with the other operator before, and else
     /// `TooManyNames` exactly where a name would be one node more than 1,048,576. After a refusal the
     /// rules are given up.
     pub fn add_line(&mut self, line: &DepLine) -> Result<(), RuleFault>
