@@ -316,7 +316,12 @@ fn scopes(rt: &impl Abort, alloc: Global) -> Result<Scopes, NoMemory> {
     Scopes::new(alloc, &Env { vars, cwd }, false)
 }
 
-pub fn made(rt: &impl Abort, alloc: Global, graph: Graph, main: &[&[u8]]) -> Result<Made, NoMemory> {
+pub fn made(
+    rt: &impl Abort,
+    alloc: Global,
+    graph: Graph,
+    main: &[&[u8]],
+) -> Result<Made, NoMemory> {
     let suffixes = texts(alloc, &[b".o", b".c", b".y"])?;
     let main = texts(alloc, main)?;
     let mode = mode(alloc)?;
