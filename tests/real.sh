@@ -142,6 +142,24 @@ row shows='targets in the order of their sources, between what stands around a b
     makefile=$'all: a b\na b: c\na b c:\n\t@echo ${.TARGET}\n.BEGIN:\n\t@echo begin\n.END:\n\t@echo end\n' \
     out=$'begin\nc\na\nb\nend\n'
 
+row shows='a macro and what takes it' \
+    makefile=$'u: .USE\n\techo u\nt: u\n\techo t\n.PHONY: t\n' run='"$program" t' \
+    out=$'echo t\nt\necho u\nu\n'
+
+row shows='a target that no line names' \
+    makefile=$'.DEFAULT:\n\techo 1 > ${.TARGET}\n' run='"$program" q' \
+    out=$'echo 1 > q\n' after='holds q "1
+"'
+
+names=$'a: ${:U:range=500000}\nb: ${:U:range=500000:S/^/x/}\n'
+
+row shows='1048576 names on three lines' \
+    makefile="$names"$'c: ${:U:range=48573:S/^/y/}\n' run='"$program" -V X' out=$'\n'
+
+row shows='one name more' \
+    makefile="$names"$'c: ${:U:range=48574:S/^/y/}\n' run='"$program" -V X' \
+    status=2 err=$'bmake: limit of names 1048576\n'
+
 row shows='two jobs at once, each of which waits for the other' \
     makefile=$'all: x y\nx:\n\t@touch a; until [ -e b ]; do sleep 0.05; done\ny:\n\t@touch b; until [ -e a ]; do sleep 0.05; done\n' \
     run='timeout 60 "$program" -j 2'
