@@ -33,6 +33,21 @@ child_in-stepped ticket deed [] child is = cc
 child_in-stepped ticket deed (first ∷ others) child is =
     grind (arith, nat_tests, common_steps, child_in-stepped ticket deed others child)
 
+-- a step of one child leaves the others
+pub child_in-other : (ticket other : ℕ) (deed : Deed) (children : List Child)
+    → (ticket == other) ≡ false
+    → child_in (stepped ticket deed children) other ≡ child_in children other
+child_in-other ticket other deed [] differ = refl
+child_in-other ticket other deed (first ∷ others) differ =
+    grind (arith, nat_tests, common_steps, child_in-other ticket other deed others)
+
+-- a child that is taken out after a step
+pub without_child-stepped : (ticket : ℕ) (deed : Deed) (children : List Child)
+    → without_child ticket (stepped ticket deed children) ≡ without_child ticket children
+without_child-stepped ticket deed [] = refl
+without_child-stepped ticket deed (first ∷ others) =
+    grind (arith, nat_tests, common_steps, without_child-stepped ticket deed others)
+
 -- a step changes no ticket
 pub tickets_of-stepped : (ticket : ℕ) (deed : Deed) (children : List Child)
     → tickets_of (stepped ticket deed children) ≡ tickets_of children

@@ -1,11 +1,11 @@
 -- The state at the end of a history, after one event more.
-use Rattle.std.proofs.Common.{◌≡◌, ◌+◌, ◌≤◌, [], ◌∷◌, ◌++◌, vec_len, vec_capacity, sym, ◌∙◌, ap}
-use Rattle.mk_world.specs.History.{State, after, children_after, effected_all, effects}
+use Rattle.std.proofs.Common.{◌≡◌, ◌+◌, ◌≤◌, List, [], ◌∷◌, ◌++◌, vec_len, vec_capacity, sym, ◌∙◌, ap}
+use Rattle.mk_world.specs.History.{State, after, after_all, children_after, effected_all, effects}
 use Rattle.mk_world.specs.History.{first_state, last_time, state_of}
 use Rattle.mk_world.specs.declared.history.Happening.{Happening}
 use Rattle.mk_world.specs.declared.history.History.{History}
 use Rattle.mk_world.proofs.CallLemmas.{after_all-append}
-use Rattle.mk_memworld.specs.Chronicle.{IsPresent, told, with_event}
+use Rattle.mk_memworld.specs.Chronicle.{IsPresent, told, with_event, with_events}
 use Rattle.mk_memworld.specs.Files.{files_in}
 use Rattle.mk_memworld.specs.declared.chronicle.Chronicle.TheInside.{Inside}
 
@@ -13,6 +13,24 @@ pub state_of-with_event : (old new : History) (event : Happening) → new ≡ wi
     → state_of new ≡ after (state_of old) event
 state_of-with_event old new event is =
     ap state_of is ∙ after_all-append (first_state old.base) old.events (event ∷ [])
+
+-- what is kept stays the present state, where it changes as these events say
+pub IsPresent-events : (t u : Inside) (events : List Happening) → IsPresent t → u.base ≡ t.base
+    → u.events.items ≡ t.events.items ++ events
+    → files_in u.files ≡ (after_all (state_of (told t)) events).files
+    → u.clock ≡ (after_all (state_of (told t)) events).clock
+    → u.children.items ≡ (after_all (state_of (told t)) events).children
+    → vec_len u.events + vec_len u.children ≤ vec_capacity u.events → IsPresent u
+IsPresent-events t u events present base longer files clock children room =
+    let same : told u ≡ with_events (told t) events =
+    λ i. record { base = base i; events = longer i } in
+    let now : state_of (told u) ≡ after_all (state_of (told t)) events =
+    ap state_of same ∙ after_all-append (first_state t.base) t.events.items events in record {
+      files = files ∙ ap (λ (s : State). s.files) (sym now);
+      clock = clock ∙ ap (λ (s : State). s.clock) (sym now);
+      children = children ∙ ap (λ (s : State). s.children) (sym now);
+      room = room;
+    }
 
 told_more : (t u : Inside) (event : Happening) → u.base ≡ t.base
     → u.events.items ≡ t.events.items ++ event ∷ [] → told u ≡ with_event (told t) event

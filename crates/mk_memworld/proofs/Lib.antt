@@ -1,6 +1,8 @@
 pub mod AskLemmas
 pub mod ChildLemmas
 pub mod ChronicleLemmas
+pub mod EndingLemmas
+pub mod EnterLemmas
 pub mod FileLemmas
 mod JoinLemmas
 mod LineLemmas

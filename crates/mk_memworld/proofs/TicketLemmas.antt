@@ -1,5 +1,5 @@
 -- Lists of tickets.
-use Rattle.std.proofs.Common.{◌≡◌, ℕ, zero, suc, add-one, ◌+◌, ◌-◌, ◌<◌, ◌==◌, Bool, true, false, List, [], ◌∷◌, Some, None, nat_eq, length, take, drop, position, slice_get, slice_index, refl, sym, ◌∙◌, ap, arith, eq-eqb}
+use Rattle.std.proofs.Common.{◌≡◌, ℕ, zero, suc, add-one, ◌+◌, ◌-◌, ◌<◌, ◌==◌, Bool, true, false, List, [], ◌∷◌, Some, None, nat_eq, length, take, drop, position, slice_get, refl, sym, ◌∙◌, ap, arith, eq-eqb}
 use Rattle.std.proofs.lemmas.Bool.Decides.{nat_tests}
 use Rattle.std.proofs.lemmas.Grind.{common_steps}
 use Rattle.std.specs.List.{list_any, position_or_len, remove}

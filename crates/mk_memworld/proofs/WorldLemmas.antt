@@ -1,23 +1,23 @@
 -- What the calls of the world add to its history.
-use Rattle.std.proofs.Common.{◌≡◌, ℕ, zero, suc, ◌+◌, ◌<◌, ◌≤◌, ◌∷◌, ◌++◌, ◌⊎◌, List, [], None, Option, Some, IsSome, IsSomeAnd, slice_get, Result, Ok, Err, OnErr, false, length, map, inl, inr, refl, sym, ◌∙◌, ap, subst, arith, append_assoc}
+use Rattle.std.proofs.Common.{◌≡◌, ℕ, zero, suc, ◌<◌, ◌∷◌, ◌++◌, ◌⊎◌, List, [], None, Some, IsSome, slice_get, Result, Ok, Err, OnErr, false, length, inl, inr, refl, sym, ◌∙◌, ap, subst, arith, append_assoc}
 use Rattle.std.proofs.lemmas.Bool.Decides.{nat_tests}
 use Rattle.std.proofs.lemmas.Grind.{common_steps}
 use Rattle.std.proofs.lemmas.List.{append-nil, map-append}
 use Rattle.std.specs.List.{list_any, remove}
 use Rattle.std.specs.Prelude.{nat_eq}
 use Rattle.mk_world.specs.Calls.{AddsEvents, OwnNothing, OwnLeft, TakenOut, left_all}
-use Rattle.mk_world.specs.History.{State, May, MayAll, MayLeave, after, child_in, contents, state_of, tickets_of}
-use Rattle.mk_world.specs.Talks.{Doing, answer}
+use Rattle.mk_world.specs.History.{State, May, MayAll, MayLeave, after, child_in, state_of, tickets_of}
+use Rattle.mk_world.specs.declared.fault.WorldFault.{WorldFault}
+use Rattle.mk_world.specs.declared.fault.WorldFault.TheVariants.{Failed, NoMemory}
 use Rattle.mk_world.specs.declared.history.Child.{Child}
 use Rattle.mk_world.specs.declared.history.Happening.{Happening}
 use Rattle.mk_world.specs.declared.history.Happening.TheVariants.{Left}
 use Rattle.mk_world.specs.declared.history.History.{History}
 use Rattle.mk_world.proofs.CallLemmas.{adds_nothing, adds_own, no_tickets}
-use Rattle.mk_world.proofs.TalkLemmas.{doings_equal}
 use Rattle.mk_memworld.specs.Chronicle.{with_event}
-use Rattle.mk_memworld.specs.Clock.{last_number, numbers}
 use Rattle.mk_memworld.specs.Meaning.{language}
-use Rattle.mk_memworld.specs.Running.{AddsSteps, GivesUp, IsRest, IsRestOf, IsShort, OfOldest}
+use Rattle.mk_memworld.specs.Outages.{FailsWhere, OnFailed}
+use Rattle.mk_memworld.specs.Running.{AddsSteps, GivesUp, OfOldest}
 use Rattle.mk_memworld.proofs.ChildLemmas.{child_in-first, without_child-first}
 use Rattle.mk_memworld.proofs.ChronicleLemmas.{state_of-with_event}
 use Rattle.mk_memworld.proofs.RunningLemmas.{AddsSteps-then, refused_behind}
@@ -93,23 +93,6 @@ held_by ticket zero (child ∷ others) at = grind (arith, nat_tests, common_step
 held_by ticket (suc place) (child ∷ others) at =
     grind (arith, nat_tests, common_steps, held_by ticket place others)
 
--- a doing of a child for which the clock has enough numbers is its only one
-enough_as : (state : State) (rest other : Doing) (child : Option Child)
-    → IsSomeAnd child (IsRestOf state rest) → IsSomeAnd child (IsRestOf state other)
-    → rest ≡ other
-enough_as state rest other None is also = absurd is
-enough_as state rest other (Some child) is also =
-    doings_equal language.next child.cmd (map answer child.deeds) (contents state.files) rest
-    other is also
-
-pub not_short : (state : State) (ticket : ℕ) (rest : Doing) → IsRest state ticket rest
-    → state.clock + numbers rest.deeds ≤ last_number → IsShort state ticket → ⊥
-not_short state ticket rest is enough short =
-    let same = enough_as state rest short.rest (child_in state.children ticket) is short.is_rest in
-    let few = ap (λ (d : Doing). numbers d.deeds) same in
-    let more = short.short in
-    absurd (omega arith)
-
 pub neither : {A B : Type 0} → (A → ⊥) → (B → ⊥) → A ⊎ B → ⊥
 neither first second (inl is) = first is
 neither first second (inr is) = second is
@@ -176,3 +159,25 @@ adds_left old new base events none =
     (sym (append-nil new.events)
     ∙ ap (λ cs. new.events ++ left_all cs) (sym gone) ∙ events)
     (may_leave_all (state_of old) (state_of old).children refl) refl
+
+-- a fault that is passed on has a cause that follows from its own
+pub FailsWhere-passed : {T U : Type 0} (Cause Then : Type 0) (first : Result T WorldFault)
+    (second : Result U WorldFault) (fault : WorldFault) → first ≡ Err fault → second ≡ Err fault
+    → FailsWhere Cause first → (Cause → Then) → FailsWhere Then second
+FailsWhere-passed Cause Then first second Failed is too cause follows =
+    subst (FailsWhere Then) (sym too) (follows (subst (FailsWhere Cause) is cause))
+FailsWhere-passed Cause Then first second NoMemory is too cause follows =
+    subst (FailsWhere Then) (sym too) tt
+
+pub OnFailed-passed : {T U : Type 0} (Fact Then : Type 0) (first : Result T WorldFault)
+    (second : Result U WorldFault) (fault : WorldFault) → first ≡ Err fault → second ≡ Err fault
+    → OnFailed first Fact → (Fact → Then) → OnFailed second Then
+OnFailed-passed Fact Then first second Failed is too fact follows =
+    subst (λ r. OnFailed r Then) (sym too) (follows (subst (λ r. OnFailed r Fact) is fact))
+OnFailed-passed Fact Then first second NoMemory is too fact follows =
+    subst (λ r. OnFailed r Then) (sym too) tt
+
+-- either of two facts follows from either of two others
+pub either : {A B C D : Type 0} → (A → C) → (B → D) → A ⊎ B → C ⊎ D
+either first second (inl is) = inl (first is)
+either first second (inr is) = inr (second is)

@@ -1,5 +1,5 @@
 -- A history, and the present state that is kept beside it.
-use Rattle.std.specs.Prelude.{◌≡◌, ◌+◌, ◌≤◌, [], ◌∷◌, ◌++◌, vec_len, vec_capacity}
+use Rattle.std.specs.Prelude.{◌≡◌, ◌+◌, ◌≤◌, List, [], ◌∷◌, ◌++◌, vec_len, vec_capacity}
 use Rattle.mk_world.specs.History.{state_of}
 use Rattle.mk_world.specs.declared.history.Happening.{Happening}
 use Rattle.mk_world.specs.declared.history.History.{History}
@@ -13,6 +13,11 @@ told t = record { base = t.base; events = t.events.items }
 abbrev pub with_event : History → Happening → History
 with_event history event =
     record { base = history.base; events = history.events ++ event ∷ [] }
+
+-- several events more
+abbrev pub with_events : History → List Happening → History
+with_events history events =
+    record { base = history.base; events = history.events ++ events }
 
 -- What is kept is the state at the end of the history.
 pub record IsPresent (t : Inside) : Type 0 where

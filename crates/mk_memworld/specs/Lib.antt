@@ -5,7 +5,9 @@ pub mod Chronicle
 pub mod Clock
 pub mod CommandEnds
 pub mod Commands
+pub mod Endings
 pub mod Files
+pub mod Going
 pub mod Language
 pub mod LineEnds
 pub mod Meaning
@@ -14,6 +16,7 @@ pub mod Schedule
 pub mod Outages
 pub mod Rest
 pub mod Seen
+pub mod Steps
 pub mod TalkEnds
 pub mod ToldChildren
 pub mod Turned

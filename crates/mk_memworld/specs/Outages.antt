@@ -83,8 +83,14 @@ FailsWhere Cause (Ok answer) = Cause → ⊥
 FailsWhere Cause (Err Failed) = Cause
 FailsWhere Cause (Err NoMemory) = Unit {0}
 
--- nothing happened where the answer is `Failed`
+-- this holds where the answer is `Failed`
 abbrev pub OnFailed : {T : Type 0} → Result T WorldFault → Type 0 → Type 0
 OnFailed (Ok answer) Fact = Unit {0}
 OnFailed (Err Failed) Fact = Fact
 OnFailed (Err NoMemory) Fact = Unit {0}
+
+-- this holds where memory ran out
+abbrev pub OnNoMemory : {T : Type 0} → Result T WorldFault → Type 0 → Type 0
+OnNoMemory (Ok answer) Fact = Unit {0}
+OnNoMemory (Err Failed) Fact = Unit {0}
+OnNoMemory (Err NoMemory) Fact = Fact

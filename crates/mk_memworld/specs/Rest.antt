@@ -1,12 +1,8 @@
 -- What a command does from some moment to its end, as contracts see it.
-use Rattle.std.specs.Prelude.{◌+◌, ◌<◌, map, Some}
+use Rattle.std.specs.Prelude.{map, Some}
 use Rattle.mk_world.specs.Calls.{op_of}
-use Rattle.mk_world.specs.History.{State, contents}
-use Rattle.mk_world.specs.Talks.{Doing, does}
-use Rattle.mk_world.specs.declared.command.Cmd.{Cmd}
+use Rattle.mk_world.specs.Talks.{Doing}
 use Rattle.mk_world.specs.declared.step.Ended.{Ended}
-use Rattle.mk_memworld.specs.Clock.{last_number, numbers}
-use Rattle.mk_memworld.specs.Meaning.{language}
 use Rattle.mk_memworld.specs.declared.rest.Rest.{Rest}
 
 abbrev pub doing_of : Rest → Doing
@@ -20,8 +16,3 @@ answer_of doing = record {
   output = doing.output;
   records = Some (map op_of doing.deeds);
 }
-
--- fewer numbers of the clock are left than the changes of a command that is asked take
-abbrev pub IsTooShort : Cmd → State → Type 0
-IsTooShort cmd state =
-    last_number < state.clock + numbers (does language cmd (contents state.files)).deeds

@@ -1,19 +1,18 @@
 -- What a running child still has to do, its steps and its end.
-use Rattle.std.specs.Prelude.{◌≡◌, ℕ, ◌+◌, ◌<◌, List, [], ◌∷◌, ◌++◌, Some, map}
-use Rattle.mk_world.specs.Calls.{AreSteps, EndsAs, op_of}
+use Rattle.std.specs.Prelude.{◌≡◌, ℕ, List, [], ◌∷◌, ◌++◌, Some, map}
+use Rattle.mk_world.specs.Calls.{AreSteps}
 use Rattle.mk_world.specs.History.{State, MayAll, contents, state_of}
 use Rattle.mk_world.specs.Talks.{Doing, IsDoing, answer}
 use Rattle.mk_world.specs.declared.history.Child.{Child}
 use Rattle.mk_world.specs.declared.history.Happening.{Happening}
-use Rattle.mk_world.specs.declared.history.Happening.TheVariants.{Step, End, Left}
+use Rattle.mk_world.specs.declared.history.Happening.TheVariants.{Step, Left}
 use Rattle.mk_world.specs.declared.history.History.{History}
 use Rattle.mk_world.specs.declared.step.Deed.{Deed}
 use Rattle.mk_world.specs.declared.step.Ended.{Ended}
-use Rattle.mk_world.specs.declared.step.Next.TheVariants.{Over}
 use Rattle.mk_world.specs.declared.step.Op.{Op}
 use Rattle.mk_memworld.specs.Children.{OfChild}
 use Rattle.mk_memworld.specs.Chronicle.{with_event}
-use Rattle.mk_memworld.specs.Clock.{last_number, numbers, time_of}
+use Rattle.mk_memworld.specs.Clock.{time_of}
 use Rattle.mk_memworld.specs.Meaning.{language}
 
 -- what a child does from here to its end, on the files as they stand
@@ -23,12 +22,6 @@ IsRestOf state rest child =
 
 abbrev pub IsRest : State → ℕ → Doing → Type 0
 IsRest state ticket rest = OfChild ticket state.children (IsRestOf state rest)
-
--- fewer numbers of the clock are left than a child's remaining changes take
-pub record IsShort (state : State) (ticket : ℕ) : Type 0 where
-  pub rest : Doing
-  pub is_rest : IsRest state ticket rest
-  pub short : last_number < state.clock + numbers rest.deeds
 
 -- a child did one step
 abbrev pub DidStep : History → ℕ → Deed → History → Type 0
@@ -44,14 +37,6 @@ pub record AddsSteps (old new : History) : Type 0 where
   pub steps : AreSteps events
   pub lawful : MayAll language (state_of old) events
 
--- a child is at its end
-abbrev pub IsAtEnd : ℕ → List ℕ → Child → Type 0
-IsAtEnd status output child =
-    language.next child.cmd (map answer child.deeds) ≡ Over status output
-
-abbrev pub AreRecordsOf : List Op → Child → Type 0
-AreRecordsOf records child = records ≡ map op_of child.deeds
-
 -- what is told of a child that was taken in
 abbrev pub ended_of : ℕ → ℕ → List ℕ → List Op → Ended
 ended_of ticket status output records = record {
@@ -60,13 +45,6 @@ ended_of ticket status output records = record {
   output = output;
   records = Some records;
 }
-
--- a child was taken in
-pub record TakesIn (old : History) (ticket : ℕ) (ended : Ended) (new : History) (child : Child)
-    : Type 0 where
-  pub event : new ≡ with_event old (End ticket child.owner)
-  pub named : ended.ticket.0 ≡ ticket
-  pub ends : EndsAs language ended child
 
 -- a fact on the oldest of the running children, which there is
 abbrev pub OfOldest : List Child → (Child → Type 0) → Type 0

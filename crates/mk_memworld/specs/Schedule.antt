@@ -6,7 +6,7 @@
 -- start, does its next step. A child comes to its end with its last step, and one that has none at
 -- its first turn. `wait_any` takes a second number, and with it one of the children that have come
 -- to their end; where none has, it takes the oldest child, which does all its remaining steps.
-use Rattle.std.specs.Prelude.{ℕ, zero, suc, ◌+◌, ◌<◌, ◌%◌, not, List, [], ◌∷◌, ◌++◌, length, map, drop, Option, Some, None, nat_eq, slice_get, if◌then◌else◌}
+use Rattle.std.specs.Prelude.{ℕ, zero, suc, ◌%◌, not, Bool, true, false, List, [], ◌∷◌, ◌++◌, length, map, drop, Option, Some, None, nat_eq, slice_get, if◌then◌else◌}
 use Rattle.std.specs.List.{filter, list_any}
 use Rattle.mk_world.specs.Deeds.{Store}
 use Rattle.mk_world.specs.History.{State, child_in, contents, state_of, tickets_of}
@@ -19,7 +19,7 @@ use Rattle.mk_world.specs.declared.step.Next.{Next}
 use Rattle.mk_world.specs.declared.step.Next.TheVariants.{More, Over}
 use Rattle.mk_memworld.specs.Children.{without_first}
 use Rattle.mk_memworld.specs.Chronicle.{with_event}
-use Rattle.mk_memworld.specs.Clock.{last_number, numbers_of, time_of}
+use Rattle.mk_memworld.specs.Clock.{time_of}
 use Rattle.mk_memworld.specs.Language.{language_next}
 
 -- what is left of a schedule, and the tickets of the running children that have come to their end,
@@ -55,6 +55,11 @@ abbrev pub deed_at_next : Store → Next → Option Deed
 deed_at_next store (More request) = Some (deed_on request store)
 deed_at_next store (Over status output) = None
 
+-- whether this is the end
+abbrev pub ends_at : Next → Bool
+ends_at (More request) = false
+ends_at (Over status output) = true
+
 -- the next step of a child on the files as they stand; at its end it has none
 abbrev pub next_deed : State → Child → Option Deed
 next_deed state child =
@@ -68,15 +73,10 @@ deed_of state (Some child) = next_deed state child
 abbrev pub deed_by : State → ℕ → Option Deed
 deed_by state ticket = deed_of state (child_in state.children ticket)
 
--- the clock has no number left for a step
-abbrev pub HasNoNumber : State → Option Deed → Type 0
-HasNoNumber state None = ⊥
-HasNoNumber state (Some deed) = last_number < state.clock + numbers_of deed
-
--- the clock has no number left for the step of the child that the next number names
-abbrev pub IsTurnShort : State → Option ℕ → Type 0
-IsTurnShort state None = ⊥
-IsTurnShort state (Some ticket) = HasNoNumber state (deed_by state ticket)
+-- the next step of the child that is named, where one is
+abbrev pub deed_for : State → Option ℕ → Option Deed
+deed_for state None = None
+deed_for state (Some ticket) = deed_by state ticket
 
 -- the history after a step of a child, where there is one
 abbrev pub stepped_on : History → ℕ → Option Child → Option Deed → History
@@ -93,14 +93,19 @@ gone_on history (Some ticket) =
     stepped_on history ticket (child_in state.children ticket) (deed_by state ticket)
 
 -- a child that has no step left has come to its end
-abbrev pub noted : List ℕ → ℕ → Option Deed → List ℕ
-noted ended ticket None = ended ++ ticket ∷ []
-noted ended ticket (Some deed) = ended
+abbrev pub at_end : ℕ → Option Deed → Option ℕ
+at_end ticket None = Some ticket
+at_end ticket (Some deed) = None
 
--- those that have come to their end after the turn of this child, by how things stand then
-abbrev pub ended_after : State → List ℕ → Option ℕ → List ℕ
-ended_after state ended None = ended
-ended_after state ended (Some ticket) = noted ended ticket (deed_by state ticket)
+-- the child that went on, where it has come to its end, by how things stand then
+abbrev pub newly_ended : State → Option ℕ → Option ℕ
+newly_ended state None = None
+newly_ended state (Some ticket) = at_end ticket (deed_by state ticket)
+
+-- those that have come to their end, with this one behind them, where there is one
+abbrev pub with_ended : List ℕ → Option ℕ → List ℕ
+with_ended ended None = ended
+with_ended ended (Some ticket) = ended ++ ticket ∷ []
 
 -- The history after the turn of the child that the next number names, if it names one.
 abbrev pub after_turn : History → Course → History
@@ -110,8 +115,8 @@ after_turn history course = gone_on history (next_child (state_of history) cours
 abbrev pub course_after : History → Course → Course
 course_after history course = record {
   numbers = drop 1 course.numbers;
-  ended = ended_after (state_of (after_turn history course)) course.ended
-      (next_child (state_of history) course);
+  ended = with_ended course.ended
+      (newly_ended (state_of (after_turn history course)) (next_child (state_of history) course));
 }
 
 -- the one that a number chooses of those that have come to their end, counted from 0 and round

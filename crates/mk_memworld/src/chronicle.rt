@@ -1,24 +1,25 @@
 //! A history, with the present state beside it.
-ghost use Rattle.std.specs.Prelude.{◌≡◌, ◌↔◌, ◌+◌, ◌^◌, ◌<◌, ◌≤◌, ◌==◌, [], ◌∷◌, Some, length, position, vec_len, IsSome, IsTrue, IfOk, OnOk, OnErr};
+ghost use Rattle.std.specs.Prelude.{◌≡◌, ◌↔◌, ◌+◌, ◌^◌, ◌<◌, ◌≤◌, ◌==◌, [], ◌∷◌, ◌++◌, Some, length, position, vec_len, IsSome, IsTrue, IfOk, OnOk, OnErr};
 ghost use Rattle.std.specs.Option.{option_copied};
-ghost use Rattle.mk_world.specs.Calls.{AddsEvents, OwnEnd};
 ghost use Rattle.mk_world.specs.Deeds.{changes};
 ghost use Rattle.mk_world.specs.History.{at_time, child_in, effected_all, files_of, state_of, stepped, tickets_of, without_child};
 ghost use Rattle.mk_world.specs.Talks.{does};
 ghost use Rattle.mk_world.specs.declared.history.Happening.TheVariants.{Ask, Edit, End, Gone, Look, Start};
-ghost use Rattle.mk_memworld.specs.Children.{OfChild, without_first};
 ghost use Rattle.mk_memworld.specs.Clock.{last_number, numbers, numbers_of, timed};
+ghost use Rattle.mk_memworld.specs.Endings.{ended_by, steps_of, told_by};
 ghost use Rattle.mk_memworld.specs.Files.{as_filed, files_in};
+ghost use Rattle.mk_memworld.specs.Going.{IsTurn};
 ghost use Rattle.mk_memworld.specs.Meaning.{language};
 ghost use Rattle.mk_memworld.specs.Rest.{answer_of, doing_of};
-ghost use Rattle.mk_memworld.specs.Schedule.{deed_by, going, named};
+ghost use Rattle.mk_memworld.specs.Schedule.{deed_by, going, gone_on, named, newly_ended};
 
-use crate::clock::{self, all_taken, numbers_taken};
+use crate::clock::{self, all_taken, numbers_taken, taken_by_step};
 use crate::copy::{copy_cmd, copy_deed};
 use crate::files::{Files, Stored};
-use crate::rest::{Rest, deed_after, records_of, rest_of};
+use crate::going::Going;
+use crate::rest::{Rest, answers_with, deed_after, is_over, records_of, rest_of};
 use mk_bytes::{Items, NoMemory, Text};
-use mk_world::{Bases, Child, Cmd, Deed, Ended, Happening, Ops, Ticket};
+use mk_world::{Bases, Child, Cmd, Deed, Ended, Happening, Ticket, Timed};
 use std::alloc::Global;
 use std::marker::Model;
 
@@ -47,7 +48,7 @@ impl Model for Chronicle {
 
 impl Chronicle {
     ghost use Rattle.mk_memworld.specs.Chronicle.{with_event};
-    ghost use Rattle.mk_memworld.specs.Running.{AddsSteps, AreRecordsOf, DidStep, GivesUp, IsAtEnd, IsRest, OfOldest, ended_of};
+    ghost use Rattle.mk_memworld.specs.Running.{DidStep, GivesUp, IsRest, OfOldest};
 
     /// These files, with nothing done to them yet.
     pub fn new(alloc: Global, base: Bases) -> Result<Chronicle, NoMemory>
@@ -156,12 +157,14 @@ impl Chronicle {
         Ok(())
     }
 
-    /// What a command does on the files as they stand, from its beginning to its end.
-    pub fn doing(&self, cmd: &Cmd) -> Result<Rest, NoMemory>
-        ensures { IfOk result
-            (λ rest. doing_of rest ≡ does language cmd.now (files_of self.now)) }
+    /// What a command does from its beginning to its end, on the files as they stand after the turn.
+    pub fn doing(&self, going: &Going, cmd: &Cmd) -> Result<Rest, NoMemory>
+        requires { IsTurn self.now going.now }
+        ensures { IfOk result (λ rest. doing_of rest
+            ≡ does language cmd.now (files_of (gone_on self.now going.now.ticket))) }
     {
-        rest_of(self.alloc, &self.files, cmd, &[])
+        let seen = Items::new(self.alloc, 0)?;
+        rest_of(self.alloc, &self.files, going.deed.as_ref(), cmd, seen)
     }
 
     /// Make runs a command to its end, with nothing between its steps. After a refusal nothing has
@@ -178,7 +181,7 @@ impl Chronicle {
             status,
             output,
         } = rest;
-        let records = records_of(self.alloc, deeds.as_slice())?;
+        let records = records_of(self.alloc, deeds.as_slice(), &[])?;
         let steps = clock::timed(self.alloc, self.clock, deeds.as_slice())?;
         let cmd = copy_cmd(self.alloc, cmd)?;
         self.events.reserve(self.children.len() + 1)?;
@@ -222,9 +225,9 @@ impl Chronicle {
         nth_going(&self.children, ended, number)
     }
 
-    /// The next step of a child on the files as they stand; `None` where it is at its end, and
-    /// where there is no such child.
-    pub fn deed(&self, ticket: u32) -> Result<Option<Deed>, NoMemory>
+    // The next step of a child on the files as they stand; `None` where it is at its end, and where
+    // there is no such child.
+    fn deed(&self, ticket: u32) -> Result<Option<Deed>, NoMemory>
         ensures { IfOk result (λ deed. deed ≡ deed_by (state_of self.now) ticket) }
     {
         match find(&self.children, ticket) {
@@ -235,33 +238,70 @@ impl Chronicle {
         }
     }
 
-    /// Whether the clock has a number for a step.
-    pub fn has_number(&self, deed: &Deed) -> bool
-        ensures { IsTrue result
-            ↔ ((state_of self.now).clock + numbers_of deed.now ≤ last_number) }
+    // The child with a ticket, where it has come to its end when its next step is done, if it has
+    // one; so it has where there is no such child.
+    fn ended(&self, ticket: u32, deed: Option<&Deed>) -> Result<Option<u32>, NoMemory>
+        requires { option_copied deed ≡ deed_by (state_of self.now) ticket }
+        ensures { IfOk result (λ ended. ended
+            ≡ newly_ended (state_of (gone_on self.now (Some ticket))) (Some ticket)) }
     {
-        numbers_taken(deed) <= u64::MAX - self.clock
+        let Some(child) = find(&self.children, ticket) else {
+            return Ok(Some(ticket));
+        };
+        let answers = answers_with(self.alloc, child.deeds.as_slice(), deed)?;
+        if is_over(self.alloc, &child.cmd, answers)? {
+            return Ok(Some(ticket));
+        }
+        Ok(None)
     }
 
-    /// What a child does from here to its end.
-    pub fn rest(&self, ticket: u32) -> Result<Rest, NoMemory>
-        requires { IsSome (child_in (state_of self.now).children ticket) }
-        ensures { IfOk result (λ rest. IsRest (state_of self.now) ticket (doing_of rest)) }
+    /// The turn of the child with a ticket.
+    pub fn going(&self, ticket: u32) -> Result<Going, NoMemory>
+        ensures ticket { IfOk result (λ going. going.ticket ≡ Some ticket) }
+        ensures turn { IfOk result (IsTurn self.now) }
+    {
+        let deed = self.deed(ticket)?;
+        let ended = self.ended(ticket, deed.as_ref())?;
+        Ok(Going {
+            ticket: Some(ticket),
+            deed,
+            ended,
+        })
+    }
+
+    /// Whether the clock has enough numbers for the step of the turn, and for so many changes behind
+    /// it.
+    pub fn has_numbers(&self, going: &Going, more: u64) -> bool
+        requires { IsTurn self.now going.now }
+        ensures { IsTrue result ↔ ((state_of (gone_on self.now going.now.ticket)).clock + more
+            ≤ last_number) }
+    {
+        let left = u64::MAX - self.clock;
+        let taken = taken_by_step(going.deed.as_ref());
+        taken <= left && more <= left - taken
+    }
+
+    /// What a child does from the turn on to its end.
+    pub fn rest(&self, going: &Going, ticket: u32) -> Result<Rest, NoMemory>
+        requires turn { IsTurn self.now going.now }
+        requires held { IsSome (child_in (state_of self.now).children ticket) }
+        ensures { IfOk result (λ rest. IsRest
+            (state_of (gone_on self.now going.now.ticket)) ticket (doing_of rest)) }
     {
         let child = find(&self.children, ticket).unwrap();
-        rest_of(self.alloc, &self.files, &child.cmd, child.deeds.as_slice())
+        let own = going.step_of(child.ticket);
+        let seen = answers_with(self.alloc, child.deeds.as_slice(), own)?;
+        rest_of(
+            self.alloc,
+            &self.files,
+            going.deed.as_ref(),
+            &child.cmd,
+            seen,
+        )
     }
 
-    /// Whether the clock has enough numbers for these steps.
-    pub fn has_numbers(&self, rest: &Rest) -> bool
-        ensures { IsTrue result
-            ↔ ((state_of self.now).clock + numbers rest.now.deeds ≤ last_number) }
-    {
-        all_taken(rest.deeds.as_slice()) <= u64::MAX - self.clock
-    }
-
-    /// A child does one step.
-    pub fn step(&mut self, ticket: u32, deed: &Deed) -> Result<(), NoMemory>
+    // A child does one step.
+    fn step(&mut self, ticket: u32, deed: &Deed) -> Result<(), NoMemory>
         requires held { IsSome (child_in (state_of self.old).children ticket) }
         requires numbers { (state_of self.old).clock + numbers_of deed.now ≤ last_number }
         ensures ok { OnOk result (DidStep self.old ticket deed.now self.new) }
@@ -291,67 +331,50 @@ impl Chronicle {
         Ok(())
     }
 
-    // A child does all its remaining steps.
-    fn steps(&mut self, ticket: u32, rest: &Rest) -> Result<(), NoMemory>
-        requires is_rest { IsRest (state_of self.old) ticket (doing_of rest.now) }
-        requires numbers { (state_of self.old).clock + numbers rest.now.deeds ≤ last_number }
-        ensures steps { AddsSteps self.old self.new }
-        ensures tickets { tickets_of (state_of self.new).children
-            ≡ tickets_of (state_of self.old).children }
-        ensures at_end { OnOk result (OfChild ticket (state_of self.new).children
-            (IsAtEnd rest.now.status rest.now.output)) }
+    /// The child whose turn it is goes on.
+    pub fn go_on(&mut self, going: &Going) -> Result<(), NoMemory>
+        requires turn { IsTurn self.old going.now }
+        requires numbers { (state_of (gone_on self.old going.now.ticket)).clock ≤ last_number }
+        ensures ok { OnOk result (self.new ≡ gone_on self.old going.now.ticket) }
+        ensures err { OnErr result (self.new ≡ self.old) }
     {
-        for deed in rest.deeds.as_slice() {
-            self.step(ticket, deed)?;
+        match going.ticket {
+            None => Ok(()),
+            Some(ticket) => match &going.deed {
+                None => Ok(()),
+                Some(deed) => self.step(ticket, deed),
+            },
         }
-        Ok(())
     }
 
-    // The records of what a child did.
-    fn records(&self, ticket: u32) -> Result<Ops, NoMemory>
-        requires { IsSome (child_in (state_of self.now).children ticket) }
-        ensures { IfOk result
-            (λ records. OfChild ticket (state_of self.now).children (AreRecordsOf records)) }
+    /// A child does all its remaining steps, and is taken in. After a refusal nothing has happened.
+    pub fn finish(&mut self, ticket: u32, rest: Rest) -> Result<Ended, NoMemory>
+        requires is_rest { IsRest (state_of self.old) ticket (doing_of rest) }
+        requires numbers { (state_of self.old).clock + numbers rest.deeds ≤ last_number }
+        ensures history { OnOk result (self.new ≡ ended_by self.old ticket) }
+        ensures told { IfOk result (λ ended. Some ended ≡ told_by self.old ticket) }
+        ensures same { OnErr result (self.new ≡ self.old) }
     {
+        let Rest {
+            deeds,
+            status,
+            output,
+        } = rest;
         let child = find(&self.children, ticket).unwrap();
-        records_of(self.alloc, child.deeds.as_slice())
-    }
-
-    // A child is taken in.
-    fn end(&mut self, ticket: u32, status: u8, output: Text, records: Ops) -> Ended
-        requires { IsSome (child_in (state_of self.old).children ticket) }
-        ensures event { OfChild ticket (state_of self.old).children
-            (λ child. self.new ≡ with_event self.old (End ticket child.owner)) }
-        ensures ended { result ≡ ended_of ticket status output records }
-    {
-        let Child { owner, .. } = take_child(&mut self.children, ticket);
-        self.events.push(Happening::End { ticket, owner }).unwrap();
-        Ended {
+        let records = records_of(self.alloc, child.deeds.as_slice(), deeds.as_slice())?;
+        let timed = clock::timed(self.alloc, self.clock, deeds.as_slice())?;
+        let mut events = last_events(self.alloc, child, timed.as_slice())?;
+        self.events.reserve(events.len() + self.children.len())?;
+        self.files.apply_all(timed.as_slice())?;
+        self.clock += all_taken(deeds.as_slice());
+        take_child(&mut self.children, ticket);
+        self.events.append(&mut events).unwrap();
+        Ok(Ended {
             ticket: Ticket(ticket),
             status,
             output,
             records: Some(records),
-        }
-    }
-
-    /// A child does all its remaining steps, and is taken in. After a refusal it has done some of
-    /// them.
-    pub fn finish(&mut self, ticket: u32, rest: Rest) -> Result<Ended, NoMemory>
-        requires is_rest { IsRest (state_of self.old) ticket (doing_of rest) }
-        requires numbers { (state_of self.old).clock + numbers rest.deeds ≤ last_number }
-        ensures done { IfOk result
-            (λ ended. AddsEvents language (OwnEnd language ended) self.old self.new) }
-        ensures refused { OnErr result (AddsSteps self.old self.new) }
-        ensures named { IfOk result (λ ended. ended.ticket.0 ≡ ticket) }
-        ensures taken { IfOk result (λ ended. tickets_of (state_of self.new).children
-            ≡ without_first ticket (tickets_of (state_of self.old).children)) }
-        ensures same { OnErr result (tickets_of (state_of self.new).children
-            ≡ tickets_of (state_of self.old).children) }
-    {
-        self.steps(ticket, &rest)?;
-        let records = self.records(ticket)?;
-        let Rest { status, output, .. } = rest;
-        Ok(self.end(ticket, status, output, records))
+        })
     }
 
     /// The oldest child is given up. Takes no memory.
@@ -381,6 +404,27 @@ fn place_of(children: &[Child], ticket: u32) -> Option<usize>
     ensures { result ≡ position (λ child. child.ticket == ticket) children.now }
 {
     children.iter().position(|child| child.ticket == ticket)
+}
+
+// Steps of a child at their times, and its end behind them.
+fn last_events(alloc: Global, child: &Child, steps: &[Timed]) -> Result<Vec<Happening>, NoMemory>
+    ensures { IfOk result (λ events. events.items
+        ≡ steps_of child.now steps.now ++ End child.now.ticket child.now.owner ∷ []) }
+{
+    let mut events = Vec::new(alloc);
+    for step in steps {
+        events.push(Happening::Step {
+            ticket: child.ticket,
+            owner: child.owner,
+            deed: copy_deed(alloc, &step.deed)?,
+            time: step.time,
+        })?;
+    }
+    events.push(Happening::End {
+        ticket: child.ticket,
+        owner: child.owner,
+    })?;
+    Ok(events)
 }
 
 // The first child with a ticket is taken out.

@@ -1,7 +1,9 @@
 //! The numbers of the clock that steps take.
 ghost use Rattle.std.specs.Prelude.{◌≡◌, ◌+◌, ◌^◌, ◌<◌, ◌≤◌, length, IfOk};
+ghost use Rattle.std.specs.Option.{option_copied};
 ghost use Rattle.mk_memworld.specs.Clock as spec;
 ghost use Rattle.mk_memworld.specs.Clock.{last_number, numbers, numbers_of};
+ghost use Rattle.mk_memworld.specs.Steps.{numbers_of_step};
 
 use crate::copy::copy_deed;
 use mk_bytes::{Items, NoMemory};
@@ -15,6 +17,16 @@ pub fn numbers_taken(deed: &Deed) -> u64
     match deed {
         Deed::Read { .. } | Deed::Miss { .. } => 0,
         Deed::Write { .. } | Deed::Delete { .. } | Deed::Move { .. } => 1,
+    }
+}
+
+/// How many numbers a step takes, where there is one.
+pub fn taken_by_step(deed: Option<&Deed>) -> u64
+    ensures { result ≡ numbers_of_step (option_copied deed.entry) }
+{
+    match deed {
+        None => 0,
+        Some(deed) => numbers_taken(deed),
     }
 }
 

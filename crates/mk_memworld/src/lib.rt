@@ -19,9 +19,12 @@
 //! round. Where none has come to its end, the oldest child does all its remaining steps and is taken
 //! in. So under an empty schedule children are run one after the other, in the order of start.
 //!
-//! A call that fails takes its number too, and lets the child go on; a `wait_any` that fails takes
-//! no second number, and nobody is taken in. Only where the clock has no number for the step of the
-//! child does the call fail before anybody goes on.
+//! A call that fails takes its number too. Where fewer numbers of the clock are left than the step
+//! of the child and the changes of the call behind it take, the call fails, and nobody goes on. Else
+//! a call that [`Fails`] names lets the child go on, and then fails. A `wait_any` that fails takes no
+//! second number, and nobody is taken in.
+//!
+//! Where memory runs out in a call, nothing has happened, or the child went on and nothing else.
 //!
 //! ## The commands
 //!
@@ -54,6 +57,7 @@ mod clock;
 mod command;
 mod copy;
 mod files;
+mod going;
 mod language;
 mod outage;
 mod rest;

@@ -1,15 +1,18 @@
 //! What a command does from here to its end.
-ghost use Rattle.std.specs.Prelude.{◌≡◌, map, IfOk};
+ghost use Rattle.std.specs.Prelude.{◌≡◌, ◌++◌, map, IfOk, OnOk};
 ghost use Rattle.std.specs.Option.{option_copied};
 ghost use Rattle.mk_world.specs.Calls.{op_of};
 ghost use Rattle.mk_world.specs.Deeds.{Store, after_deed, after_deeds};
 ghost use Rattle.mk_world.specs.History.{contents};
 ghost use Rattle.mk_world.specs.Talks as spec;
+ghost use Rattle.mk_memworld.specs.Clock.{numbers};
 ghost use Rattle.mk_memworld.specs.Files.{files_in};
 ghost use Rattle.mk_memworld.specs.Language.{language_next};
 ghost use Rattle.mk_memworld.specs.Rest.{doing_of};
-ghost use Rattle.mk_memworld.specs.Schedule.{deed_at_next};
+ghost use Rattle.mk_memworld.specs.Schedule.{deed_at_next, ends_at};
+ghost use Rattle.mk_memworld.specs.Steps.{after_step, with_step};
 
+use crate::clock::all_taken;
 use crate::files::Files;
 use crate::language::next;
 use mk_bytes::{Items, NoMemory, Text};
@@ -22,6 +25,15 @@ pub struct Rest {
     pub deeds: Deeds,
     pub status: u8,
     pub output: Text,
+}
+
+impl Rest {
+    /// How many numbers of the clock its steps take.
+    pub fn numbers(&self) -> u64
+        ensures { result ≡ numbers self.now.deeds }
+    {
+        all_taken(self.deeds.as_slice())
+    }
 }
 
 // What stands at a path after a step, where this stood before.
@@ -58,25 +70,50 @@ fn changed<'a>(deed: &'a Deed, path: &[u8], before: Option<&'a Text>) -> Option<
     }
 }
 
-// What stands at a path after these steps.
-fn stands<'a>(files: &'a Files, deeds: &'a [Deed], path: &[u8]) -> Option<&'a Text>
+// What stands at a path after a step, where there is one.
+fn stands_after<'a>(files: &'a Files, step: Option<&'a Deed>, path: &[u8]) -> Option<&'a Text>
     ensures { option_copied result
-        ≡ after_deeds (contents (files_in files.now)) deeds.now path.now }
+        ≡ after_step (contents (files_in files.now)) (option_copied step.entry) path.now }
 {
-    let mut found = files.bytes(path);
+    let found = files.bytes(path);
+    match step {
+        None => found,
+        Some(deed) => changed(deed, path, found),
+    }
+}
+
+// What stands at a path after a step, where there is one, and these steps behind it.
+fn stands<'a>(
+    files: &'a Files,
+    step: Option<&'a Deed>,
+    deeds: &'a [Deed],
+    path: &[u8],
+) -> Option<&'a Text>
+    ensures { option_copied result
+        ≡ after_deeds (after_step (contents (files_in files.now)) (option_copied step.entry))
+        deeds.now path.now }
+{
+    let mut found = stands_after(files, step, path);
     for deed in deeds {
         found = changed(deed, path, found);
     }
     found
 }
 
-// What a request does after these steps.
-fn deed_on(alloc: Global, files: &Files, deeds: &[Deed], request: Request) -> Result<Deed, NoMemory>
-    ensures { IfOk result (λ deed. deed
-        ≡ spec.deed_on request (after_deeds (contents (files_in files.now)) deeds.now)) }
+// What a request does after a step, where there is one, and these steps behind it.
+fn deed_on(
+    alloc: Global,
+    files: &Files,
+    step: Option<&Deed>,
+    deeds: &[Deed],
+    request: Request,
+) -> Result<Deed, NoMemory>
+    ensures { IfOk result (λ deed. deed ≡ spec.deed_on request
+        (after_deeds (after_step (contents (files_in files.now)) (option_copied step.entry))
+        deeds.now)) }
 {
     match request {
-        Request::Look { path } => match stands(files, deeds, path.bytes()) {
+        Request::Look { path } => match stands(files, step, deeds, path.bytes()) {
             None => Ok(Deed::Miss { path }),
             Some(bytes) => {
                 let bytes = bytes.copy(alloc)?;
@@ -85,7 +122,7 @@ fn deed_on(alloc: Global, files: &Files, deeds: &[Deed], request: Request) -> Re
         },
         Request::Write { path, bytes } => Ok(Deed::Write { path, bytes }),
         Request::Delete { path } => Ok(Deed::Delete { path }),
-        Request::Move { from, to } => match stands(files, deeds, from.bytes()) {
+        Request::Move { from, to } => match stands(files, step, deeds, from.bytes()) {
             None => Ok(Deed::Miss { path: from }),
             Some(bytes) => {
                 let bytes = bytes.copy(alloc)?;
@@ -119,6 +156,18 @@ fn answers_to(alloc: Global, deeds: &[Deed]) -> Result<Answers, NoMemory>
     Ok(answers)
 }
 
+/// The answers to steps, and to one more behind them, where there is one.
+pub fn answers_with(alloc: Global, deeds: &[Deed], step: Option<&Deed>) -> Result<Answers, NoMemory>
+    ensures { IfOk result (λ answers. answers
+        ≡ map spec.answer (with_step deeds.now (option_copied step.entry))) }
+{
+    let mut answers = answers_to(alloc, deeds)?;
+    if let Some(deed) = step {
+        answers.push(answer_to(alloc, deed)?)?;
+    }
+    Ok(answers)
+}
+
 /// The next step of a command that has done these steps, on the files as they stand; `None` at its
 /// end.
 pub fn deed_after(
@@ -133,17 +182,34 @@ pub fn deed_after(
     let answers = answers_to(alloc, done)?;
     match next(alloc, cmd, answers.as_slice())? {
         Next::Over { .. } => Ok(None),
-        Next::More { request } => Ok(Some(deed_on(alloc, files, &[], request)?)),
+        Next::More { request } => Ok(Some(deed_on(alloc, files, None, &[], request)?)),
     }
 }
 
-/// What a command that has done these steps does from here to its end, on files that no one else
-/// changes.
-pub fn rest_of(alloc: Global, files: &Files, cmd: &Cmd, done: &[Deed]) -> Result<Rest, NoMemory>
-    ensures { IfOk result (λ rest. spec.IsDoing language_next cmd.now
-        (map spec.answer done.now) (contents (files_in files.now)) (doing_of rest)) }
+/// Whether a command has come to its end with these answers.
+pub fn is_over(alloc: Global, cmd: &Cmd, answers: Answers) -> Result<bool, NoMemory>
+    ensures { IfOk result (λ is. is ≡ ends_at (language_next cmd.now answers)) }
 {
-    let mut answers = answers_to(alloc, done)?;
+    match next(alloc, cmd, answers.as_slice())? {
+        Next::Over { .. } => Ok(true),
+        Next::More { .. } => Ok(false),
+    }
+}
+
+/// What a command does from these answers on to its end, on the files after a step, where there is
+/// one, which no one else changes.
+pub fn rest_of(
+    alloc: Global,
+    files: &Files,
+    step: Option<&Deed>,
+    cmd: &Cmd,
+    seen: Answers,
+) -> Result<Rest, NoMemory>
+    ensures { IfOk result (λ rest. spec.IsDoing language_next cmd.now seen
+        (after_step (contents (files_in files.now)) (option_copied step.entry))
+        (doing_of rest)) }
+{
+    let mut answers = seen;
     let mut deeds = Items::new(alloc, 0)?;
     loop {
         match next(alloc, cmd, answers.as_slice())? {
@@ -155,7 +221,7 @@ pub fn rest_of(alloc: Global, files: &Files, cmd: &Cmd, done: &[Deed]) -> Result
                 });
             }
             Next::More { request } => {
-                let deed = deed_on(alloc, files, deeds.as_slice(), request)?;
+                let deed = deed_on(alloc, files, step, deeds.as_slice(), request)?;
                 answers.push(answer_to(alloc, &deed)?)?;
                 deeds.push(deed)?;
             }
@@ -176,13 +242,21 @@ fn op_for(alloc: Global, deed: &Deed) -> Result<Op, NoMemory>
     }
 }
 
-/// The records of steps.
-pub fn records_of(alloc: Global, deeds: &[Deed]) -> Result<Ops, NoMemory>
-    ensures { IfOk result (λ records. records ≡ map op_of deeds.now) }
+/// The records of steps, and of these behind them.
+pub fn records_of(alloc: Global, deeds: &[Deed], more: &[Deed]) -> Result<Ops, NoMemory>
+    ensures { IfOk result (λ records. records ≡ map op_of (deeds.now ++ more.now)) }
 {
     let mut records = Items::new(alloc, 0)?;
+    add_records(alloc, &mut records, deeds)?;
+    add_records(alloc, &mut records, more)?;
+    Ok(records)
+}
+
+fn add_records(alloc: Global, records: &mut Ops, deeds: &[Deed]) -> Result<(), NoMemory>
+    ensures { OnOk result (records.new ≡ records.old ++ map op_of deeds.now) }
+{
     for deed in deeds {
         records.push(op_for(alloc, deed)?)?;
     }
-    Ok(records)
+    Ok(())
 }

@@ -1,5 +1,5 @@
 //! Which child goes on at each call, and which one is taken in.
-ghost use Rattle.std.specs.Prelude.{◌≡◌, ◌==◌, [], ◌∷◌, ◌++◌, position, OnOk, OnErr};
+ghost use Rattle.std.specs.Prelude.{◌≡◌, ◌==◌, [], position, OnOk, OnErr};
 
 use mk_bytes::{Items, NoMemory};
 use std::alloc::Global;
@@ -30,7 +30,7 @@ impl Model for Schedule {
 }
 
 impl Schedule {
-    ghost use Rattle.mk_memworld.specs.Schedule.{chosen, first_number, taken_in, with_number_taken};
+    ghost use Rattle.mk_memworld.specs.Schedule.{chosen, first_number, taken_in, with_ended, with_number_taken};
 
     /// No number was taken yet, and no child runs.
     pub fn new(alloc: Global, numbers: Turns) -> Schedule
@@ -73,26 +73,41 @@ impl Schedule {
         self.ended.as_slice()
     }
 
-    /// A child has come to its end.
-    pub fn note(&mut self, ticket: u32) -> Result<(), NoMemory>
+    /// A child has come to its end, where one has.
+    pub fn note(&mut self, ended: Option<u32>) -> Result<(), NoMemory>
         ensures ok { OnOk result
-            (self.new ≡ record self.old { ended = self.old.ended ++ ticket ∷ [] }) }
+            (self.new ≡ record self.old { ended = with_ended self.old.ended ended }) }
         ensures err { OnErr result (self.new ≡ self.old) }
     {
-        self.ended.push(ticket)?;
+        if let Some(ticket) = ended {
+            self.ended.push(ticket)?;
+        }
         Ok(())
     }
 
-    /// The child that the next number chooses among those that have come to their end, counted from 0
-    /// and round; `None` where none has. The number is not taken.
-    pub fn chosen(&self) -> Option<u32>
-        ensures { result ≡ chosen (first_number self.now.numbers) self.now.ended }
+    /// The child that the next number chooses among those that have come to their end and this one
+    /// behind them, where there is one, counted from 0 and round; `None` where there is none at all.
+    /// The number is not taken.
+    pub fn chosen(&self, ended: Option<u32>) -> Option<u32>
+        ensures { result ≡ chosen (first_number self.now.numbers)
+            (with_ended self.now.ended ended) }
     {
         let count = self.ended.len();
-        if count == 0 {
-            return None;
+        match ended {
+            None => {
+                if count == 0 {
+                    return None;
+                }
+                Some(self.ended[self.number() as usize % count])
+            }
+            Some(ticket) => {
+                let place = self.number() as usize % (count + 1);
+                if place == count {
+                    return Some(ticket);
+                }
+                Some(self.ended[place])
+            }
         }
-        Some(self.ended[self.number() as usize % count])
     }
 
     /// No child runs any more.

@@ -3,9 +3,9 @@ ghost use Rattle.std.specs.List.{list_any};
 ghost use Rattle.std.specs.Option.{option_copied};
 ghost use Rattle.mk_bytes.specs.Paths.{is_clean_directory};
 ghost use Rattle.mk_world.specs.Calls as spec;
-ghost use Rattle.mk_world.specs.Calls.{Adds, AddsEvents, OwnAsk, OwnEnd, OwnGone, OwnLeft, OwnNothing, OwnRead, OwnStart, OwnTime, OwnUnanswered, TakenOut};
+ghost use Rattle.mk_world.specs.Calls.{Adds, OwnAsk, OwnEnd, OwnGone, OwnLeft, OwnNothing, OwnRead, OwnStart, OwnTime, OwnUnanswered, TakenOut};
 ghost use Rattle.mk_world.specs.Causes.{HasCause};
-ghost use Rattle.mk_world.specs.History.{child_in, files_of, state_of, tickets_of};
+ghost use Rattle.mk_world.specs.History.{files_of, state_of, tickets_of};
 ghost use Rattle.mk_world.specs.Runs.{Run};
 ghost use Rattle.mk_world.specs.Talks.{does};
 ghost use Rattle.mk_world.specs.declared.fault.WorldFault.TheVariants.{Failed};
@@ -13,21 +13,24 @@ ghost use Rattle.mk_world.specs.declared.history.Happening.TheVariants.{Ask, Edi
 ghost use Rattle.mk_memworld.specs.Base.{are_clean, base_of};
 ghost use Rattle.mk_memworld.specs.Children.{without_first};
 ghost use Rattle.mk_memworld.specs.Chronicle.{with_event};
-ghost use Rattle.mk_memworld.specs.Clock.{last_number, timed};
+ghost use Rattle.mk_memworld.specs.Clock.{last_number, numbers, timed};
+ghost use Rattle.mk_memworld.specs.Endings.{ended_by, told_by};
 ghost use Rattle.mk_memworld.specs.Files.{as_filed};
+ghost use Rattle.mk_memworld.specs.Going.{IsTurn};
 ghost use Rattle.mk_memworld.specs.Meaning.{language};
-ghost use Rattle.mk_memworld.specs.Outages.{FailsWhere, IsStruck, OnFailed, first_outages, with_answer, with_call};
-ghost use Rattle.mk_memworld.specs.Rest.{IsTooShort, answer_of};
-ghost use Rattle.mk_memworld.specs.Running.{AddsSteps, IsShort};
-ghost use Rattle.mk_memworld.specs.Schedule.{IsTurnShort, after_turn, course_after, deed_by, gone_on, next_taken, noted, or_oldest, taken_in};
+ghost use Rattle.mk_memworld.specs.Outages.{FailsWhere, IsStruck, OnFailed, OnNoMemory, first_outages, with_answer, with_call};
+ghost use Rattle.mk_memworld.specs.Rest.{answer_of};
+ghost use Rattle.mk_memworld.specs.Running.{AddsSteps};
+ghost use Rattle.mk_memworld.specs.Schedule.{course_after, gone_on, next_taken, or_oldest, taken_in, with_ended, with_number_taken};
 ghost use Rattle.mk_memworld.specs.ToldChildren.{told_children};
-ghost use Rattle.mk_memworld.specs.Turned.{HasFailed, HasTurned, IsAtLastNumber, IsOutOfTime, IsWaitShort, turned};
+ghost use Rattle.mk_memworld.specs.Turned.{HasFailed, HasGoneOn, HasRefused, HasTurned, IsNext, IsOldOrTurned, IsTooShort, IsTurnShort, changes_to_end, turned};
 ghost use Rattle.mk_memworld.specs.declared.outage.CallKind.TheVariants as kind;
 
 use crate::base;
 use crate::chronicle::Chronicle;
 use crate::copy::copy_bytes;
 use crate::files::Stored;
+use crate::going::Going;
 use crate::outage::{CallKind, Fails, Outages};
 use crate::schedule::{Schedule, Turns};
 use mk_bytes::{NoMemory, Pairs, Text};
@@ -102,85 +105,68 @@ impl MemWorld {
 
 // How a call begins.
 impl MemWorld {
-    // A child does its next step, where it has one. `Failed`, which is counted, comes exactly where
-    // the clock has no number for it.
-    fn step(&mut self, ticket: u32) -> Result<(), WorldFault>
-        ensures history { OnOk result
-            (self.new.chronicle ≡ gone_on self.old.chronicle (Some ticket)) }
-        ensures same { OnErr result (self.new.chronicle ≡ self.old.chronicle) }
-        ensures schedule { self.new.schedule ≡ self.old.schedule }
-        ensures steps { AddsSteps self.old.chronicle self.new.chronicle }
-        ensures tickets { tickets_of (state_of self.new.chronicle).children
-            ≡ tickets_of (state_of self.old.chronicle).children }
-        ensures exactly { FailsWhere
-            (IsTurnShort (state_of self.old.chronicle) (Some ticket)) result }
-        ensures counted { self.new.outages ≡ with_answer self.old.outages result }
-        ensures cause { HasCause Failed self.old.outages.faults self.new.outages.faults result }
-    {
-        let Some(deed) = self.chronicle.deed(ticket)? else {
-            return Ok(());
-        };
-        if !self.chronicle.has_number(&deed) {
-            self.outages.fail();
-            return Err(WorldFault::Failed);
-        }
-        self.chronicle.step(ticket, &deed)?;
-        Ok(())
-    }
-
-    // A child that has no step left has come to its end.
-    fn note(&mut self, ticket: u32) -> Result<(), NoMemory>
-        ensures noted { OnOk result (self.new.schedule ≡ record self.old.schedule {
-          ended = noted self.old.schedule.ended ticket
-              (deed_by (state_of self.old.chronicle) ticket);
-        }) }
-        ensures same { OnErr result (self.new.schedule ≡ self.old.schedule) }
+    // The next number is taken, which names the child whose turn it is.
+    fn next(&mut self) -> Result<Going, NoMemory>
+        ensures turn { IfOk result (IsNext self.old) }
+        ensures taken { self.new.schedule ≡ with_number_taken self.old.schedule }
         ensures history { self.new.chronicle ≡ self.old.chronicle }
         ensures outages { self.new.outages ≡ self.old.outages }
     {
-        if self.chronicle.deed(ticket)?.is_some() {
-            return Ok(());
+        let number = self.schedule.take();
+        match self.chronicle.named(self.schedule.ended(), number) {
+            None => Ok(Going::nobody()),
+            Some(ticket) => self.chronicle.going(ticket),
         }
-        self.schedule.note(ticket)
     }
 
-    // The next number is taken, and the child that it names goes on.
-    fn turn(&mut self) -> Result<(), WorldFault>
-        ensures turned { OnOk result (HasTurned self.old self.new) }
+    // The child whose turn it is goes on. `Failed`, which is counted, comes exactly where the clock
+    // has too few numbers for its step and for so many changes behind it; nobody goes on then.
+    fn go_on(&mut self, going: Going, more: u64) -> Result<(), WorldFault>
+        requires turn { IsTurn self.old.chronicle going }
+        ensures history { OnOk result
+            (self.new.chronicle ≡ gone_on self.old.chronicle going.ticket) }
+        ensures course { OnOk result (self.new.schedule ≡ record self.old.schedule {
+          ended = with_ended self.old.schedule.ended going.ended;
+        }) }
         ensures same { OnFailed result (self.new.chronicle ≡ self.old.chronicle) }
-        ensures taken { self.new.schedule.numbers ≡ drop 1 self.old.schedule.numbers }
+        ensures same_course { OnErr result (self.new.schedule ≡ self.old.schedule) }
+        ensures out_of_memory { OnNoMemory result ((self.new.chronicle ≡ self.old.chronicle)
+            ⊎ (self.new.chronicle ≡ gone_on self.old.chronicle going.ticket)) }
         ensures steps { AddsSteps self.old.chronicle self.new.chronicle }
         ensures tickets { tickets_of (state_of self.new.chronicle).children
             ≡ tickets_of (state_of self.old.chronicle).children }
-        ensures exactly { FailsWhere (IsOutOfTime self.old) result }
+        ensures exactly { FailsWhere (IsTurnShort self.old going more) result }
         ensures counted { self.new.outages ≡ with_answer self.old.outages result }
         ensures cause { HasCause Failed self.old.outages.faults self.new.outages.faults result }
     {
-        let number = self.schedule.take();
-        let Some(ticket) = self.chronicle.named(self.schedule.ended(), number) else {
-            return Ok(());
-        };
-        self.step(ticket)?;
-        self.note(ticket)?;
+        if !self.chronicle.has_numbers(&going, more) {
+            self.outages.fail();
+            return Err(WorldFault::Failed);
+        }
+        self.chronicle.go_on(&going)?;
+        self.schedule.note(going.ended)?;
         Ok(())
     }
 
-    // A call is counted, takes its number, and lets the child go on that this names. `Failed` comes
-    // exactly where the clock has no number for the step, and where the call is to fail.
-    fn begin(&mut self, kind: CallKind) -> Result<(), WorldFault>
-        ensures turned { OnOk result (HasTurned self.old self.new) }
-        ensures failed { OnFailed result (HasFailed self.old self.new) }
-        ensures taken { self.new.schedule.numbers ≡ drop 1 self.old.schedule.numbers }
+    // The child whose turn it is goes on in a call that makes so many changes behind it. `Failed`,
+    // which is counted, comes exactly where the clock has too few numbers for these, and nobody goes
+    // on then, and where the call is to fail.
+    fn proceed(&mut self, going: Going, changes: u64, is_struck: bool) -> Result<(), WorldFault>
+        requires turn { IsTurn self.old.chronicle going }
+        ensures went_on { OnOk result (HasGoneOn going self.old self.new) }
+        ensures failed { OnFailed result (HasRefused going changes self.old self.new) }
+        ensures taken { self.new.schedule.numbers ≡ self.old.schedule.numbers }
+        ensures out_of_memory { OnNoMemory result ((self.new.chronicle ≡ self.old.chronicle)
+            ⊎ (self.new.chronicle ≡ gone_on self.old.chronicle going.ticket)) }
         ensures steps { AddsSteps self.old.chronicle self.new.chronicle }
         ensures tickets { tickets_of (state_of self.new.chronicle).children
             ≡ tickets_of (state_of self.old.chronicle).children }
         ensures exactly { FailsWhere
-            (IsStruck self.old.outages kind ⊎ IsOutOfTime self.old) result }
-        ensures counted { self.new.outages ≡ with_answer (with_call self.old.outages kind) result }
+            (IsTrue is_struck ⊎ IsTurnShort self.old going changes) result }
+        ensures counted { self.new.outages ≡ with_answer self.old.outages result }
         ensures cause { HasCause Failed self.old.outages.faults self.new.outages.faults result }
     {
-        let is_struck = self.outages.strikes(kind);
-        self.turn()?;
+        self.go_on(going, changes)?;
         if is_struck {
             self.outages.fail();
             return Err(WorldFault::Failed);
@@ -188,48 +174,41 @@ impl MemWorld {
         Ok(())
     }
 
-    // Where the child stands that is to be taken in.
-    fn place(&self, kids: &Kids<()>) -> usize
+    // A call that makes so many changes begins: it is counted, takes its number, and lets the child
+    // go on that this names. `Failed` comes exactly where the call is to fail, and where the clock
+    // has too few numbers.
+    fn begin(&mut self, kind: CallKind, changes: u64) -> Result<(), WorldFault>
+        ensures turned { OnOk result (HasTurned self.old self.new) }
+        ensures failed { OnFailed result (HasFailed changes self.old self.new) }
+        ensures out_of_memory { OnNoMemory result (IsOldOrTurned self.old self.new) }
+        ensures taken { self.new.schedule.numbers ≡ drop 1 self.old.schedule.numbers }
+        ensures steps { AddsSteps self.old.chronicle self.new.chronicle }
+        ensures tickets { tickets_of (state_of self.new.chronicle).children
+            ≡ tickets_of (state_of self.old.chronicle).children }
+        ensures exactly { FailsWhere
+            (IsStruck self.old.outages kind ⊎ IsTooShort self.old changes) result }
+        ensures counted { self.new.outages ≡ with_answer (with_call self.old.outages kind) result }
+        ensures cause { HasCause Failed self.old.outages.faults self.new.outages.faults result }
+    {
+        let is_struck = self.outages.strikes(kind);
+        let going = self.next()?;
+        self.proceed(going, changes, is_struck)
+    }
+
+    // Where the child stands that is to be taken in behind this turn.
+    fn place(&self, kids: &Kids<()>, going: &Going) -> usize
         requires { 0 < length kids.now.tickets }
         ensures within { result < length kids.now.tickets }
-        ensures taken { slice_get kids.now.tickets result
-            ≡ next_taken self.now.schedule kids.now.tickets }
+        ensures taken { slice_get kids.now.tickets result ≡ next_taken (record self.now.schedule {
+          ended = with_ended self.now.schedule.ended going.now.ended;
+        }) kids.now.tickets }
         ensures first { without_first (slice_index kids.now.tickets result) kids.now.tickets
             ≡ remove kids.now.tickets result }
     {
-        match self.schedule.chosen() {
+        match self.schedule.chosen(going.ended) {
             None => 0,
             Some(ticket) => place_in(kids, ticket),
         }
-    }
-
-    // A child does all its remaining steps and is taken in, for which a number is taken. `Failed`,
-    // which is counted, comes exactly where the clock has too few numbers for these steps.
-    fn take_in(&mut self, ticket: u32) -> Result<Ended, WorldFault>
-        requires held { IsSome (child_in (state_of self.old.chronicle).children ticket) }
-        ensures done { IfOk result (λ ended. AddsEvents language (OwnEnd language ended)
-            self.old.chronicle self.new.chronicle) }
-        ensures refused { OnErr result (AddsSteps self.old.chronicle self.new.chronicle) }
-        ensures named { IfOk result (λ ended. ended.ticket.0 ≡ ticket) }
-        ensures taken { IfOk result (λ ended. tickets_of (state_of self.new.chronicle).children
-            ≡ without_first ticket (tickets_of (state_of self.old.chronicle).children)) }
-        ensures same { OnErr result (tickets_of (state_of self.new.chronicle).children
-            ≡ tickets_of (state_of self.old.chronicle).children) }
-        ensures course { OnOk result (self.new.schedule ≡ taken_in self.old.schedule ticket) }
-        ensures same_course { OnErr result (self.new.schedule ≡ self.old.schedule) }
-        ensures exactly { FailsWhere (IsShort (state_of self.old.chronicle) ticket) result }
-        ensures nothing { OnFailed result (self.new.chronicle ≡ self.old.chronicle) }
-        ensures counted { self.new.outages ≡ with_answer self.old.outages result }
-        ensures cause { HasCause Failed self.old.outages.faults self.new.outages.faults result }
-    {
-        let rest = self.chronicle.rest(ticket)?;
-        if !self.chronicle.has_numbers(&rest) {
-            self.outages.fail();
-            return Err(WorldFault::Failed);
-        }
-        let ended = self.chronicle.finish(ticket, rest)?;
-        self.schedule.take_in(ticket);
-        Ok(ended)
     }
 }
 
@@ -277,9 +256,11 @@ impl World for MemWorld {
     /// The whole of a file, or `None` where it is missing.
     ///
     /// This call, as all but `abandon`, takes a number of the schedule and begins with the turn of
-    /// the child that this names. `Failed` comes exactly where the call is to fail, and where the
-    /// clock has no number for the step of this child, which then does nothing. A call that is to
-    /// fail lets the child go on, and does nothing of its own.
+    /// the child that this names. `Failed`, which is counted, comes exactly where the call is to
+    /// fail, and where the clock has fewer numbers left than the step of this child and the changes
+    /// of the call behind it take; here these are none. Where it is too short, nobody goes on. Any
+    /// other call that is to fail lets the child go on, and does nothing of its own. Where memory runs out, nothing has happened, or the child went on and
+    /// nothing else happened.
     fn read(&mut self, alloc: Global, path: &[u8]) -> Result<Option<Text>, WorldFault>
         ensures done { IfOk result (λ answer. Adds language (Some self.old.chronicle)
             (Some self.new.chronicle) (OwnRead path.now answer)) }
@@ -294,13 +275,14 @@ impl World for MemWorld {
             → tickets_of (state_of self.old.chronicle).children ≡ kids
             → tickets_of (state_of self.new.chronicle).children ≡ kids }
         ensures exactly { FailsWhere
-            (IsStruck self.old.outages kind.Read ⊎ IsOutOfTime self.old) result }
-        ensures failed { OnFailed result (HasFailed self.old self.new) }
+            (IsStruck self.old.outages kind.Read ⊎ IsTooShort self.old 0) result }
+        ensures failed { OnFailed result (HasFailed 0 self.old self.new) }
+        ensures out_of_memory { OnNoMemory result (IsOldOrTurned self.old self.new) }
         ensures taken { self.new.schedule.numbers ≡ drop 1 self.old.schedule.numbers }
         ensures counted { self.new.outages
             ≡ with_answer (with_call self.old.outages kind.Read) result }
     {
-        self.begin(CallKind::Read)?;
+        self.begin(CallKind::Read, 0)?;
         let bytes = copy_bytes(alloc, self.chronicle.bytes(path))?;
         self.chronicle.look(path)?;
         Ok(bytes)
@@ -321,20 +303,21 @@ impl World for MemWorld {
             → tickets_of (state_of self.old.chronicle).children ≡ kids
             → tickets_of (state_of self.new.chronicle).children ≡ kids }
         ensures exactly { FailsWhere
-            (IsStruck self.old.outages kind.Time ⊎ IsOutOfTime self.old) result }
-        ensures failed { OnFailed result (HasFailed self.old self.new) }
+            (IsStruck self.old.outages kind.Time ⊎ IsTooShort self.old 0) result }
+        ensures failed { OnFailed result (HasFailed 0 self.old self.new) }
+        ensures out_of_memory { OnNoMemory result (IsOldOrTurned self.old self.new) }
         ensures taken { self.new.schedule.numbers ≡ drop 1 self.old.schedule.numbers }
         ensures counted { self.new.outages
             ≡ with_answer (with_call self.old.outages kind.Time) result }
     {
-        self.begin(CallKind::Time)?;
+        self.begin(CallKind::Time, 0)?;
         let when = when_of(self.chronicle.file(path));
         self.chronicle.look(path)?;
         Ok(when)
     }
 
-    /// Takes a file away, at the next time, also where it is missing. `Failed` comes also where the
-    /// clock is at its last number by then.
+    /// Takes a file away, at the next time, also where it is missing. This is one change, for which
+    /// the clock needs a number, beside that for the step of the child that goes on.
     fn remove(&mut self, _: Global, path: &[u8]) -> Result<(), WorldFault>
         ensures done { OnOk result (Adds language (Some self.old.chronicle)
             (Some self.new.chronicle) (OwnGone path.now)) }
@@ -348,24 +331,21 @@ impl World for MemWorld {
             (Gone path.now ((state_of (turned self.old)).clock + 1))) }
         ensures course { OnOk result (self.new.schedule
             ≡ course_after self.old.chronicle self.old.schedule) }
-        ensures exactly { FailsWhere ((IsStruck self.old.outages kind.Remove
-            ⊎ IsOutOfTime self.old) ⊎ IsAtLastNumber self.old) result }
-        ensures failed { OnFailed result (HasFailed self.old self.new) }
+        ensures exactly { FailsWhere
+            (IsStruck self.old.outages kind.Remove ⊎ IsTooShort self.old 1) result }
+        ensures failed { OnFailed result (HasFailed 1 self.old self.new) }
+        ensures out_of_memory { OnNoMemory result (IsOldOrTurned self.old self.new) }
         ensures taken { self.new.schedule.numbers ≡ drop 1 self.old.schedule.numbers }
         ensures counted { self.new.outages
             ≡ with_answer (with_call self.old.outages kind.Remove) result }
     {
-        self.begin(CallKind::Remove)?;
-        if self.chronicle.clock() == u64::MAX {
-            self.outages.fail();
-            return Err(WorldFault::Failed);
-        }
+        self.begin(CallKind::Remove, 1)?;
         self.chronicle.remove(path)?;
         Ok(())
     }
 
-    /// Runs a command to its end on the files as they stand after the turn. `Failed` comes also where
-    /// the clock has too few numbers for its changes by then.
+    /// Runs a command to its end on the files as they stand after the turn. The clock needs numbers
+    /// for its changes, beside that for the step of the child that goes on.
     fn ask(&mut self, _: Global, cmd: &Cmd) -> Result<Ended, WorldFault>
         requires directory { IsTrue (is_clean_directory cmd.now.cwd) }
         ensures done { IfOk result (λ ended. Adds language (Some self.old.chronicle)
@@ -384,19 +364,20 @@ impl World for MemWorld {
             (does language cmd.now (files_of (turned self.old))).deeds))) }
         ensures course { OnOk result (self.new.schedule
             ≡ course_after self.old.chronicle self.old.schedule) }
-        ensures exactly { FailsWhere ((IsStruck self.old.outages kind.Ask
-            ⊎ IsOutOfTime self.old) ⊎ IsTooShort cmd.now (state_of (turned self.old))) result }
-        ensures failed { OnFailed result (HasFailed self.old self.new) }
+        ensures exactly { FailsWhere (IsStruck self.old.outages kind.Ask
+            ⊎ IsTooShort self.old
+            (numbers (does language cmd.now (files_of (turned self.old))).deeds)) result }
+        ensures failed { OnFailed result (HasFailed
+            (numbers (does language cmd.now (files_of (turned self.old))).deeds) self.old self.new) }
+        ensures out_of_memory { OnNoMemory result (IsOldOrTurned self.old self.new) }
         ensures taken { self.new.schedule.numbers ≡ drop 1 self.old.schedule.numbers }
         ensures counted { self.new.outages
             ≡ with_answer (with_call self.old.outages kind.Ask) result }
     {
-        self.begin(CallKind::Ask)?;
-        let rest = self.chronicle.doing(cmd)?;
-        if !self.chronicle.has_numbers(&rest) {
-            self.outages.fail();
-            return Err(WorldFault::Failed);
-        }
+        let is_struck = self.outages.strikes(CallKind::Ask);
+        let going = self.next()?;
+        let rest = self.chronicle.doing(&going, cmd)?;
+        self.proceed(going, rest.numbers(), is_struck)?;
         let ended = self.chronicle.ask(cmd, rest)?;
         Ok(ended)
     }
@@ -428,22 +409,23 @@ impl World for MemWorld {
         ensures cause { HasCause Failed self.old.outages.faults self.new.outages.faults result }
         ensures children { tickets_of (state_of self.new.chronicle).children ≡ kids.new.tickets }
         ensures exactly { FailsWhere
-            (IsStruck self.old.outages kind.Start ⊎ IsOutOfTime self.old) result }
-        ensures failed { OnFailed result (HasFailed self.old self.new) }
+            (IsStruck self.old.outages kind.Start ⊎ IsTooShort self.old 0) result }
+        ensures failed { OnFailed result (HasFailed 0 self.old self.new) }
+        ensures out_of_memory { OnNoMemory result (IsOldOrTurned self.old self.new) }
         ensures taken { self.new.schedule.numbers ≡ drop 1 self.old.schedule.numbers }
         ensures counted { self.new.outages
             ≡ with_answer (with_call self.old.outages kind.Start) result }
     {
-        self.begin(CallKind::Start)?;
+        self.begin(CallKind::Start, 0)?;
         self.chronicle.start(ticket.0, owner.0, cmd)?;
         kids.add(ticket, ());
         Ok(())
     }
 
     /// Takes in a child. Behind the turn a second number is taken, which chooses one of those that
-    /// have come to their end; where none has, the oldest child does all its remaining steps.
-    /// `Failed` comes also where the clock has too few numbers for these by then. A call that fails
-    /// takes no second number. Where memory runs out some steps may be done.
+    /// have come to their end; where none has, the oldest child is taken in. It does all its
+    /// remaining steps first, and no other child does any. The clock needs numbers for these, beside
+    /// that for the step of the child that goes on. A call that fails takes no second number.
     fn wait_any(&mut self, _: Global, kids: &mut Kids<()>) -> Result<Ended, WorldFault>
         requires exact { tickets_of (state_of self.old.chronicle).children ≡ kids.old.tickets }
         requires some { 0 < length kids.old.tickets }
@@ -455,23 +437,34 @@ impl World for MemWorld {
             (λ ended. TakenOut ended.ticket.0 kids.old.tickets kids.new.tickets) }
         ensures chosen { IfOk result (λ ended. Some ended.ticket.0
             ≡ next_taken (course_after self.old.chronicle self.old.schedule) kids.old.tickets) }
+        ensures history { IfOk result (λ ended. self.new.chronicle
+            ≡ ended_by (turned self.old) ended.ticket.0) }
+        ensures told { IfOk result (λ ended. Some ended
+            ≡ told_by (turned self.old) ended.ticket.0) }
         ensures course { IfOk result (λ ended. self.new.schedule
             ≡ taken_in (course_after self.old.chronicle self.old.schedule) ended.ticket.0) }
         ensures same { OnErr result (kids.new ≡ kids.old) }
         ensures same_room { kids.new.room ≡ kids.old.room }
         ensures cause { HasCause Failed self.old.outages.faults self.new.outages.faults result }
         ensures children { tickets_of (state_of self.new.chronicle).children ≡ kids.new.tickets }
-        ensures exactly { FailsWhere ((IsStruck self.old.outages kind.WaitAny
-            ⊎ IsOutOfTime self.old) ⊎ IsWaitShort self.old kids.old.tickets) result }
-        ensures failed { OnFailed result (HasFailed self.old self.new) }
+        ensures exactly { FailsWhere (IsStruck self.old.outages kind.WaitAny
+            ⊎ IsTooShort self.old (changes_to_end self.old kids.old.tickets)) result }
+        ensures failed { OnFailed result
+            (HasFailed (changes_to_end self.old kids.old.tickets) self.old self.new) }
+        ensures out_of_memory { OnNoMemory result (IsOldOrTurned self.old self.new) }
         ensures taken_number { OnErr result
             (self.new.schedule.numbers ≡ drop 1 self.old.schedule.numbers) }
         ensures counted { self.new.outages
             ≡ with_answer (with_call self.old.outages kind.WaitAny) result }
     {
-        self.begin(CallKind::WaitAny)?;
-        let place = self.place(kids);
-        let ended = self.take_in(kids.ticket(place).0)?;
+        let is_struck = self.outages.strikes(CallKind::WaitAny);
+        let going = self.next()?;
+        let place = self.place(kids, &going);
+        let ticket = kids.ticket(place).0;
+        let rest = self.chronicle.rest(&going, ticket)?;
+        self.proceed(going, rest.numbers(), is_struck)?;
+        let ended = self.chronicle.finish(ticket, rest)?;
+        self.schedule.take_in(ticket);
         kids.take(place);
         Ok(ended)
     }

@@ -1,10 +1,12 @@
-use Rattle.std.proofs.Common.{◌≡◌, ◌+◌, [], ◌∷◌, ◌++◌, length, map, sym, ap, ◌∙◌, subst, arith, length-append}
+use Rattle.std.proofs.Common.{◌≡◌, ◌+◌, [], ◌∷◌, ◌++◌, length, sym, ap, ◌∙◌, subst, arith, length-append}
+use Rattle.std.specs.Option.{option_copied}
 use Rattle.mk_world.specs.Deeds.{after_deeds}
 use Rattle.mk_world.specs.History.{contents}
 use Rattle.mk_world.specs.Talks.{answer, deed_on}
 use Rattle.mk_world.specs.declared.step.Next.TheVariants.{More, Over}
 use Rattle.mk_memworld.specs.Files.{files_in}
 use Rattle.mk_memworld.specs.Language.{language_next}
+use Rattle.mk_memworld.specs.Steps.{after_step}
 use Rattle.mk_memworld.proofs.RestLemmas.{Completes, Completes-more, Completes-all, asked_short}
 use Rattle.mk_memworld.proofs.rest.rest_of.Goals as goal
 
@@ -14,8 +16,8 @@ returns-in-Over c =
     let over : language_next cmd c.loop-deeds.answers ≡ Over c.in-Over.status c.in-Over.output =
     ap (language_next cmd) (sym c.as_slice.ensures.value) ∙ sym c.in_ok-status.ensures
     ∙ c.in-Over.is in
-    Completes-all language_next cmd (map answer c.args.done.now)
-    (contents (files_in c.args.files.now)) c.loop-deeds.answers c.loop-deeds.deeds
+    Completes-all language_next cmd c.args.seen
+    (after_step (contents (files_in c.args.files.now)) (option_copied c.args.step)) c.loop-deeds.answers c.loop-deeds.deeds
     c.in-Over.status c.in-Over.output c.loop-deeds.invariant over
 
 pub loop-deeds-smaller : goal.loop-deeds-smaller
@@ -32,8 +34,8 @@ loop-deeds-smaller c =
 pub loop-deeds-preserved : goal.loop-deeds-preserved
 loop-deeds-preserved c =
     let cmd = c.args.cmd.now in
-    let seen = map answer c.args.done.now in
-    let store = contents (files_in c.args.files.now) in
+    let seen = c.args.seen in
+    let store = after_step (contents (files_in c.args.files.now)) (option_copied c.args.step) in
     let answers = c.loop-deeds.answers in
     let deeds = c.loop-deeds.deeds in
     let request = c.in-More.request in

@@ -1,16 +1,17 @@
-use Rattle.std.proofs.Common.{◌-◌, length, map}
+use Rattle.std.proofs.Common.{◌-◌, length}
+use Rattle.std.specs.Option.{option_copied}
 use Rattle.mk_world.specs.History.{contents}
-use Rattle.mk_world.specs.Talks.{answer}
 use Rattle.mk_memworld.specs.Files.{files_in}
 use Rattle.mk_memworld.specs.Language.{language_next, most_answers}
+use Rattle.mk_memworld.specs.Steps.{after_step}
 use Rattle.mk_memworld.proofs.RestLemmas.{Completes}
 use Rattle.mk_memworld.proofs.rest.rest_of.Given as goal
 
 -- whatever completes the steps so far is the rest
 abbrev pub invariant-loop-deeds : goal.invariant-loop-deeds
 invariant-loop-deeds l =
-    Completes language_next l.cmd (map answer l.done) (contents (files_in l.files)) l.answers
-    l.deeds
+    Completes language_next l.cmd l.fn.seen
+    (after_step (contents (files_in l.files)) (option_copied l.step)) l.answers l.deeds
 
 abbrev pub decreases-loop-deeds : goal.decreases-loop-deeds
 decreases-loop-deeds l = most_answers l.cmd - length l.answers

@@ -1,8 +1,10 @@
-use Rattle.std.proofs.Common.{◌∙◌, ap}
+use Rattle.std.proofs.Common.{◌≡◌, ◌∙◌, sym, ap, subst}
 use Rattle.mk_world.specs.Calls.{OwnAsk}
-use Rattle.mk_world.specs.History.{State, tickets_of}
+use Rattle.mk_world.specs.History.{State, files_of, state_of, tickets_of}
+use Rattle.mk_world.specs.Talks.{does}
 use Rattle.mk_memworld.specs.Meaning.{language}
 use Rattle.mk_memworld.specs.Rest.{doing_of}
+use Rattle.mk_memworld.specs.Running.{AddsSteps}
 use Rattle.mk_memworld.proofs.AskLemmas.{adds_ask}
 use Rattle.mk_memworld.proofs.ChronicleLemmas.{state_of-with_event}
 use Rattle.mk_memworld.proofs.RunningLemmas.{AddsEvents-behind}
@@ -10,15 +12,18 @@ use Rattle.mk_memworld.proofs.world.MemWorldWorld.ask.Goals as goal
 
 pub returns-clause-done : goal.returns-clause-done
 returns-clause-done c =
-    let mid = c.begin.new.self.chronicle in
+    let mid = c.proceed.new.self.chronicle in
+    let doing : doing_of c.in_ok-rest.rest ≡ does language c.args.cmd.now (files_of mid) =
+    c.in_ok-rest.ensures
+    ∙ ap (λ h. does language c.args.cmd.now (files_of h)) (sym c.in_ok-proceed.ensures.went_on.history) in
     AddsEvents-behind (OwnAsk language c.args.cmd.now c.in_ok-ended.ended)
-    c.args.self.now.chronicle mid c.ask.new.self c.begin.ensures.steps
+    c.args.self.now.chronicle mid c.ask.new.self
+    (subst (λ h. AddsSteps h mid) c.next.ensures.history c.proceed.ensures.steps)
     (adds_ask mid c.ask.new.self c.args.cmd.now (doing_of c.in_ok-rest.rest)
-    c.in_ok-ended.ended c.in_ok-rest.ensures c.in_ok-ended.ensures.ok
-    c.in_ok-ended.ensures.answer)
+    c.in_ok-ended.ended doing c.in_ok-ended.ensures.ok c.in_ok-ended.ensures.answer)
 
 pub returns-clause-children : goal.returns-clause-children
 returns-clause-children c = λ kids runs.
     ap (λ (s : State). tickets_of s.children)
-    (state_of-with_event c.begin.new.self.chronicle c.ask.new.self _ c.in_ok-ended.ensures.ok)
-    ∙ c.begin.ensures.tickets ∙ runs
+    (state_of-with_event c.proceed.new.self.chronicle c.ask.new.self _ c.in_ok-ended.ensures.ok)
+    ∙ c.proceed.ensures.tickets ∙ ap (λ h. tickets_of (state_of h).children) c.next.ensures.history ∙ runs
