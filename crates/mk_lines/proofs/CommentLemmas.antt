@@ -1,7 +1,7 @@
 -- A line's comment and escapes, one unit of bytes after the other.
 use Rattle.std.proofs.Common.{zero, suc, ◌≤◌, Option, Some, None, is_some}
 use Rattle.std.specs.List.{list_any}
-use Rattle.std.proofs.Common.{◌≡◌, ◌+◌, sym, ◌∙◌, append_assoc, length-drop, ◌≢◌, ℕ, ◌<◌, ◌++◌}
+use Rattle.std.proofs.Common.{◌≡◌, ◌+◌, sym, ◌∙◌, append_assoc, length-drop, length-take, get_or-take, min, ◌≢◌, ℕ, ◌<◌, ◌++◌}
 use Rattle.std.proofs.Common.{◌==◌, ◌&&◌, true, false, if◌then◌else◌, List, [], ◌∷◌, length, take}
 use Rattle.std.proofs.Common.{drop, slice_index, refl, ap, arith}
 use Rattle.std.proofs.Math.Bool.{or-true}
@@ -169,13 +169,29 @@ unescaped-escape line place found =
     (λ k under is. found.0.before k (omega arith) under (eq-eqb _ _ is))
     ∙ ap (λ more. take place line ++ more) (unescaped-unit (drop place line) some)
 
+-- a line that is one such run
+unescaped-rest : (line : List ℕ) → ((k : ℕ) → k < length line → slice_index line k ≢ backslash)
+    → unescaped line ≡ line
+unescaped-rest line is_other =
+    unescaped-run (length line) line (omega arith) is_other
+    ∙ rw (take-length line, drop_all (length line) line (omega arith), unescaped-none)
+    (append-nil line)
+
 pub unescaped-without : (line : List ℕ) → IsFirstByte (is_byte backslash) line None
     → unescaped line ≡ line
 unescaped-without line none =
-    unescaped-run (length line) line (omega arith)
-    (λ k under is. none k (omega arith) under (eq-eqb _ _ is))
-    ∙ rw (take-length line, drop_all (length line) line (omega arith), unescaped-none)
-    (append-nil line)
+    unescaped-rest line (λ k under is. none k (omega arith) under (eq-eqb _ _ is))
+
+-- what a line begins with, where the line holds no byte that begins a comment or a unit
+pub unescaped-take : (line : List ℕ) (len : ℕ)
+    → IsFirstByte (is_byte3 hash backslash square_open) line None
+    → unescaped (take len line) ≡ take len line
+unescaped-take line len none =
+    unescaped-rest (take len line) (λ k under is.
+    let within : k < min len (length line) = rw length-take at under in
+    let same : slice_index line k ≡ backslash
+    = sym (get_or-take len line k 0 (omega (arith, within))) ∙ is in
+    none k (omega arith) (omega (arith, within)) (rw same refl))
 
 -- whether a byte is found, and whether there is one
 pub list_any-none : (byte : ℕ) (line : List ℕ)

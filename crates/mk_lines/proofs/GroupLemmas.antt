@@ -52,7 +52,7 @@ behind-closed [] = refl
 behind-closed (next ∷ rest) = refl
 
 -- another byte in front of a list's end is not counted
-suffix_len-cons : (p : ℕ → Bool) (x : ℕ) (xs : List ℕ) → p x ≡ false
+pub suffix_len-cons : (p : ℕ → Bool) (x : ℕ) (xs : List ℕ) → p x ≡ false
     → suffix_len p (x ∷ xs) ≡ suffix_len p xs
 suffix_len-cons p x xs fails =
     let last : prefix_len p (x ∷ []) ≡ 0 = rw fails refl in

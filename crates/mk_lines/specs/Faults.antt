@@ -1,7 +1,7 @@
 -- The faults of a text: zero bytes, and logical lines that are too long.
-use Rattle.std.specs.Prelude.{◌≡◌, ℕ, ◌+◌, ◌==◌, nat_lt, Bool, false, List, [], ◌∷◌, length, if◌then◌else◌}
+use Rattle.std.specs.Prelude.{◌≡◌, ℕ, ◌+◌, ◌==◌, ◌≤◌, nat_lt, Bool, false, List, [], ◌∷◌, length, if◌then◌else◌}
 use Rattle.std.specs.Prelude.{Result, Ok, Err}
-use Rattle.std.specs.List.{list_any}
+use Rattle.std.specs.List.{All, list_any}
 use Rattle.std.specs.Result.{result_and}
 use Rattle.mk_lines.specs.declared.fault.LineFault.{LineFault}
 use Rattle.mk_lines.specs.declared.fault.LineFault.TheVariants.{TooLong, Zero}
@@ -33,6 +33,11 @@ zeros_checked number (line ∷ rest) =
 -- A logical line of this length may not be too long. Its first physical line has this number.
 abbrev pub len_checked : ℕ → ℕ → Result (Unit {0}) LineFault
 len_checked number len = if nat_lt max_len len then Err (TooLong number) else Ok tt
+
+-- No logical line of a text is too long.
+abbrev pub NoneTooLong : List ℕ → Type 0
+NoneTooLong text =
+    All (λ group. length (text_of group) ≤ max_len) (line_groups (physical_lines text))
 
 -- The fault of a logical line: its first zero byte, or else its length.
 abbrev pub group_checked : ℕ → List (List ℕ) → Result (Unit {0}) LineFault

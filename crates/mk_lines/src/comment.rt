@@ -1,7 +1,8 @@
 //! Comments: a `#` and what follows it, in lines that are no commands (make(1), "COMMENTS").
-ghost use Rattle.std.specs.Prelude.{◌≡◌, ◌+◌, ◌<◌, ◌≤◌, ◌++◌, length, reverse, take_while, IfOk};
+ghost use Rattle.std.specs.Prelude.{◌≡◌, ◌+◌, ◌<◌, ◌≤◌, ◌++◌, length, reverse, take_while, Some, IfOk};
 ghost use Rattle.std.specs.Cow.{cow_slice_items};
-ghost use Rattle.mk_bytes.specs.Bytes.{is_blank};
+ghost use Rattle.memchr.specs.Find.{IsFirstByte, is_byte3};
+ghost use Rattle.mk_bytes.specs.Bytes.{is_blank, hash, backslash, square_open};
 ghost use Rattle.mk_lines.specs.Comment as spec;
 
 use memchr::{memchr, memchr3};
@@ -19,24 +20,32 @@ use std::borrow::CowSlice;
 pub fn cut_comment<'t>(alloc: Global, line: &'t [u8]) -> Result<CowSlice<'t, u8>, NoMemory>
     ensures { IfOk result (λ text. cow_slice_items text ≡ spec.cut_comment line.now) }
 {
-    let kept = trim(before_comment(line));
+    // Most lines hold none of these bytes: nothing but their final blanks goes.
+    let Some(place) = memchr3(b'#', b'\\', b'[', line) else {
+        return Ok(CowSlice::Borrowed(trim(line)));
+    };
+    let kept = trim(before_comment(line, place));
     match memchr(b'\\', kept) {
         None => Ok(CowSlice::Borrowed(kept)),
         Some(_) => Ok(CowSlice::Owned(unescape(alloc, kept)?)),
     }
 }
 
-// What stands before a line's comment.
-fn before_comment<'t>(line: &'t [u8]) -> &'t [u8]
+// What stands before a line's comment. The place is that of the first byte that a unit of two bytes
+// or the comment can begin with.
+fn before_comment<'t>(line: &'t [u8], place: usize) -> &'t [u8]
+    requires { IsFirstByte (is_byte3 hash backslash square_open) line.now (Some place) }
     ensures { result.now ≡ spec.before_comment line.now }
 {
     let mut end = 0;
-    'units: while let Some(skipped) = memchr3(b'#', b'\\', b'[', &line[end..]) {
+    let mut found = Some(place);
+    'units: while let Some(skipped) = found {
         end += skipped;
         if line[end] == b'#' {
             return &line[..end];
         }
         end += unit_len(&line[end..]);
+        found = memchr3(b'#', b'\\', b'[', &line[end..]);
     }
     line
 }

@@ -1,11 +1,11 @@
 //! The faults of a text: a logical line that is too long, and a zero byte.
-ghost use Rattle.std.specs.Prelude.{◌≡◌, ◌+◌, ◌^◌, ◌<◌, ◌≤◌, ◌∷◌, false, length};
+ghost use Rattle.std.specs.Prelude.{◌≡◌, ◌+◌, ◌^◌, ◌<◌, ◌≤◌, ◌∷◌, false, length, IsTrue};
 ghost use Rattle.std.specs.Result.{result_and};
 ghost use Rattle.mk_lines.specs.Lines.{physical_lines, line_groups};
 ghost use Rattle.mk_lines.specs.Faults as spec;
 
 use crate::physical::{PhysicalLines, is_continued, without_indent};
-use memchr::memchr;
+use memchr::{memchr, memrchr};
 use mk_bytes::NoMemory;
 
 const MAX_LEN: usize = 1_048_576;
@@ -42,6 +42,38 @@ pub fn check(text: &[u8]) -> Result<(), LineFault>
 {
     // One search of the whole text spares one of each line.
     let zeros = holds_zero(text);
+    // Nearly every text is so, and its lines need not be found here.
+    if !zeros && falls_into_short_pieces(text) {
+        return Ok(());
+    }
+    check_each(zeros, text)
+}
+
+// Whether a text can be cut, behind newlines that end a logical line, into pieces none of which is
+// longer than a line may be. It looks for one place to cut in every 1,048,576 bytes, the last, so
+// its `false` says nothing.
+fn falls_into_short_pieces(text: &[u8]) -> bool
+    ensures { IsTrue result → spec.NoneTooLong text.now }
+{
+    let mut rest = text;
+    while rest.len() > MAX_LEN {
+        let Some(end) = memrchr(b'\n', &rest[..MAX_LEN]) else {
+            return false;
+        };
+        if is_continued(&rest[..end]) {
+            return false;
+        }
+        rest = &rest[end + 1..];
+    }
+    true
+}
+
+// Checks each line of a text. Without `zeros` the text holds no zero byte.
+fn check_each(zeros: bool, text: &[u8]) -> Result<(), LineFault>
+    requires short { length text.now < 2 ^ 32 }
+    requires zeros { zeros ≡ false → spec.holds_zero text.now ≡ false }
+    ensures { result ≡ spec.checked text.now }
+{
     let mut lines = PhysicalLines {
         rest: text,
         done: 0,

@@ -125,6 +125,7 @@ impl<'t> LineCursor<'t> {
 
     /// Takes the next logical line; `None` for good after the last. A line that is one physical
     /// line takes no memory. Where memory runs out, the cursor is left as it was.
+    #[inline(always)]
     pub fn next_line(&mut self, alloc: Global) -> Result<Option<LineRef<'t>>, NoMemory>
         ensures first { IfOk result (λ line. line ≡ slice_get self.old 0) }
         ensures rest { OnOk result (self.new ≡ drop 1 self.old) }
@@ -141,6 +142,7 @@ impl<'t> LineCursor<'t> {
 }
 
 // Reads the logical line that begins with the physical line just taken.
+#[inline(always)]
 fn read_line<'t>(
     alloc: Global,
     lines: &mut PhysicalLines<'t>,

@@ -72,7 +72,7 @@ const LIMIT: usize = 1_048_576;
 
 // What a row shows, what stands before and behind a run of bytes `x`, how long the run is, and
 // what `check` answers.
-const FAULTS: [(&str, Bytes, usize, Bytes, Result<(), LineFault>); 11] = [
+const FAULTS: [(&str, Bytes, usize, Bytes, Result<(), LineFault>); 13] = [
     ("no fault", b"a\\\nb\n", 3, b"\n\n", Ok(())),
     ("a zero byte", b"a\\\n\0", 0, b"", Err(Zero(2))),
     ("two zero bytes", b"a\n\0\n\0", 0, b"", Err(Zero(2))),
@@ -84,6 +84,8 @@ const FAULTS: [(&str, Bytes, usize, Bytes, Result<(), LineFault>); 11] = [
     ("a last backslash does not", b"", LIMIT, b"\\", Ok(())),
     ("a zero on it", b"", LIMIT + 1, b"\\\n\0", Err(Zero(2))),
     ("a zero behind it", b"", LIMIT + 1, b"\n\0", Err(TooLong(1))),
+    ("short lines", b"a\n", LIMIT - 2, b"\nb\n", Ok(())),
+    ("two backslashes end one", b"a\\\\\n", LIMIT, b"", Ok(())),
 ];
 
 fn text_of(alloc: Global, before: &[u8], run: usize, after: &[u8]) -> Result<Vec<u8>, AllocError> {

@@ -11,10 +11,8 @@ returns-then-line-end-eq35 c =
     let line = c.args.line.now in
     let end = c.units.end in
     let run = c.in-Some.skipped in
-    let rest : take (length line - end) (drop end line) ≡ drop end line
-    = take_all _ _ (omega (arith, length-drop end line)) in
     let found : IsFirstByte (is_byte3 hash backslash square_open) (drop end line) (Some run)
-    = rw rest at c.in-Some.ensures in
+    = rw c.in-Some.is at c.units.invariant.found in
     sym (before_comment-end line (end + run) (λ under. c.if-line-end-eq35.true))
     ∙ before_comment-skip line end run found ∙ c.units.invariant.kept
 
@@ -23,10 +21,8 @@ units-preserved c =
     let line = c.args.line.now in
     let end = c.units.end in
     let run = c.in-Some.skipped in
-    let rest : take (length line - end) (drop end line) ≡ drop end line
-    = take_all _ _ (omega (arith, length-drop end line)) in
     let found : IsFirstByte (is_byte3 hash backslash square_open) (drop end line) (Some run)
-    = rw rest at c.in-Some.ensures in
+    = rw c.in-Some.is at c.units.invariant.found in
     let inside : run < length (drop end line) = found.0.high in
     let here : end + run < length line = omega (arith, inside, length-drop end line) in
     let left : take (length line - (end + run)) (drop (end + run) line) ≡ drop (end + run) line
@@ -35,8 +31,12 @@ units-preserved c =
     = rw left at c.unit_len-end.ensures.len in
     let within : c.unit_len-end.result ≤ length (drop (end + run) line)
     = rw left at c.unit_len-end.ensures.within in
+    let later = end + run + c.unit_len-end.result in
+    let rest : take (length line - later) (drop later line) ≡ drop later line
+    = take_all _ _ (omega (arith, length-drop later line)) in
     record {
       within = omega (arith, here, within, length-drop (end + run) line);
+      found = rw rest at c.memchr3-found.ensures;
       kept = before_comment-step line (end + run) _ here c.if-line-end-eq35.false len
           ∙ before_comment-skip line end run found ∙ c.units.invariant.kept;
     }
@@ -45,8 +45,6 @@ pub returns : goal.returns
 returns c =
     let line = c.args.line.now in
     let end = c.units.end in
-    let rest : take (length line - end) (drop end line) ≡ drop end line
-    = take_all _ _ (omega (arith, length-drop end line)) in
     let none : IsFirstByte (is_byte3 hash backslash square_open) (drop end line) None
-    = rw rest at c.in_default.ensures in
+    = rw c.in_default.is at c.units.invariant.found in
     sym (before_comment-rest line end none) ∙ c.units.invariant.kept

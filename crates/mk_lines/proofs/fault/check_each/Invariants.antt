@@ -1,7 +1,7 @@
 use Rattle.std.proofs.Common.{◌≡◌, ◌+◌, false, length}
 use Rattle.mk_lines.specs.Lines.{physical_lines, line_groups}
 use Rattle.mk_lines.specs.Faults.{HoldNoZero, groups_checked, checked}
-use Rattle.mk_lines.proofs.fault.check.Given as goal
+use Rattle.mk_lines.proofs.fault.check_each.Given as goal
 
 -- the lines that are left have the text's first fault, and no zero byte where the text has none
 abbrev pub invariant-loop-line : goal.invariant-loop-line
