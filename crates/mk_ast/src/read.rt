@@ -1,6 +1,6 @@
 //! The parser. It goes forwards only, and each function gives what it read and the bytes behind it.
 //! At most 256 references are open at once, which bounds how deep the functions call one another.
-ghost use Rattle.std.specs.Prelude.{◌+◌, ◌≤◌, length, IfOk};
+ghost use Rattle.std.specs.Prelude.{◌+◌, ◌<◌, ◌≤◌, length, slice_index, drop, IfOk};
 ghost use Rattle.mk_bytes.specs.Agrees.{Agrees};
 ghost use Rattle.mk_ast.specs.Places.{nesting};
 ghost use Rattle.mk_ast.specs.References as references;
@@ -41,8 +41,7 @@ pub fn text_at<'t>(
     let mut place = place;
     let mut rest = text;
     'parts: while !is_over(place, rest) {
-        let behind = skip(rest, 1);
-        let (part, next, left) = part_at(alloc, level, place, rest[0], behind)?;
+        let (part, next, left) = part_at(alloc, level, place, rest)?;
         tree.push(part)?;
         place = next;
         rest = left;
@@ -50,31 +49,33 @@ pub fn text_at<'t>(
     Ok((tree, rest))
 }
 
-// A part that begins with `first`, and the place behind it.
+// The part that a text begins with, and the place behind it.
 #[cycle(read)]
 fn part_at<'t>(
     alloc: Global,
     level: Level,
     place: Place,
-    first: u8,
     text: &'t [u8],
 ) -> Result<(Part, Place, &'t [u8]), AstFault>
-    requires { nesting place + length text.now + 1 ≤ level.total }
+    requires some { 0 < length text.now }
+    requires counted { nesting place + length text.now ≤ level.total }
     ensures gives { Agrees no_memory (λ x. (part_view x.0, x.1, x.2.now)) result
-        (texts.part_at (references.ref_at level.total level.depth) place first text.now) }
-    ensures shorter { IfOk result (λ x. length x.2.now ≤ length text.now) }
+        (texts.part_at (references.ref_at level.total level.depth) place (slice_index text.now 0)
+        (drop 1 text.now)) }
+    ensures shorter { IfOk result (λ x. length x.2.now < length text.now) }
     ensures nesting { IfOk result (λ x.
-        nesting x.1 + length x.2.now ≤ nesting place + length text.now + 1) }
+        nesting x.1 + length x.2.now ≤ nesting place + length text.now) }
 {
+    let first = text[0];
+    let behind = &text[1..];
     if first == b'$' {
-        let (part, rest) = dollar_at(alloc, level, place, text)?;
+        let (part, rest) = dollar_at(alloc, level, place, behind)?;
         return Ok((part, after(place, first), rest));
     }
-    if is_escape(place, first, text) {
-        return Ok((Part::Escaped(text[0]), after(place, first), skip(text, 1)));
+    if is_escape(place, first, behind) {
+        return Ok((Part::Escaped(behind[0]), after(place, first), &behind[1..]));
     }
-    let (part, next, rest) = plain_at(alloc, place, first, text)?;
-    Ok((part, next, rest))
+    plain_at(alloc, place, text)
 }
 
 /// What a `$` begins, behind it.

@@ -1,5 +1,5 @@
 //! Runs of plain bytes.
-ghost use Rattle.std.specs.Prelude.{◌≡◌, ◌+◌, ◌^◌, ◌<◌, ◌≤◌, true, length, take, drop, IfOk};
+ghost use Rattle.std.specs.Prelude.{◌≡◌, ◌+◌, ◌^◌, ◌<◌, ◌≤◌, true, length, slice_index, take, drop, IfOk};
 ghost use Rattle.mk_bytes.specs.Agrees.{Agrees};
 ghost use Rattle.mk_ast.specs.Places as places;
 ghost use Rattle.mk_ast.specs.Places.{nesting};
@@ -8,7 +8,7 @@ ghost use Rattle.mk_ast.specs.View.{part_view};
 ghost use Rattle.mk_ast.specs.declared.fault.AstFault.TheVariants.{NoMemory as no_memory};
 
 use crate::fault::AstFault;
-use crate::place::{Place, after, is_escape, is_over};
+use crate::place::{Piece, Place, after, is_escape, is_over};
 use crate::row::skip;
 use crate::tree::Part;
 use mk_bytes::Text;
@@ -28,7 +28,8 @@ fn begins_plain(place: Place, text: &[u8]) -> bool
 }
 
 // How many plain bytes a text begins with, and the place behind them.
-fn plain_run(place: Place, text: &[u8]) -> (usize, Place)
+#[inline(always)]
+fn run_from(place: Place, text: &[u8]) -> (usize, Place)
     requires { nesting place + length text.now < 2 ^ 64 }
     ensures run { spec.plain_run place text.now
         ≡ (take result.0 text.now, result.1, drop result.0 text.now) }
@@ -44,6 +45,25 @@ fn plain_run(place: Place, text: &[u8]) -> (usize, Place)
     (len, place)
 }
 
+// The same. Each place of many texts has a search of its own, which does not ask for the place at
+// every byte.
+fn plain_run(place: Place, text: &[u8]) -> (usize, Place)
+    requires { nesting place + length text.now < 2 ^ 64 }
+    ensures run { spec.plain_run place text.now
+        ≡ (take result.0 text.now, result.1, drop result.0 text.now) }
+    ensures within { result.0 ≤ length text.now }
+    ensures nesting { nesting result.1 ≤ nesting place + result.0 }
+{
+    match place {
+        Place::Whole => run_from(Place::Whole, text),
+        Place::Name { round, nested } => run_from(Place::Name { round, nested }, text),
+        Place::Piece(Piece::Word) => run_from(Place::Piece(Piece::Word), text),
+        Place::Piece(Piece::Quoted) => run_from(Place::Piece(Piece::Quoted), text),
+        Place::Piece(Piece::Argument) => run_from(Place::Piece(Piece::Argument), text),
+        _ => run_from(place, text),
+    }
+}
+
 /// Whether a `$` before this byte is itself.
 pub fn is_lone_before(byte: u8) -> bool
     ensures { result ≡ spec.is_lone_before byte }
@@ -51,24 +71,24 @@ pub fn is_lone_before(byte: u8) -> bool
     byte == b' ' || byte == b'\t' || byte == b'\n' || byte == b')' || byte == b'}' || byte == b':'
 }
 
-/// The plain bytes from `first` on, with the place behind them.
+/// The plain bytes from the first byte on, with the place behind them.
 #[tactic(auto, using(crate::proofs::Views::views))]
 pub fn plain_at<'t>(
     alloc: Global,
     place: Place,
-    first: u8,
     text: &'t [u8],
 ) -> Result<(Part, Place, &'t [u8]), AstFault>
-    requires { nesting place + length text.now + 1 < 2 ^ 64 }
-    ensures gives { Agrees no_memory (λ x. (part_view x.0, x.1, x.2.now)) result
+    requires some { 0 < length text.now }
+    requires counted { nesting place + length text.now < 2 ^ 64 }
+    ensures gives { let first = slice_index text.now 0 in
+        Agrees no_memory (λ x. (part_view x.0, x.1, x.2.now)) result
         (Ok (spec.plain_part (spec.with_first first (spec.plain_run (places.after place first)
-        text.now)))) }
-    ensures shorter { IfOk result (λ x. length x.2.now ≤ length text.now) }
+        (drop 1 text.now))))) }
+    ensures shorter { IfOk result (λ x. length x.2.now < length text.now) }
     ensures nesting { IfOk result (λ x.
-        nesting x.1 + length x.2.now ≤ nesting place + length text.now + 1) }
+        nesting x.1 + length x.2.now ≤ nesting place + length text.now) }
 {
-    let (len, next) = plain_run(after(place, first), text);
-    let mut plain = Text::new(alloc);
-    plain.push_both(&[first], &text[..len])?;
-    Ok((Part::Plain(plain), next, &text[len..]))
+    let (len, next) = plain_run(after(place, text[0]), &text[1..]);
+    let (plain, rest) = text.split_at(len + 1);
+    Ok((Part::Plain(Text::from_bytes(alloc, plain)?), next, rest))
 }

@@ -144,7 +144,7 @@ read::text_at-returns-in_err-part-clause-gives t c =
     let more = text_at-more refs c.parts.place i.0 s i.1
     (sym c.is_over.ensures.same ∙ c.parts-test.true) in
     let one : AgreesErr no_memory fault (part_at refs c.parts.place (slice_index s 0) (drop 1 s)) =
-    rw (← c.skip-behind.ensures) c.in_err-part.ensures.gives in
+    c.in_err-part.ensures.gives in
     rw (is.1, is.2, i.2, more)
     (AgreesErr-bind no_memory fault _ _ (AgreesErr-bind no_memory fault _ _ one))
 
@@ -157,10 +157,8 @@ read::text_at-parts-preserved t c =
     let parts = c.parts.tree in
     let refs = ref_at c.args.level.total c.args.level.depth in
     let next = text_at refs c.in_ok-part.next (i.0 - 1) left in
-    let some : 0 < length s = c.is_over.ensures.some c.parts-test.true in
     let one : part_at refs c.parts.place (slice_index s 0) (drop 1 s)
-    ≡ Ok (part_view p, c.in_ok-part.next, left) =
-    rw (← c.skip-behind.ensures) c.in_ok-part.ensures.gives in
+    ≡ Ok (part_view p, c.in_ok-part.next, left) = c.in_ok-part.ensures.gives in
     let more = text_at-more refs c.parts.place i.0 s i.1
     (sym c.is_over.ensures.same ∙ c.parts-test.true) in
     let turn : text_at refs c.parts.place i.0 s ≡ (next >>= λ t. Ok (part (part_view p) t.0, t.1)) =
@@ -169,17 +167,14 @@ read::text_at-parts-preserved t c =
     ≡ tree_append (tree_view parts) (part (part_view p) end) =
     rw c.in_ok-push.ensures.ok (tree_view-append parts (p ∷ [])) in
     let shorter = c.in_ok-part.ensures.shorter in
-    let nests = c.in_ok-part.ensures.nesting in
-    let behind : length left ≤ length (drop 1 s) = rw (← c.skip-behind.ensures) shorter in
-    let dropped : length c.skip-behind.result.now ≡ length s - 1 = ap length c.skip-behind.ensures
-    ∙ length-drop 1 s in (
+    let nests = c.in_ok-part.ensures.nesting in (
       i.0 - 1,
-      omega (arith, i.1, behind, length-drop 1 s),
+      omega (arith, i.1, shorter),
       i.2 ∙ ap (after_parts (tree_view parts)) turn
           ∙ after_parts-more (tree_view parts) (part_view p) next
           ∙ ap (λ v. after_parts v next) (sym pushed),
-      omega (arith, i.3, behind, length-drop 1 s),
-      omega (arith, i.4, nests, dropped, some),
+      omega (arith, i.3, shorter),
+      omega (arith, i.4, nests),
     )
 
 pub read::text_at-returns-clause-gives : goal.read::text_at-returns-clause-gives

@@ -2,7 +2,7 @@ use Rattle.std.proofs.Common.{◌≡◌, ◌+◌, ◌-◌, ◌≤◌, length, ta
 use Rattle.mk_ast.specs.Places.{nesting}
 use Rattle.mk_ast.specs.Text.{plain_run}
 use Rattle.mk_ast.proofs.Runs.{behind}
-use Rattle.mk_ast.proofs.run.plain_run.Given as goal
+use Rattle.mk_ast.proofs.run.run_from.Given as goal
 
 -- the run is the bytes so far and the run of the rest; each byte nests at most one opener
 abbrev pub invariant-run : goal.invariant-run
