@@ -6,6 +6,9 @@ use std::marker::Model;
 
 const MAX_LEN: usize = 0xffff_ffff;
 
+// The bytes that every region begins with.
+const START: &[u8] = b"./";
+
 /// Where a text lies in a region: from the byte at `start` to before the byte at `end`.
 #[derive(Clone, Copy, Debug, PartialEq, Eq)]
 pub struct Piece {
@@ -14,38 +17,55 @@ pub struct Piece {
 }
 
 /// One region of bytes, in which all texts of one expansion lie. It begins with the bytes `./`, so
-/// that these two texts always have a piece, and stays below 2^32 bytes. Contracts see its `bytes`,
-/// and in `spare` how many more it takes without asking for memory.
+/// that these two texts always have a piece, and stays below 2^32 bytes. It has no memory before
+/// the first room is made. Contracts see its `bytes`, and in `spare` how many more it takes without
+/// asking for memory.
 #[derive(Debug, Drop)]
 pub struct Region {
+    // None at all while the region is fresh: `./` are written when the first room is made.
     bytes: Vec<u8>,
-    // How many bytes it may hold before it has to ask for memory.
-    room: usize,
+    // How many more bytes it takes before it has to ask for memory.
+    spare: usize,
 }
 
 impl Model for Region {
-    ghost use Rattle.std.specs.Prelude.{◌-◌, vec_len, vec_capacity};
-    ghost use Rattle.mk_pool.specs.Region.{Contents, IsRegion};
+    ghost use Rattle.std.specs.Prelude.{vec_capacity};
+    ghost use Rattle.mk_pool.specs.Region.{Contents, IsRegion, bytes_of};
 
     ghost Value = { Contents };
 
     ghost view = { λ region. record {
-      bytes = region.bytes.items;
-      spare = region.room - vec_len region.bytes;
+      bytes = bytes_of region.bytes.items;
+      spare = region.spare;
     } };
 
     ghost invariant = { λ region.
-        IsRegion region.bytes.items region.room (vec_capacity region.bytes) };
+        IsRegion region.bytes.items region.spare (vec_capacity region.bytes) };
 }
 
 impl Region {
-    /// A region of the two bytes `./`, unless memory runs out.
+    /// A region of the two bytes `./`. Takes no memory, and so always succeeds.
     pub fn new(alloc: Global) -> Result<Region, NoMemory>
-        ensures { IfOk result (λ region. region.bytes ≡ codes "./") }
+        ensures bytes { IfOk result (λ region. region.bytes ≡ codes "./") }
+        ensures succeeds { IsOk result }
     {
-        let bytes = Vec::from_slice(alloc, b"./")?;
-        let room = bytes.len();
-        Ok(Region { bytes, room })
+        Ok(Region {
+            bytes: Vec::new(alloc),
+            spare: 0,
+        })
+    }
+
+    // The bytes, of which a fresh region has none in memory.
+    fn as_slice(&self) -> &[u8]
+        ensures value { result.now ≡ self.now.bytes }
+        ensures begins { take 2 self.now.bytes ≡ codes "./" }
+        ensures short { length self.now.bytes + self.now.spare < 2 ^ 32 }
+    {
+        if self.bytes.is_empty() {
+            START
+        } else {
+            self.bytes.as_slice()
+        }
     }
 
     /// How many bytes it has. Takes no memory.
@@ -54,7 +74,7 @@ impl Region {
         ensures begins { take 2 self.now.bytes ≡ codes "./" }
         ensures short { length self.now.bytes + self.now.spare < 2 ^ 32 }
     {
-        self.bytes.len()
+        self.as_slice().len()
     }
 
     /// The bytes of a piece. Takes no memory.
@@ -63,7 +83,7 @@ impl Region {
         requires within { piece.end ≤ length self.now.bytes }
         ensures { result.now ≡ slice_range self.now.bytes piece.start piece.end }
     {
-        &self.bytes.as_slice()[piece.start..piece.end]
+        &self.as_slice()[piece.start..piece.end]
     }
 
     /// Makes room for `n` more bytes. It is refused where memory runs out or the region could reach
@@ -77,12 +97,20 @@ impl Region {
         // Where the room is there, no memory is needed.
         ensures succeeds { n ≤ self.old.spare → IsOk result }
     {
-        let len = self.bytes.len();
+        if n <= self.spare {
+            return Ok(());
+        }
+        let len = self.len();
         if n > MAX_LEN - len {
             return Err(NoMemory);
         }
-        self.bytes.reserve(n)?;
-        self.room = self.bytes.capacity().min(MAX_LEN);
+        if self.bytes.is_empty() {
+            self.bytes.reserve(START.len() + n)?;
+            self.bytes.extend_from_slice(START).unwrap();
+        } else {
+            self.bytes.reserve(n)?;
+        }
+        self.spare = self.bytes.capacity().min(MAX_LEN) - len;
         Ok(())
     }
 
@@ -94,11 +122,12 @@ impl Region {
         ensures bytes { self.new.bytes ≡ self.old.bytes ++ bytes.now }
         ensures spare { self.new.spare + length bytes.now ≡ self.old.spare }
     {
-        let start = self.bytes.len();
+        let start = self.len();
         self.bytes.extend_from_slice(bytes).unwrap();
+        self.spare -= bytes.len();
         Piece {
             start,
-            end: self.bytes.len(),
+            end: start + bytes.len(),
         }
     }
 
@@ -109,6 +138,7 @@ impl Region {
         ensures bytes { self.new.bytes ≡ take len self.old.bytes }
         ensures spare { self.new.spare ≡ self.old.spare + (length self.old.bytes - len) }
     {
+        self.spare += self.len() - len;
         self.bytes.truncate(len);
     }
 }
