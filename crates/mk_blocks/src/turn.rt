@@ -65,6 +65,9 @@ pub fn changed_text(
     ensures { IfOk result (λ changed.
         text_or changed text.now ≡ spec.in_turns (turns_in loops.now) text.now) }
 {
+    if loops.as_slice().is_empty() {
+        return Ok(None);
+    }
     if !has_dollar(text) {
         return Ok(None);
     }

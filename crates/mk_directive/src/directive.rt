@@ -38,7 +38,7 @@ pub struct Directed<'t> {
 fn is_word_byte(byte: u8) -> bool
     ensures { result ≡ spec.is_word_byte byte }
 {
-    matches!(byte, b'a'..=b'z' | b'-')
+    byte.is_ascii_lowercase() || byte == b'-'
 }
 
 fn word_len(text: &[u8]) -> usize
@@ -147,6 +147,7 @@ fn named(word: &[u8]) -> Option<Directive>
 }
 
 // The directive that a text begins with, behind the dot and its blanks.
+#[inline(always)]
 fn behind_dot<'t>(text: &'t [u8]) -> Option<Directed<'t>>
     ensures { option_map (λ d. (d.directive, d.argument.now)) result ≡ spec.behind_dot text.now }
 {
@@ -164,6 +165,8 @@ fn behind_dot<'t>(text: &'t [u8]) -> Option<Directed<'t>>
 /// The directive that a line is, without its comment and leading spaces: it begins with `.`, then
 /// come blanks if any, then the word of a directive, which no byte of a name follows. `None` for
 /// every other line. A comment behind the word does not change the directive. Takes no memory.
+// Most callers need the directive alone, and then the rest is not computed.
+#[inline(always)]
 pub fn directive_on<'t>(line: &'t [u8]) -> Option<Directed<'t>>
     ensures { option_map (λ d. (d.directive, d.argument.now)) result ≡ spec.directive_on line.now }
 {

@@ -1,5 +1,5 @@
 -- How assignments change variables (make(1), "VARIABLE ASSIGNMENTS").
-use Rattle.std.specs.Prelude.{ℕ, ◌-◌, ◌==◌, true, false, is_some, nat_eq, List, [], ◌∷◌, length, map, take}
+use Rattle.std.specs.Prelude.{ℕ, ◌-◌, ◌==◌, ◌&&◌, Bool, true, false, not, is_some, nat_eq, nat_le, List, [], ◌∷◌, length, map, take}
 use Rattle.std.specs.Prelude.{if◌then◌else◌}
 use Rattle.std.specs.List.{ends_with}
 use Rattle.mk_blocks.specs.Outcomes.{refused, ◌>>=◌}
@@ -7,6 +7,8 @@ use Rattle.mk_bytes.specs.Bytes.{newline, space}
 use Rattle.mk_cli.specs.declared.order.AssignOp.{AssignOp}
 use Rattle.mk_cli.specs.declared.order.AssignOp.TheVariants.{Plain, Append, Default, Now, Shell}
 use Rattle.mk_directive.specs.Words.{words_of}
+use Rattle.mk_expand.specs.Limits.{max_text}
+use Rattle.mk_expand.specs.Texts.{has_dollar}
 use Rattle.mk_scopes.specs.Scopes.{Variables, raw_value, assigned_in, appended_in, without_global}
 use Rattle.mk_scopes.specs.declared.scopes.Class.{Class}
 use Rattle.mk_reader.specs.Moments.{Doing, Moment, given, stands, with_variables}
@@ -17,6 +19,12 @@ use Rattle.mk_reader.specs.declared.fault.What.TheVariants.{EmptyName}
 abbrev pub not_empty : List ℕ → Moment → Doing (List ℕ)
 not_empty [] s = refused EmptyName
 not_empty (byte ∷ name) s = given (byte ∷ name) s
+
+-- A name that is its own value: it has no `$`, and is no longer than values may be.
+abbrev pub is_own_value : List ℕ → Bool
+is_own_value [] = false
+is_own_value (byte ∷ name) =
+    nat_le (length (byte ∷ name)) max_text && not (has_dollar (byte ∷ name))
 
 -- the name of a variable is expanded, and something has to be left of it
 abbrev pub variable_name : Answers → List ℕ → Moment → Doing (List ℕ)

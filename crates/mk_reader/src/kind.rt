@@ -76,6 +76,7 @@ fn command_kind(command: &[u8]) -> LineKind
 }
 
 // A line that is no command, without its leading spaces.
+#[inline(always)]
 fn plain_kind(line: &[u8]) -> LineKind
     ensures { result ≡ spec.plain_kind line.now }
 {
@@ -90,6 +91,7 @@ fn plain_kind(line: &[u8]) -> LineKind
 
 /// What a logical line is for the blocks of its file: what its directive says, and else a line that
 /// counts where it is something. Takes no memory.
+#[inline(always)]
 pub fn line_kind(text: &[u8]) -> LineKind
     ensures { result ≡ spec.line_kind text.now }
 {

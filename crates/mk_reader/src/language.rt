@@ -28,6 +28,7 @@ impl<'a, W: World, S: Sink> Language for Reader<'a, W, S> {
 
     ghost ties = { reader_ties (outer W.meaning W.history W.faults W.runs S.held S.faults) };
 
+    #[inline(always)]
     fn kind(&self, text: &[u8]) -> LineKind {
         line_kind(text)
     }

@@ -13,6 +13,19 @@ use mk_scopes::{Class, Scopes};
 use mk_world::{Sink, World};
 use std::alloc::Global;
 
+// The most bytes of a name that is its own value for certain.
+const MAX_NAME: usize = 4_194_304;
+
+// Whether a name is its own value for certain, and names a variable.
+fn is_own_value(name: &[u8]) -> bool
+    ensures { result ≡ spec.is_own_value name.now }
+{
+    match name {
+        [] => false,
+        [_, ..] => name.len() <= MAX_NAME && !name.contains(&b'$'),
+    }
+}
+
 fn as_space(byte: u8) -> u8
     ensures { result ≡ spec.as_space byte }
 {
@@ -171,7 +184,8 @@ impl<'a, W: World, S: Sink> Reader<'a, W, S> {
         }
     }
 
-    /// An assignment, whose name is expanded first: `EmptyName` where nothing is left of it.
+    /// An assignment, whose name is expanded first: `EmptyName` where nothing is left of it. Nearly
+    /// all names are their own values, and are not copied.
     pub fn assign(
         &mut self,
         alloc: Global,
@@ -184,6 +198,9 @@ impl<'a, W: World, S: Sink> Reader<'a, W, S> {
             self.old self.new (λ done. done) result
             (λ answers. spec.assigned_by answers class op name.now text.now) }
     {
+        if is_own_value(name) {
+            return self.set_by(alloc, class, op, name, text);
+        }
         let name = self.variable_name(alloc, name)?;
         self.set_by(alloc, class, op, name.bytes(), text)
     }

@@ -38,6 +38,10 @@ impl Table {
     pub fn get(&self, name: &[u8]) -> Option<&Text>
         ensures { option_copied result ≡ spec.value_in self.now name.now }
     {
+        // The command line sets nothing most of the time.
+        if self.values.is_empty() {
+            return None;
+        }
         self.values.get(name)
     }
 

@@ -1,6 +1,8 @@
+use Rattle.std.proofs.Common.{refl, sym, ◌∙◌}
 use Rattle.std.proofs.lemmas.Result.{err_from_is_err_and}
 use Rattle.mk_reader.specs.Variables.{set_by}
-use Rattle.mk_reader.proofs.StepLemmas.{then-fault, then-given}
+use Rattle.mk_reader.proofs.StepLemmas.{given-as, then-fault, then-given}
+use Rattle.mk_reader.proofs.VariableLemmas.{variable_name-own}
 use Rattle.mk_reader.proofs.reader.Reader.assign.Goals as goal
 
 pub returns-in_err-name : goal.returns-in_err-name
@@ -11,4 +13,10 @@ returns-in_err-name g c =
 pub returns : goal.returns
 returns g c =
     then-given _ (λ answers is. set_by answers c.args.class c.args.op is.0 c.args.text.now is.1) c.in_ok-name.ensures
-    (rw (← c.bytes.ensures.value) c.set_by.ensures)
+    (rw (← c.bytes.ensures.value) c.set_by-2.ensures)
+
+pub returns-then-is_own_value : goal.returns-then-is_own_value
+returns-then-is_own_value g c =
+    given-as _ _ _ _ _ _
+    (λ answers. rw (variable_name-own answers c.args.name.now _ (sym c.is_own_value.ensures ∙ c.if-is_own_value.true)) refl)
+    c.set_by.ensures
