@@ -1,12 +1,11 @@
 //! Children: shells that run one command each.
 ghost use Rattle.std.specs.Prelude.{◌≡◌, ◌<◌, length, IfOk, IfSome};
 
-use crate::file::{file_bytes, remove_file};
+use crate::file::{file_text, remove_file};
 use crate::refusal::Refusal;
 use crate::script::{ChildFiles, Streams, script};
 use mk_bytes::Text;
 use mk_world::{Cmd, Ended, Kids, Ticket};
-use std::alloc::Global;
 use std::fs::Files;
 use std::marker::Model;
 use std::process::{Child, Command, ExitStatus, OpenProcess, Processes};
@@ -75,11 +74,10 @@ impl<P: OpenProcess + Drop> RealKid<P> {
     }
 
     // What it printed. Its files are removed; a command that removed that one itself is refused.
-    fn output<R: Files + AllocGlobal>(&self, rt: &R, alloc: Global) -> Result<Text, Refusal> {
-        let Some(bytes) = file_bytes(rt, self.files.output.bytes())? else {
+    fn output<R: Files + AllocGlobal>(&self, rt: &R) -> Result<Text, Refusal> {
+        let Some(output) = file_text(rt, self.files.output.bytes())? else {
             return Err(Refusal::Outside);
         };
-        let output = Text::from_bytes(alloc, bytes.as_slice())?;
         remove_file(rt, self.files.output.bytes())?;
         remove_file(rt, self.files.log.bytes())?;
         Ok(output)
@@ -164,7 +162,6 @@ fn one_ended<R: Clock, P: OpenProcess + Drop>(
 #[tactic(auto, using(crate::proofs::KidLemmas::with_kid_unseen))]
 pub fn wait_over<R: Files + Clock + AllocGlobal, P: OpenProcess + Drop>(
     rt: &R,
-    alloc: Global,
     kids: &mut Kids<RealKid<P>>,
 ) -> Result<Over, Refusal>
     requires { 0 < length kids.old.tickets }
@@ -172,7 +169,7 @@ pub fn wait_over<R: Files + Clock + AllocGlobal, P: OpenProcess + Drop>(
     ensures place { IfOk result (λ over. over.place < length kids.old.tickets) }
 {
     let found = one_ended(rt, kids)?;
-    let output = kids.kid(found.place).output(rt, alloc)?;
+    let output = kids.kid(found.place).output(rt)?;
     Ok(Over {
         place: found.place,
         status: found.status,
@@ -181,18 +178,14 @@ pub fn wait_over<R: Files + Clock + AllocGlobal, P: OpenProcess + Drop>(
 }
 
 /// Runs a command to its end. Standard error is that of make.
-pub fn run<R: Processes + Files + AllocGlobal>(
-    rt: &R,
-    alloc: Global,
-    cmd: &Cmd,
-) -> Result<Ended, Refusal>
+pub fn run<R: Processes + Files + AllocGlobal>(rt: &R, cmd: &Cmd) -> Result<Ended, Refusal>
     ensures { IfOk result (λ ended. ended.ticket.0 ≡ 0) }
 {
     let mut kid = RealKid::start(rt, Streams::OutputAlone, Ticket(0), cmd)?;
     Ok(Ended {
         ticket: Ticket(0),
         status: kid.wait()?,
-        output: kid.output(rt, alloc)?,
+        output: kid.output(rt)?,
         records: None,
     })
 }

@@ -1,5 +1,6 @@
 //! Single files, by their paths.
 use crate::refusal::Refusal;
+use mk_bytes::Text;
 use mk_world::{Time, When};
 use std::fs::Files;
 use std::io::{Error, ErrorKind, Read};
@@ -9,14 +10,32 @@ use std::{fs, str};
 // A file above 64 MiB counts as a fault.
 const MAX_FILE: usize = 67_108_864;
 
+// How many bytes are asked for at once.
+const CHUNK: usize = 65_536;
+
 // Whether an error says that there is no file: below a plain file there is none either.
 fn is_missing(error: &Error) -> bool {
     error.kind() == ErrorKind::NotFound || error.kind() == ErrorKind::NotADirectory
 }
 
+// All bytes of a reader, of which there are no more than a file may have.
+fn read_all<R: AllocGlobal, F: Read>(rt: &R, file: &mut F) -> Result<Text, Refusal> {
+    let mut text = Text::new(rt.alloc());
+    let mut chunk = Vec::with_capacity(rt.alloc(), CHUNK)?;
+    for _ in 0..=MAX_FILE / CHUNK {
+        chunk.clear();
+        file.by_ref().take(CHUNK as u64).read_to_end(&mut chunk)?;
+        text.push(chunk.as_slice())?;
+        if chunk.len() < CHUNK && text.len() <= MAX_FILE {
+            return Ok(text);
+        }
+    }
+    Err(Refusal::Outside)
+}
+
 /// The bytes of a file, or `None` where it is missing.
-pub fn file_bytes<R: Files + AllocGlobal>(rt: &R, path: &[u8]) -> Result<Option<Vec<u8>>, Refusal> {
-    let file = match fs::open(rt, str::from_utf8(path)?) {
+pub fn file_text<R: Files + AllocGlobal>(rt: &R, path: &[u8]) -> Result<Option<Text>, Refusal> {
+    let mut file = match fs::open(rt, str::from_utf8(path)?) {
         Ok(file) => file,
         Err(error) => {
             if is_missing(&error) {
@@ -25,12 +44,7 @@ pub fn file_bytes<R: Files + AllocGlobal>(rt: &R, path: &[u8]) -> Result<Option<
             return Err(Refusal::from(error));
         }
     };
-    let mut bytes = Vec::new(rt.alloc());
-    file.take(MAX_FILE as u64 + 1).read_to_end(&mut bytes)?;
-    if bytes.len() > MAX_FILE {
-        return Err(Refusal::Outside);
-    }
-    Ok(Some(bytes))
+    Ok(Some(read_all(rt, &mut file)?))
 }
 
 /// The time of a file or directory.

@@ -1,7 +1,7 @@
 ghost use Rattle.std.specs.Prelude.{◌≡◌, IfOk};
 
 use crate::child::{RealKid, run, wait_over};
-use crate::file::{file_bytes, file_time, remove_file};
+use crate::file::{file_text, file_time, remove_file};
 use crate::refusal::{Refusal, counted};
 use crate::script::Streams;
 use mk_bytes::{NoMemory, Text};
@@ -28,18 +28,6 @@ impl<R: Files + Processes + Clock + AllocGlobal> RealWorld<R> {
     }
 }
 
-// The bytes of a file as a text, or `None` where it is missing.
-fn text_of<R: Files + AllocGlobal>(
-    rt: &R,
-    alloc: Global,
-    path: &[u8],
-) -> Result<Option<Text>, Refusal> {
-    match file_bytes(rt, path)? {
-        Some(bytes) => Ok(Some(Text::from_bytes(alloc, bytes.as_slice())?)),
-        None => Ok(None),
-    }
-}
-
 impl<R: Files + Processes + Clock + AllocGlobal> World for RealWorld<R> {
     ghost use Rattle.std.specs.Prelude.{None};
     ghost use Rattle.mk_world.specs.Untold.{untold};
@@ -59,9 +47,9 @@ impl<R: Files + Processes + Clock + AllocGlobal> World for RealWorld<R> {
 
     /// The bytes of a file. A directory, an unreadable file, one above 64 MiB and a path that is
     /// not UTF-8 are counted faults; a path below a plain file is a missing file.
-    fn read(&mut self, alloc: Global, path: &[u8]) -> Result<Option<Text>, WorldFault> {
-        match text_of(&self.rt, alloc, path) {
-            Ok(bytes) => Ok(bytes),
+    fn read(&mut self, _: Global, path: &[u8]) -> Result<Option<Text>, WorldFault> {
+        match file_text(&self.rt, path) {
+            Ok(text) => Ok(text),
             Err(refusal) => Err(counted(refusal, &mut self.faults)),
         }
     }
@@ -84,8 +72,8 @@ impl<R: Files + Processes + Clock + AllocGlobal> World for RealWorld<R> {
 
     /// Runs `sh -c` with the command to its end. Standard error is that of make, and what is printed
     /// on standard output goes through a file of the current directory, as in `start`.
-    fn ask(&mut self, alloc: Global, cmd: &Cmd) -> Result<Ended, WorldFault> {
-        match run(&self.rt, alloc, cmd) {
+    fn ask(&mut self, _: Global, cmd: &Cmd) -> Result<Ended, WorldFault> {
+        match run(&self.rt, cmd) {
             Ok(ended) => Ok(ended),
             Err(refusal) => Err(counted(refusal, &mut self.faults)),
         }
@@ -117,10 +105,10 @@ impl<R: Files + Processes + Clock + AllocGlobal> World for RealWorld<R> {
     /// a counted fault.
     fn wait_any(
         &mut self,
-        alloc: Global,
+        _: Global,
         kids: &mut Kids<RealKid<R::Started>>,
     ) -> Result<Ended, WorldFault> {
-        match wait_over(&self.rt, alloc, kids) {
+        match wait_over(&self.rt, kids) {
             Ok(over) => {
                 let (ticket, _) = kids.take(over.place);
                 Ok(Ended {
