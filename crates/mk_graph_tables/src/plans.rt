@@ -1,11 +1,12 @@
 //! Plans over whole graphs, over a world in memory.
-ghost use Rattle.std.specs.Prelude.{[]};
+ghost use Rattle.std.specs.Prelude.{◌≡◌, []};
 ghost use Rattle.mk_world.specs.History.{state_of, tickets_of};
 
 use crate::graphs::{Part, graph_of};
 use crate::suffixes::{texts, world};
-use mk_bytes::{Items, Kind, NoMemory, Text, is_clean_directory};
+use mk_bytes::{Items, Kind, NoMemory, Text, Texts, is_clean_directory};
 use mk_graph::{Attr, Graph, Made, Mode};
+use mk_memworld::MemWorld;
 use mk_plan::{Nodes, Plan, PlanFault, make_plan};
 use mk_pool::PoolFault;
 use mk_scopes::{Env, Scopes};
@@ -389,6 +390,22 @@ fn refusal(alloc: Global, fault: &PlanFault) -> Result<Text, NoMemory> {
     }
 }
 
+// The plan of a graph in a world that runs no child, or its refusal, as a text.
+fn told_in(
+    alloc: Global,
+    made: &Made,
+    requested: &Texts,
+    query: bool,
+    memory: &mut MemWorld,
+) -> Result<Text, NoMemory>
+    requires { tickets_of (state_of memory.old.chronicle).children ≡ [] }
+{
+    match make_plan(alloc, made, requested, query, memory) {
+        Ok(plan) => shown(alloc, &plan),
+        Err(fault) => refusal(alloc, &fault),
+    }
+}
+
 // The plan of a graph, or its refusal, as a text.
 fn told(
     rt: &impl Abort,
@@ -400,10 +417,7 @@ fn told(
 ) -> Result<Text, NoMemory> {
     let requested = texts(alloc, requested)?;
     let mut memory = world(rt, alloc, files, Items::new(alloc, 0)?)?;
-    match make_plan(alloc, made, &requested, query, &mut memory) {
-        Ok(plan) => shown(alloc, &plan),
-        Err(fault) => refusal(alloc, &fault),
-    }
+    told_in(alloc, made, &requested, query, &mut memory)
 }
 
 #[test]
