@@ -53,6 +53,10 @@ fi
 
 outside=$'bmake: an outside call failed\n'
 
+row shows='each option that is built stands in the text of --help' \
+    run='"$program" --help | sed -n "s/^  -\([A-Za-z]\) .*/\1/p" | tr -d "\n"' \
+    out='fImDVvejBkSis'
+
 row shows='a command writes its target' \
     makefile=$'t:\n\techo hi > t\n' \
     out=$'echo hi > t\n' \

@@ -21,6 +21,12 @@ const HELP: &[u8] = b"usage: bmake [options] [NAME=VALUE ..] [TARGET ..]
   -V NAME      print the raw value of this variable, or a text with a $ expanded
   -v NAME      print the expanded value of this variable, or a text with a $ expanded
   -e           the environment stands above the makefiles' variables
+  -j N         run up to N jobs at once, 1 to 256; without -j, one
+  -B           run one job at a time, whatever -j says
+  -k           after a failure still make what does not need it
+  -S           stop at the first failure: undoes a -k before it
+  -i           pass over commands that fail
+  -s           do not print commands before they run
   --           the words after it are no options
   NAME=VALUE   set this variable above all others; also with +=, ?= and :=
   TARGET       make this target; without one, the makefile's first is made
