@@ -6,7 +6,7 @@ use Rattle.mk_memworld.specs.Endings.{ended_by, told_by}
 use Rattle.mk_memworld.specs.Rest.{doing_of}
 use Rattle.mk_memworld.specs.Running.{AddsSteps, IsRest}
 use Rattle.mk_memworld.specs.Schedule.{course_after, next_taken, taken_in}
-use Rattle.mk_memworld.specs.Turned.{HasFailed, IsTooShort, turned}
+use Rattle.mk_memworld.specs.Turned.{HasFailed, IsTooShort, changes_to_end, turned}
 use Rattle.mk_memworld.proofs.EndingLemmas.{Taken, Taken-ended_by}
 use Rattle.mk_memworld.proofs.EnterLemmas.{Entered, HasFailed-is, IsTooShort-is, changes-are, course-is, long_enough, next_taken-is, turned-is}
 use Rattle.mk_memworld.proofs.WorldLemmas.{FailsWhere-passed, OnFailed-passed, TakenOut-at, either, held_by, neither}
@@ -22,52 +22,47 @@ rest-requires-clause-held c =
     held_by c.ticket-ticket.result.0 place (state_of c.next.new.self.chronicle).children
     (ap (λ ks. slice_get ks place) (ap (λ h. tickets_of (state_of h).children) c.next.ensures.history ∙ c.requires.exact) ∙ at)
 
+-- the turn that was found, where the call is refused
+entered_err : (c : goal.After-drop-rest-in_err-proceed)
+    → Entered c.args.self.now c.next.new.self c.in_ok-going.going
+entered_err c = record {
+  ticket = c.in_ok-going.ensures.turn.ticket;
+  turn = c.in_ok-going.ensures.turn.turn;
+  history = c.next.ensures.history;
+  course = c.next.ensures.taken;
+}
+
+-- and the changes that were counted
+changes_err : (c : goal.After-drop-rest-in_err-proceed)
+    → c.numbers.result ≡ changes_to_end c.args.self.now c.args.kids.now.tickets
+changes_err c =
+    let tickets = c.args.kids.now.tickets in
+    changes-are c.args.self.now c.next.new.self c.in_ok-going.going tickets
+    c.place-place.result c.ticket-ticket.result.0 c.numbers.result (doing_of c.in_ok-rest.rest)
+    (entered_err c) (slice_get-get_or tickets c.place-place.result 0 c.place-place.ensures.within
+    ∙ ap Some (sym c.ticket-ticket.ensures)) c.place-place.ensures.taken c.in_ok-rest.ensures
+    c.numbers.ensures
+
 pub returns-in_err-proceed-clause-exactly : goal.returns-in_err-proceed-clause-exactly
 returns-in_err-proceed-clause-exactly c =
-    let tickets = c.args.kids.now.tickets in
-    let entered : Entered c.args.self.now c.next.new.self c.in_ok-going.going = record {
-      ticket = c.in_ok-going.ensures.turn.ticket;
-      turn = c.in_ok-going.ensures.turn.turn;
-      history = c.next.ensures.history;
-      course = c.next.ensures.taken;
-    } in
-    let at : slice_get tickets c.place-place.result ≡ Some c.ticket-ticket.result.0 =
-    slice_get-get_or tickets c.place-place.result 0 c.place-place.ensures.within
-    ∙ ap Some (sym c.ticket-ticket.ensures) in
-    let changes = changes-are c.args.self.now c.next.new.self c.in_ok-going.going tickets
-    c.place-place.result c.ticket-ticket.result.0 c.numbers.result (doing_of c.in_ok-rest.rest)
-    entered at c.place-place.ensures.taken c.in_ok-rest.ensures c.numbers.ensures in
     let passed : c.from_residual-in_err-proceed.result ≡ Err c.in_err-proceed.field-0.0 =
     search rules in
     FailsWhere-passed _ _ c.proceed.result c.from_residual-in_err-proceed.result
     c.in_err-proceed.field-0.0 c.in_err-proceed.was passed c.proceed.ensures.exactly
     (either c.strikes-is_struck.ensures.struck.0
-    (λ short. subst (IsTooShort c.args.self.now) changes
-    (IsTooShort-is c.args.self.now c.next.new.self c.in_ok-going.going c.numbers.result entered
-    short)))
+    (λ short. subst (IsTooShort c.args.self.now) (changes_err c)
+    (IsTooShort-is c.args.self.now c.next.new.self c.in_ok-going.going c.numbers.result
+    (entered_err c) short)))
 
 pub returns-in_err-proceed-clause-failed : goal.returns-in_err-proceed-clause-failed
 returns-in_err-proceed-clause-failed c =
-    let tickets = c.args.kids.now.tickets in
-    let entered : Entered c.args.self.now c.next.new.self c.in_ok-going.going = record {
-      ticket = c.in_ok-going.ensures.turn.ticket;
-      turn = c.in_ok-going.ensures.turn.turn;
-      history = c.next.ensures.history;
-      course = c.next.ensures.taken;
-    } in
-    let at : slice_get tickets c.place-place.result ≡ Some c.ticket-ticket.result.0 =
-    slice_get-get_or tickets c.place-place.result 0 c.place-place.ensures.within
-    ∙ ap Some (sym c.ticket-ticket.ensures) in
-    let changes = changes-are c.args.self.now c.next.new.self c.in_ok-going.going tickets
-    c.place-place.result c.ticket-ticket.result.0 c.numbers.result (doing_of c.in_ok-rest.rest)
-    entered at c.place-place.ensures.taken c.in_ok-rest.ensures c.numbers.ensures in
     let passed : c.from_residual-in_err-proceed.result ≡ Err c.in_err-proceed.field-0.0 =
     search rules in
     OnFailed-passed _ _ c.proceed.result c.from_residual-in_err-proceed.result
     c.in_err-proceed.field-0.0 c.in_err-proceed.was passed c.proceed.ensures.failed
-    (λ refused. subst (λ n. HasFailed n c.args.self.now c.proceed.new.self) changes
+    (λ refused. subst (λ n. HasFailed n c.args.self.now c.proceed.new.self) (changes_err c)
     (HasFailed-is c.args.self.now c.next.new.self c.proceed.new.self c.in_ok-going.going
-    c.numbers.result entered refused))
+    c.numbers.result (entered_err c) refused))
 
 -- the turn that was found
 entered_at : (c : goal.After-take) → Entered c.args.self.now c.next.new.self c.in_ok-going.going
