@@ -120,14 +120,68 @@ row shows='a target below a folder that is not there' \
     makefile=$'d/t:\n\t@{ echo 1 > d/t; } 2>/dev/null\n' \
     status=1 err="bmake: target d/t command 1: status $no_folder"$'\n'
 
-row shows='files that an earlier run left behind are removed' \
-    before='echo old >.bmake.out.1; echo old >.bmake.fm.1' \
-    makefile=$'t:\n\t@echo new\n' \
-    out=$'new\n' after='[ "$(ls -A)" = makefile ]'
+# What commands print stands in a directory of its own below TMPDIR until they have ended.
+row shows='nothing is left beside the sources nor in the directory for temporary files' \
+    before='mkdir tmp' \
+    makefile=$'A!=echo 1\nt:\n\t@echo ${A}; [ "$$(ls tmp)" = "bmake.$$PPID" ]\n' run='TMPDIR=$PWD/tmp "$program"' \
+    out=$'1\n' after='[ "$(ls -A)" = "makefile
+tmp" ] && [ -z "$(ls -A tmp)" ]'
+
+row shows='nor behind a command that fails while others run' \
+    before='mkdir tmp' \
+    makefile=$'all: x y\nx:\n\t@sleep 1; echo x\ny:\n\t@exit 3\n' run='TMPDIR=$PWD/tmp "$program" -j 2' \
+    status=1 out=$'x\n' err=$'bmake: target y command 1: status 3\n' after='[ -z "$(ls -A tmp)" ]'
+
+row shows='nor behind a fault of the outside, and the shells of other children are ended' \
+    before='mkdir tmp' \
+    makefile=$'all: x y\nx:\n\t@echo $$$$ >pid; exec sleep 600\ny:\n\t@until [ -s pid ]; do sleep 0.05; done; rm "$${BMAKE_FILEMON%/*}"/out.2\n' \
+    run='TMPDIR=$PWD/tmp timeout 60 "$program" -j 2' \
+    status=3 err="$outside" after='! kill -0 "$(cat pid)" 2>/dev/null && [ -z "$(ls -A tmp)" ]'
 
 row shows='a command that removes its own output file' \
-    makefile=$'t:\n\t@rm .bmake.out.*\n' \
+    makefile=$'t:\n\t@rm "$${BMAKE_FILEMON%/*}"/out.*\n' \
     status=3 err="$outside"
+
+row shows='a name that stands already in the directory for temporary files' \
+    before='mkdir tmp' \
+    makefile=$'t:\n\t@echo "$${BMAKE_FILEMON##*/tmp/}" | sed "s/[0-9][0-9]*/N/"\n' \
+    run='TMPDIR=$PWD/tmp sh -c "mkdir tmp/bmake.\$\$; exec \"\$0\"" "$program"' \
+    out=$'bmake.N.1/fm.1\n' after='[ "$(ls tmp | wc -l)" = 1 ]'
+
+row shows='a directory for temporary files that is missing' \
+    makefile=$'t:\n\t@echo 1\n' run='TMPDIR=$PWD/no "$program"' status=3 err="$outside"
+
+row shows='a plain file as the directory for temporary files' \
+    before='echo 1 >no' makefile=$'A!=echo 1\n' run='TMPDIR=$PWD/no "$program" -V A' status=3 err="$outside"
+
+row shows='a run that starts no child needs no directory for temporary files' \
+    makefile=$'A=1\n' run='TMPDIR=$PWD/no "$program" -V A' out=$'1\n'
+
+row shows='a relative directory for temporary files is taken from that of the program' \
+    before='mkdir d tmp' makefile=$'t:\n\t@cd d; ls "$${BMAKE_FILEMON%/*}"\n' run='TMPDIR=tmp "$program"' \
+    out=$'out.1\n'
+
+row shows='a make that runs itself in its own directory, three deep, with several jobs' \
+    makefile=$'all: a b c d\na b c d:\n\t@[ ${N:U1} = 3 ] || MAKEFLAGS= ${P} -j4 P=${P} N=${N:U1:S/2/3/:S/1/2/} ${.TARGET}; echo ${N:U1}${.TARGET}; echo >>all\n' \
+    run='"$program" -j4 P="$program" >said; sort said | uniq -c | tr -d " " | grep -v "^1---\|^[0-9]*---" | tr "\n" " "' \
+    out='11a 11b 11c 11d 12a 12b 12c 12d 13a 13b 13c 13d ' after='[ "$(wc -l <all)" = 12 ]'
+
+row shows='two makes in one directory at once' \
+    makefile=$'all: x${N} y${N}\nx${N} y${N}:\n\t@sleep 0.2; echo ${.TARGET}\n' \
+    run='"$program" -j2 N=1 >one & "$program" -j2 N=2 >two; wait; grep -v "^---" one two | sort' \
+    out=$'one:x1\none:y1\ntwo:x2\ntwo:y2\n'
+
+# Root may write everywhere, so it becomes nobody.
+nobody=
+[ "$(id -u)" != 0 ] || nobody='setpriv --reuid=65534 --regid=65534 --clear-groups'
+if $nobody true 2>/dev/null && $nobody test -x "$program"; then
+    chmod 755 "$room"
+    row shows='a directory that cannot be written is no hindrance' \
+        makefile=$'A!=echo 1\nt:\n\t@echo ${A}\n' \
+        run='chmod 555 .; $nobody "$program" -V A; $nobody "$program"; chmod 755 .' out=$'1\n1\n'
+else
+    echo 'skipped: a directory that cannot be written (nobody may not run the program here)'
+fi
 
 row shows='the names of folders are quoted' \
     before=$'d=$\'it\\\'s "$x" *\\n`y`\'; mkdir "$d"; cd "$d"' \

@@ -33,7 +33,8 @@ const HELP: &[u8] = b"usage: bmake [options] [NAME=VALUE ..] [TARGET ..]
   --help       print this text, where it is the only word
   --version    print the version, where it is the only word
 
-Each command of a target is run by sh, in the current directory.
+Each command of a target is run by /bin/sh, in the current directory; what it prints stands in a
+file below $TMPDIR, or else /tmp, until it has ended.
 
 Exit status: 0 where all went well, 1 where a command failed, 2 for a bad word, a fault in a
 makefile or a target that cannot be made, 3 where an outside call failed, 4 where memory ran out.
@@ -75,7 +76,10 @@ fn run_in(rt: &HostRuntime, words: &Texts, env: &Env) -> u8 {
     if !is_clean_directory(env.cwd.bytes()) {
         return outside_failed(rt);
     }
-    let Ok(mut world) = RealWorld::new(rt) else {
+    let Ok(place) = process::place_of_children(rt, env) else {
+        return out_of_memory(rt);
+    };
+    let Ok(mut world) = RealWorld::new(rt, place) else {
         return out_of_memory(rt);
     };
     let mut out = RealSink::out(rt.stdout());

@@ -1,7 +1,9 @@
 //! What the process is given: its words, its environment and its directory, all as bytes.
+use itoa::Buffer;
 use mk_bytes::{Items, NoMemory, Pair, Text, Texts};
 use std::alloc::Global;
 use std::env::{Env, FillError};
+use std::process;
 
 // The system gives no directory longer than this.
 const MAX_PATH: usize = 4096;
@@ -76,4 +78,29 @@ pub fn environment<R: Env + AllocGlobal>(rt: &R) -> Result<Option<mk_scopes::Env
     };
     let cwd = Text::from_bytes(rt.alloc(), &buffer[..count])?;
     Ok(Some(mk_scopes::Env { vars, cwd }))
+}
+
+// The directory for temporary files: that of `TMPDIR`, taken from the current directory, or else `/tmp`.
+fn temporary_directory(alloc: Global, env: &mk_scopes::Env) -> Result<Text, NoMemory> {
+    let mut path = Text::from_bytes(alloc, b"/tmp")?;
+    for pair in env.vars.as_slice() {
+        if pair.name.bytes() == b"TMPDIR".as_slice() && !pair.value.is_empty() {
+            path = Text::new(alloc);
+            if !pair.value.bytes().starts_with(b"/") {
+                path.push(env.cwd.bytes())?;
+                path.push(b"/")?;
+            }
+            path.push(pair.value.bytes())?;
+        }
+    }
+    Ok(path)
+}
+
+/// Where the directory for the files of children is made: below that for temporary files, with the
+/// number of the process in its name.
+pub fn place_of_children(rt: &HostRuntime, env: &mk_scopes::Env) -> Result<Text, NoMemory> {
+    let mut place = temporary_directory(rt.alloc(), env)?;
+    place.push(b"/bmake.")?;
+    place.push(Buffer::new().format(process::id(rt.process())).as_bytes())?;
+    Ok(place)
 }

@@ -2,6 +2,7 @@ pub mod CutLemmas
 pub mod DirectoryLemmas
 pub mod EscapeLemmas
 pub mod LogLemmas
+pub mod LookLemmas
 pub mod PathLemmas
 pub mod RecordLemmas
 pub mod Rows

@@ -12,7 +12,7 @@ use Rattle.mk_world.specs.declared.step.Deed.{Deed}
 use Rattle.mk_world.specs.declared.step.Deed.TheVariants.{Read, Miss, Write, Delete, Move}
 use Rattle.mk_filemon.specs.Outer.{Touched, all_touches, is_found, is_missed, is_written, without}
 use Rattle.mk_filemon.specs.Outer.{once, named}
-use Rattle.mk_filemon.specs.Steps.{TellOuterReads, TellWritten, SameByRecords, stands_by}
+use Rattle.mk_filemon.specs.Steps.{TellOuterReads, SameByRecords, stands_by}
 use Rattle.mk_filemon.specs.declared.trace.Touch.TheVariants.{Found, Missed, Written, Gone}
 use Rattle.mk_filemon.proofs.EscapeLemmas.{cases}
 use Rattle.mk_filemon.proofs.PathLemmas.{same_bytes, bytes_eq-same}
@@ -182,7 +182,7 @@ stands_by-spot : (over : Over) (spot : Spot) (path : List ℕ)
 stands_by-spot over spot path =
     cases (bytes_eq spot.path path) (λ is. rw is refl) (λ apart. rw apart refl)
 
-written_behind : (over : Over) (deeds : List Deed) (path : List ℕ)
+pub written_behind : (over : Over) (deeds : List Deed) (path : List ℕ)
     → is_written (stands_by (over path)) (all_touches (map op_of deeds)) path
     ≡ stands_by (over_deeds over deeds path)
 written_behind over [] path = refl
@@ -214,9 +214,6 @@ written_behind over (Move from to bytes ∷ deeds) path =
         ≡ (if here then false else (if here then before else before))
     found-stays true before = refl
     found-stays false before = refl
-
-pub tell_written : TellWritten
-tell_written deeds path = written_behind nothing_over deeds path
 
 -- maps that agree on paths, each once, agree on them all
 agree-without : (first second : Store) (path : List ℕ) (paths : Paths) → first path ≡ second path

@@ -1,12 +1,15 @@
 //! Records say of steps what the laws of a world speak of.
-ghost use Rattle.mk_filemon.specs.Steps.{TellOuterReads, TellWritten, SameByRecords};
+ghost use Rattle.mk_filemon.specs.Steps.{TellOuterReads, TellLooks, TellWritten, SameByRecords};
 
 use mk_world::{World, same_doing};
 
-/// The outer reads of the records of steps are what the steps took from outside themselves, and
-/// what is left written by the records is what the steps left.
+/// The outer reads of the records of steps are what the steps took from outside themselves: each look
+/// at a path that no earlier step had changed is among those that were found, where a file stood
+/// there, and among those that were missed, where none did. A path is left written by the records
+/// exactly where the steps left a file there.
 pub fn records_tell_of_steps()
     ensures outer { TellOuterReads }
+    ensures looks { TellLooks }
     ensures written { TellWritten }
 {}
 

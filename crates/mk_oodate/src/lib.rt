@@ -21,10 +21,12 @@
 #![tactic(auto)]
 
 mod decision;
+mod law;
 mod lists;
 mod reason;
 mod same;
 
 pub use decision::stale;
+pub use law::no_reason_is_fresh;
 pub use lists::{left_paths, missed_paths, read_paths};
 pub use reason::{Age, Ages, NodeMode, Times, Whens, Why};

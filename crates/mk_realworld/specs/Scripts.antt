@@ -30,12 +30,12 @@ abbrev pub in_directory : List ℕ → List ℕ → List ℕ
 in_directory directory name =
     if bytes_eq directory (slash ∷ []) then slash ∷ name else directory ++ slash ∷ name
 
--- The files of a child lie in its directory and are named by its ticket.
+-- The files of children lie in one directory and are named by their tickets.
 abbrev pub output_file : List ℕ → ℕ → List ℕ
-output_file directory ticket = in_directory directory (codes ".bmake.out." ++ decimal ticket)
+output_file directory ticket = in_directory directory (codes "out." ++ decimal ticket)
 
 abbrev pub log_file : List ℕ → ℕ → List ℕ
-log_file directory ticket = in_directory directory (codes ".bmake.fm." ++ decimal ticket)
+log_file directory ticket = in_directory directory (codes "fm." ++ decimal ticket)
 
 -- where standard error goes
 abbrev pub errors_to : Streams → List ℕ

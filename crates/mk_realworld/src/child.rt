@@ -3,7 +3,9 @@ ghost use Rattle.std.specs.Prelude.{◌≡◌, ◌<◌, length, IfOk, IfSome};
 
 use crate::file::{file_text, remove_file};
 use crate::refusal::Refusal;
+use crate::room::clear;
 use crate::script::{ChildFiles, Streams, script};
+use crate::system::System;
 use mk_bytes::Text;
 use mk_world::{Cmd, Ended, Kids, Ticket};
 use std::fs::Files;
@@ -11,6 +13,9 @@ use std::marker::Model;
 use std::process::{Child, Command, ExitStatus, OpenProcess, Processes};
 use std::time::{Clock, Duration};
 use std::{str, thread};
+
+// The shell of the system, whatever `PATH` a makefile gives.
+const SHELL: &str = "/bin/sh";
 
 // Pauses between two rounds of questions, in microseconds.
 const FIRST_PAUSE: u64 = 50;
@@ -39,19 +44,18 @@ fn status_of(status: ExitStatus) -> u8 {
 }
 
 impl<P: OpenProcess + Drop> RealKid<P> {
-    /// Starts a shell that runs a command. Files that an earlier child of this ticket left behind
-    /// are removed first.
+    /// Starts a shell that runs a command.
     pub fn start<R: Processes<Started = P> + Files + AllocGlobal>(
-        rt: &R,
+        system: &mut System<R>,
         streams: Streams,
         ticket: Ticket,
         cmd: &Cmd,
     ) -> Result<RealKid<P>, Refusal> {
-        let files = ChildFiles::new(rt.alloc(), cmd.cwd.bytes(), ticket.0)?;
+        let rt = &system.rt;
+        let directory = system.room.enter(rt)?;
+        let files = ChildFiles::new(rt.alloc(), directory.bytes(), ticket.0)?;
         let script = script(rt.alloc(), streams, &files, cmd.text.bytes())?;
-        remove_file(rt, files.output.bytes())?;
-        remove_file(rt, files.log.bytes())?;
-        let mut command = Command::new(rt.alloc(), "sh")?;
+        let mut command = Command::new(rt.alloc(), SHELL)?;
         command.arg("-c")?.arg(str::from_utf8(script.bytes())?)?;
         for pair in cmd.exports.as_slice() {
             command.env(
@@ -60,6 +64,7 @@ impl<P: OpenProcess + Drop> RealKid<P> {
             )?;
         }
         let child = command.spawn(rt)?;
+        system.running = system.running.saturating_add(1);
         Ok(RealKid { child, files })
     }
 
@@ -74,20 +79,24 @@ impl<P: OpenProcess + Drop> RealKid<P> {
     }
 
     // What it printed. Its files are removed; a command that removed that one itself is refused.
-    fn output<R: Files + AllocGlobal>(&self, rt: &R) -> Result<Text, Refusal> {
-        let Some(output) = file_text(rt, self.files.output.bytes())? else {
+    fn output<R: Files + AllocGlobal>(&self, system: &mut System<R>) -> Result<Text, Refusal> {
+        let path = self.files.output.bytes();
+        let Some(output) = file_text(&system.rt, system.buffer.as_mut_slice(), path)? else {
             return Err(Refusal::Outside);
         };
-        remove_file(rt, self.files.output.bytes())?;
-        remove_file(rt, self.files.log.bytes())?;
+        remove_file(&system.rt, path)?;
+        clear(&system.rt, self.files.log.bytes())?;
+        system.running = system.running.saturating_sub(1);
         Ok(output)
     }
 
-    /// Ends it, and takes it in. What it printed stays in its files.
-    pub fn give_up(mut self) {
+    /// Ends it, takes it in, and removes its files.
+    pub fn give_up<R: Files>(mut self, rt: &R) {
         if self.child.kill().is_ok() {
             let _ = self.child.wait();
         }
+        let _ = remove_file(rt, self.files.output.bytes());
+        let _ = remove_file(rt, self.files.log.bytes());
     }
 }
 
@@ -161,15 +170,15 @@ fn one_ended<R: Clock, P: OpenProcess + Drop>(
 /// Waits until a child has ended, and reads what it printed. It stays among the children.
 #[tactic(auto, using(crate::proofs::KidLemmas::with_kid_unseen))]
 pub fn wait_over<R: Files + Clock + AllocGlobal, P: OpenProcess + Drop>(
-    rt: &R,
+    system: &mut System<R>,
     kids: &mut Kids<RealKid<P>>,
 ) -> Result<Over, Refusal>
     requires { 0 < length kids.old.tickets }
     ensures same { kids.new ≡ kids.old }
     ensures place { IfOk result (λ over. over.place < length kids.old.tickets) }
 {
-    let found = one_ended(rt, kids)?;
-    let output = kids.kid(found.place).output(rt)?;
+    let found = one_ended(&system.rt, kids)?;
+    let output = kids.kid(found.place).output(system)?;
     Ok(Over {
         place: found.place,
         status: found.status,
@@ -178,14 +187,17 @@ pub fn wait_over<R: Files + Clock + AllocGlobal, P: OpenProcess + Drop>(
 }
 
 /// Runs a command to its end. Standard error is that of make.
-pub fn run<R: Processes + Files + AllocGlobal>(rt: &R, cmd: &Cmd) -> Result<Ended, Refusal>
+pub fn run<R: Processes + Files + AllocGlobal>(
+    system: &mut System<R>,
+    cmd: &Cmd,
+) -> Result<Ended, Refusal>
     ensures { IfOk result (λ ended. ended.ticket.0 ≡ 0) }
 {
-    let mut kid = RealKid::start(rt, Streams::OutputAlone, Ticket(0), cmd)?;
+    let mut kid = RealKid::start(system, Streams::OutputAlone, Ticket(0), cmd)?;
     Ok(Ended {
         ticket: Ticket(0),
         status: kid.wait()?,
-        output: kid.output(rt)?,
+        output: kid.output(system)?,
         records: None,
     })
 }

@@ -2,6 +2,7 @@
 use crate::refusal::Refusal;
 use mk_bytes::Text;
 use mk_world::{Time, When};
+use std::alloc::Global;
 use std::fs::Files;
 use std::io::{Error, ErrorKind, Read};
 use std::time::{SystemTime, UNIX_EPOCH};
@@ -10,31 +11,37 @@ use std::{fs, str};
 // A file above 64 MiB counts as a fault.
 const MAX_FILE: usize = 67_108_864;
 
-// How many bytes are asked for at once.
-const CHUNK: usize = 65_536;
-
 // Whether an error says that there is no file: below a plain file there is none either.
 fn is_missing(error: &Error) -> bool {
     error.kind() == ErrorKind::NotFound || error.kind() == ErrorKind::NotADirectory
 }
 
-// All bytes of a reader, of which there are no more than a file may have.
-fn read_all<R: AllocGlobal, F: Read>(rt: &R, file: &mut F) -> Result<Text, Refusal> {
-    let mut text = Text::new(rt.alloc());
-    let mut chunk = Vec::with_capacity(rt.alloc(), CHUNK)?;
-    for _ in 0..=MAX_FILE / CHUNK {
-        chunk.clear();
-        file.by_ref().take(CHUNK as u64).read_to_end(&mut chunk)?;
-        text.push(chunk.as_slice())?;
-        if chunk.len() < CHUNK && text.len() <= MAX_FILE {
-            return Ok(text);
+// All bytes of a reader, of which there are no more than a file may have. Each call of the system
+// asks for as many as the buffer holds.
+fn read_all<F: Read>(alloc: Global, buffer: &mut [u8], file: &mut F) -> Result<Text, Refusal> {
+    let mut text = Text::new(alloc);
+    for _ in 0..u64::MAX {
+        let count = match file.read(buffer) {
+            Ok(0) => return Ok(text),
+            Ok(count) => count,
+            Err(error) if error.kind() == ErrorKind::Interrupted => continue,
+            Err(error) => return Err(Refusal::from(error)),
+        };
+        if count > MAX_FILE.saturating_sub(text.len()) {
+            return Err(Refusal::Outside);
         }
+        text.push(&buffer[..count])?;
     }
     Err(Refusal::Outside)
 }
 
-/// The bytes of a file, or `None` where it is missing.
-pub fn file_text<R: Files + AllocGlobal>(rt: &R, path: &[u8]) -> Result<Option<Text>, Refusal> {
+/// The bytes of a file, or `None` where it is missing. They are read by way of a buffer, which must
+/// not be empty.
+pub fn file_text<R: Files + AllocGlobal>(
+    rt: &R,
+    buffer: &mut [u8],
+    path: &[u8],
+) -> Result<Option<Text>, Refusal> {
     let mut file = match fs::open(rt, str::from_utf8(path)?) {
         Ok(file) => file,
         Err(error) => {
@@ -44,7 +51,7 @@ pub fn file_text<R: Files + AllocGlobal>(rt: &R, path: &[u8]) -> Result<Option<T
             return Err(Refusal::from(error));
         }
     };
-    Ok(Some(read_all(rt, &mut file)?))
+    Ok(Some(read_all(rt.alloc(), buffer, &mut file)?))
 }
 
 /// The time of a file or directory.

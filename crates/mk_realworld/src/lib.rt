@@ -9,10 +9,10 @@ mod child;
 mod count;
 mod file;
 mod refusal;
+mod room;
 mod script;
 mod sink;
-#[cfg(test)]
-mod tests;
+mod system;
 mod world;
 
 pub use child::RealKid;

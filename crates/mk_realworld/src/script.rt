@@ -75,8 +75,8 @@ impl ChildFiles {
         ensures log { IfOk result (λ files. files.log ≡ spec.log_file directory.now ticket) }
     {
         Ok(ChildFiles {
-            output: path_in(alloc, directory, b".bmake.out.", ticket)?,
-            log: path_in(alloc, directory, b".bmake.fm.", ticket)?,
+            output: path_in(alloc, directory, b"out.", ticket)?,
+            log: path_in(alloc, directory, b"fm.", ticket)?,
         })
     }
 }

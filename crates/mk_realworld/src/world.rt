@@ -4,6 +4,7 @@ use crate::child::{RealKid, run, wait_over};
 use crate::file::{file_text, file_time, remove_file};
 use crate::refusal::{Refusal, counted};
 use crate::script::Streams;
+use crate::system::System;
 use mk_bytes::{NoMemory, Text};
 use mk_world::{Cmd, Ended, Kids, Ticket, Time, When, World, WorldFault};
 use std::alloc::Global;
@@ -15,16 +16,21 @@ use std::time::Clock;
 /// directory, and children run in it.
 #[derive(Drop)]
 pub struct RealWorld<R: Files + Processes + Clock + AllocGlobal> {
-    rt: R,
+    system: System<R>,
     faults: u64,
 }
 
-impl<R: Files + Processes + Clock + AllocGlobal> RealWorld<R> {
+impl<R: Files + Processes + Clock + AllocGlobal + Drop> RealWorld<R> {
     /// The files and processes that this runtime reaches, with a count of faults of 0.
-    pub fn new(rt: R) -> Result<RealWorld<R>, NoMemory>
+    ///
+    /// What commands print, and the logs of recorders, stand in a directory at this place, which is
+    /// made before the first child, for its owner alone, and removed when none is left; where
+    /// something stands there already, it has a number behind its name.
+    pub fn new(rt: R, place: Text) -> Result<RealWorld<R>, NoMemory>
         ensures { IfOk result (λ world. world.faults ≡ 0) }
     {
-        Ok(RealWorld { rt, faults: 0 })
+        let system = System::new(rt, place)?;
+        Ok(RealWorld { system, faults: 0 })
     }
 }
 
@@ -48,7 +54,8 @@ impl<R: Files + Processes + Clock + AllocGlobal> World for RealWorld<R> {
     /// The bytes of a file. A directory, an unreadable file, one above 64 MiB and a path that is
     /// not UTF-8 are counted faults; a path below a plain file is a missing file.
     fn read(&mut self, _: Global, path: &[u8]) -> Result<Option<Text>, WorldFault> {
-        match file_text(&self.rt, path) {
+        let buffer = self.system.buffer.as_mut_slice();
+        match file_text(&self.system.rt, buffer, path) {
             Ok(text) => Ok(text),
             Err(refusal) => Err(counted(refusal, &mut self.faults)),
         }
@@ -56,7 +63,7 @@ impl<R: Files + Processes + Clock + AllocGlobal> World for RealWorld<R> {
 
     /// The time of a file or directory, in nanoseconds.
     fn time(&mut self, _: Global, path: &[u8]) -> Result<When, WorldFault> {
-        match file_time(&self.rt, path) {
+        match file_time(&self.system.rt, path) {
             Ok(when) => Ok(when),
             Err(refusal) => Err(counted(refusal, &mut self.faults)),
         }
@@ -64,24 +71,27 @@ impl<R: Files + Processes + Clock + AllocGlobal> World for RealWorld<R> {
 
     /// Removes a file. A directory is a counted fault.
     fn remove(&mut self, _: Global, path: &[u8]) -> Result<(), WorldFault> {
-        match remove_file(&self.rt, path) {
+        match remove_file(&self.system.rt, path) {
             Ok(()) => Ok(()),
             Err(refusal) => Err(counted(refusal, &mut self.faults)),
         }
     }
 
-    /// Runs `sh -c` with the command to its end. Standard error is that of make, and what is printed
-    /// on standard output goes through a file of the current directory, as in `start`.
+    /// Runs `/bin/sh -c` with the command to its end. Standard error is that of make, and what is
+    /// printed on standard output goes through a file, as in `start`. Where no child runs, the
+    /// directory of these files is removed behind it.
     fn ask(&mut self, _: Global, cmd: &Cmd) -> Result<Ended, WorldFault> {
-        match run(&self.rt, cmd) {
+        let answer = run(&mut self.system, cmd);
+        self.system.leave_if_idle();
+        match answer {
             Ok(ended) => Ok(ended),
             Err(refusal) => Err(counted(refusal, &mut self.faults)),
         }
     }
 
-    /// Starts `sh -c` with the command. What it prints on standard output and standard error goes
-    /// into the file `.bmake.out.TICKET` of the current directory, and a recorder may write its log
-    /// into `.bmake.fm.TICKET`; older files of these names are removed first.
+    /// Starts `/bin/sh -c` with the command. What it prints on standard output and standard error
+    /// goes into the file `out.TICKET` of the world's own directory, and a recorder may write its
+    /// log into `fm.TICKET` there. Where the directory cannot be made, that is a counted fault.
     fn start(
         &mut self,
         _: Global,
@@ -90,7 +100,7 @@ impl<R: Files + Processes + Clock + AllocGlobal> World for RealWorld<R> {
         _: Time,
         cmd: &Cmd,
     ) -> Result<(), WorldFault> {
-        match RealKid::start(&self.rt, Streams::Both, ticket, cmd) {
+        match RealKid::start(&mut self.system, Streams::Both, ticket, cmd) {
             Ok(kid) => {
                 kids.add(ticket, kid);
                 Ok(())
@@ -108,7 +118,7 @@ impl<R: Files + Processes + Clock + AllocGlobal> World for RealWorld<R> {
         _: Global,
         kids: &mut Kids<RealKid<R::Started>>,
     ) -> Result<Ended, WorldFault> {
-        match wait_over(&self.rt, kids) {
+        match wait_over(&mut self.system, kids) {
             Ok(over) => {
                 let (ticket, _) = kids.take(over.place);
                 Ok(Ended {
@@ -122,12 +132,14 @@ impl<R: Files + Processes + Clock + AllocGlobal> World for RealWorld<R> {
         }
     }
 
-    /// Ends and takes in the shells of all children, and not what these started themselves. The
-    /// files of their output stay.
+    /// Ends and takes in the shells of all children, and not what these started themselves. Their
+    /// files are removed, and then the directory of these.
     fn abandon(&mut self, kids: &mut Kids<RealKid<R::Started>>) {
         while !kids.is_empty() {
             let (_, kid) = kids.take(0);
-            kid.give_up();
+            kid.give_up(&self.system.rt);
         }
+        self.system.running = 0;
+        self.system.leave_if_idle();
     }
 }
