@@ -3,6 +3,7 @@ pub mod CallLemmas
 pub mod CauseLemmas
 pub mod ChangeLemmas
 pub mod IdleLemmas
+pub mod LawLemmas
 pub mod OuterLemmas
 pub mod SinkLemmas
 pub mod TalkLemmas

@@ -4,6 +4,7 @@ pub mod Deeds
 pub mod Held
 pub mod History
 pub mod KidsLent
+pub mod Lawful
 pub mod Outer
 pub mod Runs
 pub mod Sinks

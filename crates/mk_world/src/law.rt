@@ -1,3 +1,4 @@
+ghost use Rattle.mk_world.specs.Lawful.{RunsStayLawful};
 ghost use Rattle.mk_world.specs.Outer.{SameDoing};
 
 use crate::world::World;
@@ -6,4 +7,9 @@ use crate::world::World;
 /// them, in bytes or in being missing, let it do the same on both.
 pub fn same_doing<W: World>(_: &W)
     ensures { SameDoing W.meaning }
+{}
+
+/// A law of every world: where its history is lawful, what its calls add leaves it lawful.
+pub fn runs_stay_lawful<W: World>(_: &W)
+    ensures { RunsStayLawful W.meaning }
 {}

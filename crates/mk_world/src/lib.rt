@@ -21,7 +21,7 @@ pub use command::{Cmd, Lines, Task, TaskLine};
 pub use fault::{SinkFault, WorldFault};
 pub use history::{Bases, Child, Children, File, Happening, Happenings, History, Timed, Timeds};
 pub use kids::Kids;
-pub use law::same_doing;
+pub use law::{runs_stay_lawful, same_doing};
 pub use sink::{Sink, write_all};
 pub use step::{Answer, Answers, Deed, Deeds, Ended, Next, Op, Ops, Request};
 pub use time::{Ticket, Time, When};
