@@ -107,6 +107,23 @@ impl Outages {
         }
     }
 
+    /// How many calls of a kind were made.
+    pub fn calls(&self, kind: CallKind) -> u64
+        ensures { result ≡ spec.made_of self.now.made kind }
+    {
+        match kind {
+            CallKind::Read => self.made.read,
+            CallKind::Time => self.made.time,
+            CallKind::Stamp => self.made.stamp,
+            CallKind::Put => self.made.put,
+            CallKind::Remove => self.made.remove,
+            CallKind::Ask => self.made.ask,
+            CallKind::Start => self.made.start,
+            CallKind::WaitAny => self.made.wait_any,
+            CallKind::Write => self.made.write,
+        }
+    }
+
     // Whether the nth call of a kind is to fail.
     fn names(&self, kind: CallKind, nth: u64) -> bool
         ensures { IsTrue result ↔ IsNamed kind nth self.now.fails }

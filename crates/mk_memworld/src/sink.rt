@@ -2,7 +2,7 @@ ghost use Rattle.std.specs.Prelude.{◌≡◌, ◌⊎◌, ◌↔◌, ◌+◌, �
 ghost use Rattle.mk_world.specs.Causes.{HasCause};
 ghost use Rattle.mk_world.specs.Sinks.{Gains};
 ghost use Rattle.mk_world.specs.declared.fault.SinkFault.TheVariants.{Failed};
-ghost use Rattle.mk_memworld.specs.Outages.{IsStruck, first_outages, with_call, with_fault};
+ghost use Rattle.mk_memworld.specs.Outages.{IsStruck, first_outages, made_of, with_call, with_fault};
 ghost use Rattle.mk_memworld.specs.declared.outage.CallKind.TheVariants.{Write};
 ghost use Rattle.mk_memworld.specs.declared.sink.TheConstants.{ROOM};
 
@@ -40,6 +40,13 @@ impl MemSink {
         ensures { result.now ≡ self.now.held.items }
     {
         self.held.as_slice()
+    }
+
+    /// How many calls of a kind were made, all of them writes. Takes no memory.
+    pub fn calls(&self, kind: CallKind) -> u64
+        ensures { result ≡ made_of self.now.outages.made kind }
+    {
+        self.outages.calls(kind)
     }
 }
 

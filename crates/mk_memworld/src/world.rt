@@ -18,7 +18,7 @@ ghost use Rattle.mk_memworld.specs.Endings.{ended_by, told_by};
 ghost use Rattle.mk_memworld.specs.Files.{as_filed};
 ghost use Rattle.mk_memworld.specs.Going.{IsTurn};
 ghost use Rattle.mk_memworld.specs.Meaning.{language};
-ghost use Rattle.mk_memworld.specs.Outages.{FailsWhere, IsStruck, OnFailed, OnNoMemory, first_outages, with_answer, with_call};
+ghost use Rattle.mk_memworld.specs.Outages.{FailsWhere, IsStruck, OnFailed, OnNoMemory, first_outages, made_of, with_answer, with_call};
 ghost use Rattle.mk_memworld.specs.Rest.{answer_of};
 ghost use Rattle.mk_memworld.specs.Running.{AddsSteps};
 ghost use Rattle.mk_memworld.specs.Schedule.{course_after, gone_on, next_taken, or_oldest, taken_in, with_ended, with_number_taken};
@@ -78,6 +78,13 @@ impl MemWorld {
         ensures { option_copied result ≡ files_of self.now.chronicle path.now }
     {
         self.chronicle.bytes(path)
+    }
+
+    /// How many calls of a kind were made. Takes no memory.
+    pub fn calls(&self, kind: CallKind) -> u64
+        ensures { result ≡ made_of self.now.outages.made kind }
+    {
+        self.outages.calls(kind)
     }
 
     /// Changes a file from outside to these bytes, or to missing, at the next time; this is a
