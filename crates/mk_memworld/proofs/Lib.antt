@@ -1,4 +1,5 @@
 pub mod AskLemmas
+pub mod BaseLemmas
 pub mod ChildLemmas
 pub mod ChronicleLemmas
 pub mod EndingLemmas

@@ -6,6 +6,7 @@ ghost use Rattle.mk_world.specs.Calls as spec;
 ghost use Rattle.mk_world.specs.Calls.{Adds, OwnAsk, OwnEnd, OwnGone, OwnLeft, OwnNothing, OwnRead, OwnStart, OwnTime, OwnUnanswered, TakenOut};
 ghost use Rattle.mk_world.specs.Causes.{HasCause};
 ghost use Rattle.mk_world.specs.History.{files_of, state_of, tickets_of};
+ghost use Rattle.mk_world.specs.Lawful.{IsLawful};
 ghost use Rattle.mk_world.specs.Runs.{Run};
 ghost use Rattle.mk_world.specs.Talks.{does};
 ghost use Rattle.mk_world.specs.declared.fault.WorldFault.TheVariants.{Failed};
@@ -62,6 +63,7 @@ impl MemWorld {
         ensures outages { IfOk result (λ world. world.outages ≡ first_outages fails) }
         ensures schedule { IfOk result
             (λ world. world.schedule ≡ record { numbers = schedule; ended = [] }) }
+        ensures lawful { IfOk result (λ world. IsLawful language world.chronicle) }
         ensures idle { IfOk result
             (λ world. tickets_of (state_of world.chronicle).children ≡ []) }
     {
@@ -99,6 +101,7 @@ impl MemWorld {
         ensures refused { OnErr result (self.new.chronicle ≡ self.old.chronicle) }
         ensures exactly { FailsWhere ((state_of self.old.chronicle).clock ≡ last_number) result }
         ensures counted { self.new.outages ≡ with_answer self.old.outages result }
+        ensures schedule { self.new.schedule ≡ self.old.schedule }
         ensures idle { tickets_of (state_of self.new.chronicle).children ≡ [] }
     {
         if self.chronicle.clock() == u64::MAX {
