@@ -2,8 +2,10 @@ pub mod CommandLemmas
 pub mod EndLemmas
 pub mod ExportLemmas
 pub mod FrontLemmas
+pub mod JobLemmas
 pub mod LineLemmas
 pub mod ManyLemmas
 pub mod MetaLemmas
 pub mod MiddleLemmas
 pub mod RecordLineLemmas
+pub mod Rows

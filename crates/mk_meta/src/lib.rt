@@ -27,7 +27,7 @@ mod meta;
 mod reading;
 mod writing;
 
-pub use law::{no_text_begins_another, the_head_is_no_text};
+pub use law::{jobs_are_lawful, no_text_begins_another, nothing_to_tell, the_head_is_no_text};
 pub use meta::Meta;
 pub use reading::read_meta;
 pub use writing::{head, write_meta};
