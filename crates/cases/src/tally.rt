@@ -134,13 +134,11 @@ impl Tally {
     }
 }
 
-// Whether exactly one thing differs, and the text of a case begins with its name and a colon.
+// Whether something differs, and only the thing that the text of a case begins with, before a colon.
 fn is_told(shows: &str, found: &Found) -> bool {
-    let [one] = found.as_slice() else {
+    let Some((name, _)) = shows.split_once(':') else {
         return false;
     };
-    match shows.split_once(':') {
-        Some((name, _)) => name == one.what.name(),
-        None => false,
-    }
+    let all = found.as_slice();
+    !all.is_empty() && all.iter().all(|one| one.what.name() == name)
 }
