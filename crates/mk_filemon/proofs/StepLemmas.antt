@@ -32,7 +32,7 @@ abbrev is_outer : List Touched → List ℕ → Bool
 is_outer all path = is_found all path || is_missed all path
 
 -- filters, one after the other
-filter-both : (first second both : List ℕ → Bool) (paths : Paths)
+pub filter-both : (first second both : List ℕ → Bool) (paths : Paths)
     → ((path : List ℕ) → both path ≡ (second path && first path))
     → filter first (filter second paths) ≡ filter both paths
 filter-both first second both [] is = refl

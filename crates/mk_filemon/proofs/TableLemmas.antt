@@ -1,5 +1,5 @@
 -- The table of traces against the records that left them.
-use Rattle.std.proofs.Common.{◌≡◌, ℕ, Bool, true, false, cond, List, [], ◌∷◌, ◌++◌, map}
+use Rattle.std.proofs.Common.{◌≡◌, ℕ, Bool, true, false, not, cond, List, [], ◌∷◌, ◌++◌, map}
 use Rattle.std.proofs.Common.{filter, if◌then◌else◌, Option, Some, None, refl, sym, ◌∙◌, ap, ap₂}
 use Rattle.std.proofs.Common.{Vec}
 use Rattle.std.proofs.Common.{Global, append_assoc}
@@ -8,15 +8,16 @@ use Rattle.std.proofs.lemmas.List.{append-nil, map-append}
 use Rattle.std.specs.Map.{lookup}
 use Rattle.std.specs.Str.{bytes_eq}
 use Rattle.mk_filemon.specs.Entries.{Traced, traced_of, no_trace, after, trace_in, noted, all_noted}
-use Rattle.mk_filemon.specs.Entries.{tells, paths_that}
+use Rattle.mk_filemon.specs.Entries.{counts, tells, paths_that}
 use Rattle.mk_filemon.specs.Outer.{Touched}
-use Rattle.mk_filemon.specs.Outer.{once, named}
+use Rattle.mk_filemon.specs.Outer.{counted, is_ignored, once, named}
 use Rattle.mk_filemon.specs.declared.trace.Asked.{Asked}
 use Rattle.mk_filemon.specs.declared.trace.Touch.{Touch}
 use Rattle.mk_filemon.specs.declared.trace.Trace.{Trace}
 use Rattle.mk_filemon.proofs.EscapeLemmas.{cases}
 use Rattle.mk_filemon.proofs.PathLemmas.{IsOnce, among, among-once, bytes_eq-same, once-IsOnce}
 use Rattle.mk_filemon.proofs.PathLemmas.{once-push, same_bytes}
+use Rattle.mk_filemon.proofs.StepLemmas.{filter-both}
 use Rattle.mk_filemon.proofs.TraceLemmas.{trace_of, trace_of-fresh, trace_of-push}
 
 abbrev Entries : Type 0
@@ -150,19 +151,36 @@ pub all_noted-append : (table : List Traced) (first second : List Touched)
 all_noted-append table [] second = refl
 all_noted-append table (t ∷ ts) second = all_noted-append (noted table t.0 t.1) ts second
 
-paths_that-map : (asked : Asked) (traces : List ℕ → Trace) (paths : List (List ℕ))
-    → paths_that asked (with_traces traces paths)
-    ≡ filter (λ path. tells asked (traces path)) paths
-paths_that-map asked traces [] = refl
-paths_that-map asked traces (p ∷ ps) =
-    cases (tells asked (traces p))
-    (λ is. rw is (ap (λ rest. p ∷ rest) (paths_that-map asked traces ps)))
-    (λ apart. rw apart (paths_that-map asked traces ps))
+paths_that-map : (ignored : List (List ℕ)) (asked : Asked) (traces : List ℕ → Trace)
+    (paths : List (List ℕ))
+    → paths_that ignored asked (with_traces traces paths)
+    ≡ filter (λ path. counts ignored asked (path, traces path)) paths
+paths_that-map ignored asked traces [] = refl
+paths_that-map ignored asked traces (p ∷ ps) =
+    cases (counts ignored asked (p, traces p))
+    (λ is. rw is (ap (λ rest. p ∷ rest) (paths_that-map ignored asked traces ps)))
+    (λ apart. rw apart (paths_that-map ignored asked traces ps))
 
--- The paths that the table tells are those that the records tell.
+-- The paths that the table tells are those that the records tell, without ignored ones.
+pub paths_that-counted : (ignored : List (List ℕ)) (asked : Asked) (all : List Touched)
+    (table : List Traced) → table ≡ all_noted [] all
+    → paths_that ignored asked table
+    ≡ counted ignored (filter (λ path. tells asked (trace_of all path)) (named all))
+paths_that-counted ignored asked all table is =
+    ap (paths_that ignored asked) (is ∙ all_noted-entries all)
+    ∙ paths_that-map ignored asked (trace_of all) (named all)
+    ∙ sym (filter-both (λ path. not (is_ignored ignored path))
+    (λ path. tells asked (trace_of all path))
+    (λ path. counts ignored asked (path, trace_of all path)) (named all) (λ path. refl))
+
+counted-none : (paths : List (List ℕ)) → counted [] paths ≡ paths
+counted-none [] = refl
+counted-none (p ∷ ps) = ap (λ rest. p ∷ rest) (counted-none ps)
+
+-- Where no path is ignored, they are all of them.
 pub paths_that-noted : (asked : Asked) (all : List Touched) (table : List Traced)
     → table ≡ all_noted [] all
-    → paths_that asked table ≡ filter (λ path. tells asked (trace_of all path)) (named all)
+    → paths_that [] asked table ≡ filter (λ path. tells asked (trace_of all path)) (named all)
 paths_that-noted asked all table is =
-    ap (paths_that asked) (is ∙ all_noted-entries all)
-    ∙ paths_that-map asked (trace_of all) (named all)
+    paths_that-counted [] asked all table is
+    ∙ counted-none (filter (λ path. tells asked (trace_of all path)) (named all))

@@ -1,5 +1,5 @@
 -- Traces of paths in a table, against the records that left them.
-use Rattle.std.specs.Prelude.{ℕ, Bool, true, false, not, ◌||◌, List, [], ◌∷◌, map, filter}
+use Rattle.std.specs.Prelude.{ℕ, Bool, true, false, not, ◌||◌, ◌&&◌, List, [], ◌∷◌, map, filter}
 use Rattle.std.specs.Prelude.{if◌then◌else◌}
 use Rattle.std.specs.Str.{bytes_eq}
 use Rattle.std.specs.declared.alloc.Global.{Global}
@@ -9,7 +9,7 @@ use Rattle.mk_filemon.specs.declared.trace.Touch.TheVariants.{Found, Missed, Wri
 use Rattle.mk_filemon.specs.declared.trace.Trace.{Trace}
 use Rattle.mk_filemon.specs.declared.trace.Asked.{Asked}
 use Rattle.mk_filemon.specs.declared.trace.Asked.TheVariants as asked
-use Rattle.mk_filemon.specs.Outer.{Touched}
+use Rattle.mk_filemon.specs.Outer.{Touched, is_ignored}
 
 abbrev pub Traced : Type 0
 Traced = List ℕ × Trace
@@ -51,6 +51,9 @@ tells asked.Found trace = trace.found
 tells asked.Missed trace = trace.missed
 tells asked.Written trace = trace.written
 
--- the paths of the entries that are asked for
-abbrev pub paths_that : Asked → List Traced → List (List ℕ)
-paths_that what table = map (λ traced. traced.0) (filter (λ traced. tells what traced.1) table)
+-- the paths of the entries that are asked for, without ignored ones
+abbrev pub counts : List (List ℕ) → Asked → Traced → Bool
+counts ignored what traced = tells what traced.1 && not (is_ignored ignored traced.0)
+
+abbrev pub paths_that : List (List ℕ) → Asked → List Traced → List (List ℕ)
+paths_that ignored what table = map (λ traced. traced.0) (filter (counts ignored what) table)

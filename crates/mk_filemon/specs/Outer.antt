@@ -1,6 +1,7 @@
 -- What a run takes from outside itself, and what it leaves, by its records.
 use Rattle.std.specs.Prelude.{ℕ, Bool, true, false, not, ◌||◌, List, [], ◌∷◌, map, filter, flat_map}
-use Rattle.std.specs.Prelude.{if◌then◌else◌}
+use Rattle.std.specs.Prelude.{if◌then◌else◌, nat_eq}
+use Rattle.std.specs.List.{list_any, starts_with}
 use Rattle.std.specs.Str.{bytes_eq}
 use Rattle.mk_world.specs.declared.step.Op.{Op}
 use Rattle.mk_world.specs.declared.step.Op.TheVariants as op
@@ -97,3 +98,11 @@ outer_reads ops =
 -- The paths that are left written, in the order of their first record of any kind.
 abbrev pub left_written : List Op → List (List ℕ)
 left_written ops = filter (is_written false (all_touches ops)) (named (all_touches ops))
+
+-- A path is ignored where its bytes begin with one of the words, as it is (make(1),
+-- `.MAKE.META.IGNORE_PATHS`).
+abbrev pub is_ignored : List (List ℕ) → List ℕ → Bool
+is_ignored words path = list_any (λ word. starts_with nat_eq path word) words
+
+abbrev pub counted : List (List ℕ) → List (List ℕ) → List (List ℕ)
+counted words paths = filter (λ path. not (is_ignored words path)) paths

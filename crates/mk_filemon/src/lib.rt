@@ -37,5 +37,5 @@ pub use escape::{cut_at, push_escaped, unescaped};
 pub use law::{records_tell_of_steps, same_by_records};
 pub use log::read_log;
 pub use number::{push_decimal, read_decimal};
-pub use outer::{left_written, outer_found, outer_missed, outer_reads};
+pub use outer::{JobPaths, job_paths, left_written, outer_found, outer_missed, outer_reads};
 pub use record::{Rec, Recs, push_op, read_op, write_op};

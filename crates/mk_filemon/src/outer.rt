@@ -25,21 +25,21 @@ fn traces_of(alloc: Global, records: &Recs) -> Result<Traces, NoMemory>
 pub fn outer_reads(alloc: Global, records: &Recs) -> Result<Texts, NoMemory>
     ensures { IfOk result (λ paths. paths ≡ spec.outer_reads (spec.ops_of records.now)) }
 {
-    traces_of(alloc, records)?.paths_that(alloc, Asked::Outer)
+    traces_of(alloc, records)?.paths_that(alloc, &[], Asked::Outer)
 }
 
 /// Those outer reads that a record found: it read the path, or moved it away.
 pub fn outer_found(alloc: Global, records: &Recs) -> Result<Texts, NoMemory>
     ensures { IfOk result (λ paths. paths ≡ spec.outer_found (spec.ops_of records.now)) }
 {
-    traces_of(alloc, records)?.paths_that(alloc, Asked::Found)
+    traces_of(alloc, records)?.paths_that(alloc, &[], Asked::Found)
 }
 
 /// Those outer reads that a record missed. A path may be found and missed, as others change it too.
 pub fn outer_missed(alloc: Global, records: &Recs) -> Result<Texts, NoMemory>
     ensures { IfOk result (λ paths. paths ≡ spec.outer_missed (spec.ops_of records.now)) }
 {
-    traces_of(alloc, records)?.paths_that(alloc, Asked::Missed)
+    traces_of(alloc, records)?.paths_that(alloc, &[], Asked::Missed)
 }
 
 /// The paths that a job left written: the last record that changed one wrote it or moved a file
@@ -47,5 +47,32 @@ pub fn outer_missed(alloc: Global, records: &Recs) -> Result<Texts, NoMemory>
 pub fn left_written(alloc: Global, records: &Recs) -> Result<Texts, NoMemory>
     ensures { IfOk result (λ paths. paths ≡ spec.left_written (spec.ops_of records.now)) }
 {
-    traces_of(alloc, records)?.paths_that(alloc, Asked::Written)
+    traces_of(alloc, records)?.paths_that(alloc, &[], Asked::Written)
+}
+
+/// The paths that a job found outside, those that it missed there, and those that it left written.
+#[derive(Debug, Drop)]
+pub struct JobPaths {
+    pub found: Texts,
+    pub missed: Texts,
+    pub left: Texts,
+}
+
+/// These three lists, by one pass over the records, without the paths that begin with one of the
+/// words. Each is that of [`outer_found`], [`outer_missed`] and [`left_written`] otherwise.
+pub fn job_paths(alloc: Global, ignored: &Texts, records: &Recs) -> Result<JobPaths, NoMemory>
+    ensures found { IfOk result (λ paths.
+        paths.found ≡ spec.counted ignored.now (spec.outer_found (spec.ops_of records.now))) }
+    ensures missed { IfOk result (λ paths.
+        paths.missed ≡ spec.counted ignored.now (spec.outer_missed (spec.ops_of records.now))) }
+    ensures left { IfOk result (λ paths.
+        paths.left ≡ spec.counted ignored.now (spec.left_written (spec.ops_of records.now))) }
+{
+    let traces = traces_of(alloc, records)?;
+    let ignored = ignored.as_slice();
+    Ok(JobPaths {
+        found: traces.paths_that(alloc, ignored, Asked::Found)?,
+        missed: traces.paths_that(alloc, ignored, Asked::Missed)?,
+        left: traces.paths_that(alloc, ignored, Asked::Written)?,
+    })
 }

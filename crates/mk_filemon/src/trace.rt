@@ -1,6 +1,6 @@
 //! What records tell of each path, in one table.
 ghost use Rattle.std.specs.Prelude.{◌≡◌, [], OnOk, IfOk};
-ghost use Rattle.mk_filemon.specs.Outer.{touches};
+ghost use Rattle.mk_filemon.specs.Outer.{is_ignored, touches};
 ghost use Rattle.mk_filemon.specs.Entries as spec;
 
 use indexmap::IndexMap;
@@ -81,6 +81,12 @@ fn after(trace: Trace, touch: Touch) -> Trace
     }
 }
 
+fn is_ignored(words: &[Text], path: &[u8]) -> bool
+    ensures { result ≡ is_ignored words.now path.now }
+{
+    words.iter().any(|word| path.starts_with(word.bytes()))
+}
+
 fn tells(asked: Asked, trace: Trace) -> bool
     ensures { result ≡ spec.tells asked trace }
 {
@@ -154,13 +160,18 @@ impl Traces {
         }
     }
 
-    /// The paths that are asked for, in order.
-    pub fn paths_that(&self, alloc: Global, asked: Asked) -> Result<Texts, NoMemory>
-        ensures { IfOk result (λ paths. paths ≡ spec.paths_that asked self.now) }
+    /// The paths that are asked for, in order, without those that begin with one of the words.
+    pub fn paths_that(
+        &self,
+        alloc: Global,
+        ignored: &[Text],
+        asked: Asked,
+    ) -> Result<Texts, NoMemory>
+        ensures { IfOk result (λ paths. paths ≡ spec.paths_that ignored.now asked self.now) }
     {
         let mut paths = Items::new(alloc, 0)?;
         for (path, trace) in self.traces.iter() {
-            if tells(asked, *trace) {
+            if tells(asked, *trace) && !is_ignored(ignored, path.as_slice()) {
                 paths.push(Text::from_bytes(alloc, path.as_slice())?)?;
             }
         }

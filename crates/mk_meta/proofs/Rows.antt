@@ -81,5 +81,8 @@ true_of_it = record {
   );
   over = refl;
   records = refl;
-  alone = (inr (λ path among. tt), inl (Write target (codes "x\n"), refl), inr (λ path among. tt), tt);
+  alone = (
+    inr (λ path among. tt),
+    (inl (Write target (codes "x\n"), refl), (inr (λ path among. tt), tt)),
+  );
 }

@@ -9,15 +9,15 @@
 //! 4. `NoMeta`: there is no meta file of this target, and there must be one. Without one, the rest
 //!    is not asked.
 //! 5. `Touched`: the target is not older than its meta file.
-//! 6. `Command`: the exported variables differ, or the commands. Where only the number of commands
-//!    counts, their directory and texts do not.
+//! 6. `Command`: the exported variables differ, or the commands, where they count. Where only the
+//!    number of commands counts, their directory and texts do not.
 //! 7. `NoRecords`: the meta file has no records, and they must be there. Without records, the rest
 //!    is not asked.
 //! 8. `Read(i)`: what the job found outside is gone, or was not changed before the job began.
 //! 9. `Appeared(i)`: what the job missed is there.
 //! 10. `Left(i)`: what the job left written is missing.
 //!
-//! Parts 4 to 10 count in meta mode alone. An unknown time counts as later than all.
+//! Parts 4 to 10 count in meta mode alone, and 7 to 10 only where records count. An unknown time counts as later than all.
 #![tactic(auto)]
 
 mod decision;
@@ -28,5 +28,5 @@ mod same;
 
 pub use decision::stale;
 pub use law::no_reason_is_fresh;
-pub use lists::{left_paths, missed_paths, read_paths};
+pub use lists::looked_at;
 pub use reason::{Age, Ages, NodeMode, Times, Whens, Why};

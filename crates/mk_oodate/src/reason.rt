@@ -1,3 +1,4 @@
+//! What a target's state is judged by, and what the judgement says.
 use mk_bytes::Items;
 use mk_world::{Time, When};
 
@@ -56,7 +57,7 @@ pub struct NodeMode {
 }
 
 /// What was seen at the looks for a node: its file, its meta file, its sources, and the paths that
-/// [`crate::read_paths`], [`crate::missed_paths`] and [`crate::left_paths`] give.
+/// [`crate::looked_at`] gives.
 #[derive(Debug, Drop)]
 pub struct Times {
     pub target: When,

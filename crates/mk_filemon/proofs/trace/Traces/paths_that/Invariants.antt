@@ -5,4 +5,4 @@ use Rattle.mk_filemon.proofs.trace.Traces.paths_that.Given as goal
 -- the paths so far, and those of the entries that are left
 abbrev pub invariant-loop-path : goal.invariant-loop-path
 invariant-loop-path l =
-    l.paths ++ paths_that l.asked (traced_of l.path-iterator) ≡ paths_that l.asked l.self
+    l.paths ++ paths_that l.ignored l.asked (traced_of l.path-iterator) ≡ paths_that l.ignored l.asked l.self
