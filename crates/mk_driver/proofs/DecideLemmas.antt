@@ -34,7 +34,7 @@ use Rattle.mk_driver.proofs.LineLemmas.{so_far-own, so_far-weaken}
 use Rattle.mk_driver.proofs.LookLemmas.{looks-output, looks-report}
 use Rattle.mk_driver.proofs.MakeLemmas.{so_far-items}
 use Rattle.mk_driver.proofs.NodeLemmas.{unknown-begun}
-use Rattle.mk_driver.proofs.StepLemmas.{behind-begun, go_on-keeps, go_on-looks, go_on-refuses, has-before, other_node, seen-nothing, waiting-at, with_task}
+use Rattle.mk_driver.proofs.StepLemmas.{behind-begun, go_on-keeps, go_on-looks, go_on-refuses, has-before, other_node, seen-nothing, with_task}
 
 -- a node was looked at
 pub so_far-looks : (meaning : Meaning) (work : Work) (known : Known) (nodes : List NodeState)
@@ -52,28 +52,38 @@ so_far-looks meaning work known nodes jobs failure n seen last first now next so
     (IsGoing known nodes run.anything jobs failure) (IsSeen known nodes jobs failure n seen)
     looked.items so looked.told events (looks-report n seen looked.items looked.are)
     (looks-output n seen looked.items looked.are) out
-    (λ tasks build is. go_on-looks work known nodes jobs failure n tasks looked.items seen
-    (waiting-at work nodes n undecided may) looked.are build []
+    (λ tasks build is. go_on-looks work known nodes jobs failure n tasks looked.items seen may
+    looked.are build []
     (seen-nothing known nodes jobs failure n tasks build undecided is))
 
 -- a kept node
 pub so_far-keeps : (meaning : Meaning) (work : Work) (known : Known) (nodes : List NodeState)
-    (jobs : List Job) (failure : Option Failure) (n : ℕ) (seen : List Seen) (last : Option ℕ)
-    (first now next : Moment)
+    (jobs : List Job) (failure : Option Failure) (n : ℕ) (lines : List TaskLine)
+    (seen : List Seen) (last : Option ℕ) (first now next : Moment)
     → SoFar meaning work false first now last known (IsSeen known nodes jobs failure n seen)
-    → n < length nodes → may_decide (rules_of work) nodes ≡ Some n → IsKept work n seen
+    → n < length nodes → get_or nodes n Failed ≡ Undecided
+    → may_decide (rules_of work) nodes ≡ Some n → AreApart n jobs → AreUnknown known nodes
+    → IsKept work n seen lines
     → next.history ≡ now.history → next.events ≡ now.events ++ event.Kept n ∷ []
     → next.out ≡ now.out
-    → SoFar meaning work false first next last known
-    (IsGoing known (set nodes n Settled) run.anything jobs failure)
-so_far-keeps meaning work known nodes jobs failure n seen last first now next so within may kept history
-    events out =
-    so_far-own meaning work first now next last known known (IsSeen known nodes jobs failure n seen)
-    (IsGoing known (set nodes n Settled) run.anything jobs failure) (keeps n ∷ []) so refl
-    (λ stand. (tt, tt)) refl history events out (λ tasks has. has)
-    (λ tasks build has is. go_on-keeps work known nodes jobs failure n tasks seen build within may is
-    kept)
-    (λ tasks build has is outputs p. refl)
+    → (more : Known) × AreUnknown more (set nodes n Settled)
+    × SoFar meaning work false first next last more
+    (IsGoing more (set nodes n Settled) run.anything jobs failure)
+so_far-keeps meaning work known nodes jobs failure n lines seen last first now next so within undecided
+    may apart unknown kept history events out =
+    let more = with_task known n lines in (
+      more,
+      unknown-begun known more nodes n Settled within (λ is. cc)
+          (λ one other. rw (other_node n one other) refl) unknown,
+      so_far-own meaning work first now next last known more
+          (IsSeen known nodes jobs failure n seen)
+          (IsGoing more (set nodes n Settled) run.anything jobs failure) (keeps n ∷ []) so refl
+          (λ stand. (tt, tt)) refl history events out
+          (λ tasks has. has-before known n lines tasks (unknown n undecided) has)
+          (λ tasks build has is. go_on-keeps work known nodes jobs failure n lines tasks seen build
+          within may apart has is kept)
+          (λ tasks build has is outputs p. refl),
+    )
 
 -- a refused node
 pub so_far-refuses : (meaning : Meaning) (work : Work) (known : Known) (nodes : List NodeState)

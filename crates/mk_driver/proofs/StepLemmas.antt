@@ -12,7 +12,7 @@ use Rattle.mk_plan.specs.declared.plan.NodeState.{NodeState}
 use Rattle.mk_plan.specs.declared.plan.NodeState.TheVariants.{Undecided, Open, Settled, Failed}
 use Rattle.mk_world.specs.declared.command.Cmd.{Cmd}
 use Rattle.mk_world.specs.declared.command.TaskLine.{TaskLine}
-use Rattle.mk_driver.specs.Builds.{Work, Build, rules_of, build_after, build_after_all, or_next, IsWaiting, IsKept, IsBegun, IsRefused, IsCommandOf, command_of}
+use Rattle.mk_driver.specs.Builds.{Work, Build, rules_of, build_after, build_after_all, or_next, IsKept, IsBegun, IsRefused, IsCommandOf, command_of}
 use Rattle.mk_driver.specs.Calls.{AreLooks}
 use Rattle.mk_driver.specs.Items.{Item, looks, keeps, refuses, starts, passes, waits, steps, ends, removes, leaves}
 use Rattle.mk_driver.specs.Jobs.{AreApart, HasLine}
@@ -22,7 +22,7 @@ use Rattle.mk_driver.specs.Steps.{GoesOn}
 use Rattle.mk_driver.specs.declared.job.Job.{Job}
 use Rattle.mk_driver.specs.declared.result.Failure.{Failure}
 use Rattle.mk_driver.specs.declared.result.Failure.TheVariants.{Expand}
-use Rattle.mk_driver.proofs.NodeLemmas.{fresh-but, fresh-set, get-undecided, settled-before}
+use Rattle.mk_driver.proofs.NodeLemmas.{fresh-but, fresh-set}
 
 pub same_node : (n : ℕ) → (n == n) ≡ true
 same_node n = grind (arith, nat_tests, common_steps)
@@ -97,38 +97,38 @@ seen-one work known nodes jobs failure n tasks build seen one is = record {
 
 pub go_on-looks : (work : Work) (known : Known) (nodes : List NodeState) (jobs : List Job)
     (failure : Option Failure) (n : ℕ) (tasks : run.Tasks) (items : List Item) (more : List Seen)
-    → IsWaiting work (record { nodes = nodes; started = λ one. 0; due = run.anything }) n
+    → may_decide (rules_of work) nodes ≡ Some n
     → AreLooks n more items → (build : Build) (seen : List Seen)
     → IsSeen known nodes jobs failure n seen tasks build
     → GoesOn work tasks build items (IsSeen known nodes jobs failure n (seen ++ more))
-go_on-looks work known nodes jobs failure n tasks [] more waiting are build seen is = record {
+go_on-looks work known nodes jobs failure n tasks [] more may are build seen is = record {
   makes = tt;
   stands = rw (are, append-nil seen) is;
 }
-go_on-looks work known nodes jobs failure n tasks (looks node path when ∷ items) more waiting are build
+go_on-looks work known nodes jobs failure n tasks (looks node path when ∷ items) more may are build
     seen is =
     let one : Seen = record { path = path; when = when } in
     let now = seen-one work known nodes jobs failure n tasks build seen one is in
     let here : build_after work tasks build (looks node path when)
     ≡ build_after work tasks build (looks n path when) =
     ap (λ k. build_after work tasks build (looks k path when)) are.2 in
-    let rest = go_on-looks work known nodes jobs failure n tasks items are.0 waiting are.3
+    let rest = go_on-looks work known nodes jobs failure n tasks items are.0 may are.3
     (build_after work tasks build (looks node path when)) (seen ++ one ∷ [])
     (subst (IsSeen known nodes jobs failure n (seen ++ one ∷ []) tasks) (sym here) now) in
     record {
       makes = (
         tt,
         is.none_doomed,
-        rw (are.2, is.nodes_are) waiting,
+        (is.due_is, rw (are.2, is.nodes_are) may),
         rest.makes,
       );
       stands = subst (λ l. IsSeen known nodes jobs failure n l tasks
           (build_after_all work tasks build (looks node path when ∷ items)))
           (append_assoc seen (one ∷ []) are.0 ∙ ap (λ l. seen ++ l) (sym are.1)) rest.stands;
     }
-go_on-looks work known nodes jobs failure n tasks (steps ticket owner deed time ∷ items) more waiting are
+go_on-looks work known nodes jobs failure n tasks (steps ticket owner deed time ∷ items) more may are
     build seen is =
-    let rest = go_on-looks work known nodes jobs failure n tasks items more waiting are
+    let rest = go_on-looks work known nodes jobs failure n tasks items more may are
     (build_after work tasks build (steps ticket owner deed time)) seen
     (record {
       nodes_are = is.nodes_are;
@@ -140,53 +140,67 @@ go_on-looks work known nodes jobs failure n tasks (steps ticket owner deed time 
       fresh = is.fresh;
     }) in
     record { makes = (tt, tt, tt, rest.makes); stands = rest.stands }
-go_on-looks work known nodes jobs failure n tasks (keeps node ∷ items) more waiting are build seen is =
+go_on-looks work known nodes jobs failure n tasks (keeps node ∷ items) more may are build seen is =
     absurd are
-go_on-looks work known nodes jobs failure n tasks (refuses node number what ∷ items) more waiting are
+go_on-looks work known nodes jobs failure n tasks (refuses node number what ∷ items) more may are
     build seen is = absurd are
 go_on-looks work known nodes jobs failure n tasks (starts node number ticket owner cmd ∷ items) more
-    waiting are build seen is = absurd are
-go_on-looks work known nodes jobs failure n tasks (passes node number ∷ items) more waiting are build
+    may are build seen is = absurd are
+go_on-looks work known nodes jobs failure n tasks (passes node number ∷ items) more may are build
     seen is = absurd are
-go_on-looks work known nodes jobs failure n tasks (waits ∷ items) more waiting are build seen is =
+go_on-looks work known nodes jobs failure n tasks (waits ∷ items) more may are build seen is =
     absurd are
-go_on-looks work known nodes jobs failure n tasks (ends node number owner ended ∷ items) more waiting
+go_on-looks work known nodes jobs failure n tasks (ends node number owner ended ∷ items) more may
     are build seen is = absurd are
-go_on-looks work known nodes jobs failure n tasks (removes node path time ∷ items) more waiting are
+go_on-looks work known nodes jobs failure n tasks (removes node path time ∷ items) more may are
     build seen is = absurd are
-go_on-looks work known nodes jobs failure n tasks (leaves ticket owner ∷ items) more waiting are build
+go_on-looks work known nodes jobs failure n tasks (leaves ticket owner ∷ items) more may are build
     seen is = absurd are
 
--- a node that may be decided may be looked at
-pub waiting-at : (work : Work) (nodes : List NodeState) (n : ℕ)
-    → get_or nodes n Failed ≡ Undecided → may_decide (rules_of work) nodes ≡ Some n
-    → IsWaiting work (record { nodes = nodes; started = λ one. 0; due = run.anything }) n
-waiting-at work nodes n undecided may =
-    (get-undecided nodes n undecided, settled-before (rules_of work) work.plan nodes n refl may)
+-- the task of one more node is known
+abbrev pub with_task : Known → ℕ → List TaskLine → Known
+with_task known n lines = λ one. if one == n then Some lines else known one
+
+pub has-before : (known : Known) (n : ℕ) (lines : List TaskLine) (tasks : run.Tasks)
+    → known n ≡ None → HasTasks tasks (with_task known n lines) → HasTasks tasks known
+has-before known n lines tasks unknown has node own is = elim (cases_eq node n) [
+  | inl same ↦ absurd (none-some (sym (ap known same ∙ unknown) ∙ is))
+  | inr other ↦ has node own (rw (other_node n node other) is)
+]
+  where
+    none-some : None ≡ Some own → ⊥
+    none-some is = cc
 
 -- a kept node is settled
 pub go_on-keeps : (work : Work) (known : Known) (nodes : List NodeState) (jobs : List Job)
-    (failure : Option Failure) (n : ℕ) (tasks : run.Tasks) (seen : List Seen) (build : Build)
-    → n < length nodes → may_decide (rules_of work) nodes ≡ Some n
-    → IsSeen known nodes jobs failure n seen tasks build → IsKept work n seen
+    (failure : Option Failure) (n : ℕ) (lines : List TaskLine) (tasks : run.Tasks)
+    (seen : List Seen) (build : Build)
+    → n < length nodes → may_decide (rules_of work) nodes ≡ Some n → AreApart n jobs
+    → HasTasks tasks (with_task known n lines)
+    → IsSeen known nodes jobs failure n seen tasks build → IsKept work n seen lines
     → GoesOn work tasks build (keeps n ∷ [])
-    (IsGoing known (set nodes n Settled) run.anything jobs failure)
-go_on-keeps work known nodes jobs failure n tasks seen build within may is kept = record {
-  makes = (
-    ((is.due_is, rw is.nodes_are may), tt),
-    is.none_doomed,
-    subst (IsKept work n) (sym is.now) kept,
-    tt,
-  );
-  stands = record {
-    nodes_are = ap (λ l. set l n Settled) is.nodes_are;
-    due_is = refl;
-    running = is.running;
-    failed = is.failed;
-    none_doomed = is.none_doomed;
-    fresh = fresh-set nodes build.seen n Settled within (λ is. cc) is.fresh;
-  };
-}
+    (IsGoing (with_task known n lines) (set nodes n Settled) run.anything jobs failure)
+go_on-keeps work known nodes jobs failure n lines tasks seen build within may apart has is kept =
+    let mine : with_task known n lines n ≡ Some lines = rw (same_node n) refl in
+    let task : tasks n ≡ lines = has n lines mine in record {
+      makes = (
+        ((is.due_is, rw is.nodes_are may), tt),
+        is.none_doomed,
+        subst (λ l. IsKept work n l (tasks n)) (sym is.now)
+            (subst (IsKept work n seen) (sym task) kept),
+        tt,
+      );
+      stands = record {
+        nodes_are = ap (λ l. set l n Settled) is.nodes_are;
+        due_is = refl;
+        running = running-apart known (with_task known n lines) build.run.started
+            build.run.started build.ticket build.ticket n jobs apart (λ one other. refl)
+            (λ one other. refl) (λ one other. rw (other_node n one other) refl) is.running;
+        failed = is.failed;
+        none_doomed = is.none_doomed;
+        fresh = fresh-set nodes build.seen n Settled within (λ is. cc) is.fresh;
+      };
+    }
 
 -- a refused node has failed
 pub go_on-refuses : (work : Work) (known : Known) (nodes : List NodeState) (jobs : List Job)
@@ -214,20 +228,6 @@ go_on-refuses work known nodes jobs failure n number what tasks seen build withi
         fresh = fresh-set nodes build.seen n Failed within (λ is. cc) is.fresh;
       };
     }
-
--- the task of one more node is known
-abbrev pub with_task : Known → ℕ → List TaskLine → Known
-with_task known n lines = λ one. if one == n then Some lines else known one
-
-pub has-before : (known : Known) (n : ℕ) (lines : List TaskLine) (tasks : run.Tasks)
-    → known n ≡ None → HasTasks tasks (with_task known n lines) → HasTasks tasks known
-has-before known n lines tasks unknown has node own is = elim (cases_eq node n) [
-  | inl same ↦ absurd (none-some (sym (ap known same ∙ unknown) ∙ is))
-  | inr other ↦ has node own (rw (other_node n node other) is)
-]
-  where
-    none-some : None ≡ Some own → ⊥
-    none-some is = cc
 
 -- the lines of a node are to be started, and it has a token
 pub behind-begun : (work : Work) (known : Known) (nodes : List NodeState) (jobs : List Job)

@@ -1,15 +1,14 @@
 -- What make has to do in a build: why each node is kept, started or refused.
-use Rattle.std.specs.Prelude.{◌≡◌, ◌⊎◌, ℕ, ◌==◌, nat_lt, List, [], ◌∷◌, ◌++◌, map, Option, Some, None, Bool, true, false, not, ◌&&◌, Result, Ok, Err, if◌then◌else◌, slice_get}
+use Rattle.std.specs.Prelude.{◌≡◌, ◌⊎◌, ℕ, ◌==◌, nat_lt, List, [], ◌∷◌, ◌++◌, map, Option, Some, None, Bool, true, false, not, ◌&&◌, Result, Ok, Err, if◌then◌else◌}
 use Rattle.mk_flags.specs.declared.Flags.{Flags}
 use Rattle.mk_expand.specs.declared.fault.ExpandFault.{ExpandFault}
-use Rattle.mk_plan.specs.Deciding.{Rules, all_settled}
+use Rattle.mk_plan.specs.Deciding.{Rules}
 use Rattle.mk_plan.specs.Plans.{node_at}
 use Rattle.mk_expand.specs.Facts.{Lists}
 use Rattle.mk_expand.specs.declared.facts.Asked.{Asked}
 use Rattle.mk_plan.specs.Asking.{Seen, answers_by, as_asked}
 use Rattle.mk_plan.specs.Tasks.{names_at, setting_of, task_of}
 use Rattle.mk_plan.specs.declared.fault.TaskFault.{TaskFault}
-use Rattle.mk_plan.specs.declared.plan.NodeState.TheVariants.{Undecided}
 use Rattle.mk_plan.specs.declared.plan.PlanNode.{PlanNode}
 use Rattle.mk_sched.specs.Schedule.{predecessors}
 use Rattle.mk_scopes.specs.Scopes.{Variables}
@@ -195,13 +194,14 @@ abbrev pub HasTask : Work → ℕ → When → List Sighting → List Seen → T
 HasTask work node target sources asked task =
     task_by work node target sources asked ≡ Ok (task, map as_asked asked)
 
--- A node is kept where it has no commands, or where it has a task and is not out of date.
-abbrev pub IsKept : Work → ℕ → List Seen → Type 0
-IsKept work node seen =
+-- A node is kept where it has no commands, or where it has a task, of which these are the lines, and
+-- is not out of date.
+abbrev pub IsKept : Work → ℕ → List Seen → List TaskLine → Type 0
+IsKept work node seen lines =
     ((node_at work.plan node).commands ≡ [])
     ⊎ ((sight : Sight work node seen) × (task : Task)
     × HasTask work node sight.target sight.sources sight.asked task
-    × (is_outdated work node sight.target sight.sources ≡ false))
+    × (is_outdated work node sight.target sight.sources ≡ false) × (lines ≡ task.lines))
 
 -- Its lines are started where it has a task, which they are, and is out of date.
 abbrev pub IsBegun : Work → ℕ → List Seen → List TaskLine → Type 0
@@ -229,20 +229,16 @@ abbrev pub IsCommandOf : Work → Option TaskLine → Cmd → Type 0
 IsCommandOf work None cmd = ⊥
 IsCommandOf work (Some one) cmd = (run.is_empty one.text ≡ false) × (cmd ≡ command_of work one)
 
--- a node that may be looked at: it is undecided, and all that it needs is settled
-abbrev pub IsWaiting : Work → run.State → ℕ → Type 0
-IsWaiting work state node =
-    (slice_get state.nodes node ≡ Some Undecided)
-    × (all_settled state.nodes (node_at work.plan node).before ≡ true)
-
 -- the first line of a node is started for a reason
 abbrev pub HasReason : Work → run.Tasks → Build → ℕ → ℕ → Type 0
 HasReason work tasks build node number =
     number ≡ 1 → IsBegun work node (build.seen node) (tasks node)
 
+-- Make looks only for the node that may be decided, so between the first look and the decision no child
+-- is started and none is taken in.
 abbrev pub MayMake : Work → run.Tasks → Build → Item → Type 0
-MayMake work tasks build (looks node path when) = IsWaiting work build.run node
-MayMake work tasks build (keeps node) = IsKept work node (build.seen node)
+MayMake work tasks build (looks node path when) = run.MayDecide (rules_of work) build.run node
+MayMake work tasks build (keeps node) = IsKept work node (build.seen node) (tasks node)
 MayMake work tasks build (refuses node number what) = IsRefused work node (build.seen node) number what
 MayMake work tasks build (starts node number ticket owner cmd) =
     HasReason work tasks build node number

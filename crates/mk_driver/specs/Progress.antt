@@ -261,7 +261,7 @@ FromAny Before Then = (first : Moment) (out : Option (List ℕ)) → Before firs
 
 -- how a node is decided, and why
 abbrev pub IsDecision : Work → ℕ → List Seen → Decision → Type 0
-IsDecision work node seen Keep = IsKept work node seen
+IsDecision work node seen Keep = (lines : List TaskLine) × IsKept work node seen lines
 IsDecision work node seen (Refuse number what) = IsRefused work node seen number what
 IsDecision work node seen (Make task) = IsBegun work node seen task.lines × (0 < length task.lines)
 

@@ -12,7 +12,7 @@ pub returns-then-is_empty-clause-decided : goal.returns-then-is_empty-clause-dec
 returns-then-is_empty-clause-decided g c =
     let nothing : (node_at c.args.maker.now.plan.now c.args.node).commands ≡ [] =
     grind (arith, common_steps) in
-    ([], looks-none g.W.World.meaning _ c.args.node, inl nothing)
+    ([], looks-none g.W.World.meaning _ c.args.node, ([], inl nothing))
 
 pub returns-in_err-times-clause-halted : goal.returns-in_err-times-clause-halted
 returns-in_err-times-clause-halted g c =

@@ -81,10 +81,14 @@ returns-clause-decided g c =
     sym c.in_ok-verdict.ensures.stale ∙ c.if-verdict.false in (
       looked,
       looks-asked g.W.World.meaning n asked.questions _ _ asked.told,
-      inr (
-        sight-of work n times.target times.sources looked c.requires.walk,
-        c.in-Ok.task,
-        task,
-        fresh,
+      (
+        c.in-Ok.task.lines,
+        inr (
+          sight-of work n times.target times.sources looked c.requires.walk,
+          c.in-Ok.task,
+          task,
+          fresh,
+          refl,
+        ),
       ),
     )

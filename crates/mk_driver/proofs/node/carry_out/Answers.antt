@@ -1,7 +1,8 @@
-use Rattle.std.proofs.Common.{◌∙◌, ◌<◌, refl, sym, ap, subst}
+use Rattle.std.proofs.Common.{List, ◌∙◌, ◌<◌, refl, sym, ap, subst}
 use Rattle.std.proofs.lemmas.Result.{err_from_is_err_and}
 use Rattle.mk_sched.proofs.DecideLemmas.{decided}
-use Rattle.mk_driver.specs.Builds.{rules_of}
+use Rattle.mk_world.specs.declared.command.TaskLine.{TaskLine}
+use Rattle.mk_driver.specs.Builds.{IsKept, rules_of}
 use Rattle.mk_driver.specs.Ends.{of_world}
 use Rattle.mk_driver.specs.Makers.{work_of, moment}
 use Rattle.mk_driver.specs.Progress.{undecided}
@@ -48,13 +49,12 @@ returns-in_ok-push-in-Keep-clause-goes g c =
     let may = may_decide-of (rules_of work) course.sched n c.requires.fits.rules_are c.requires.next in
     λ seen dec first out at.
     rw c.kept.ensures (
-      at.0,
-      unknown-set at.0 course.sched.nodes n _ d.within (λ is. cc) at.1,
-      so_far-keeps g.W.World.meaning work at.0 course.sched.nodes course.jobs.items course.failure n seen
-          course.last_shown first (moment history out course.events)
-          (moment history out c.push.new.self) at.2 d.within may (rw c.in-Keep.is at dec) refl
-          c.in_ok-push-in-Keep.ensures.ok refl,
-    )
+    let apart = (fits-begun _ _ _ _ _ _ _ c.requires.fits c.requires.next).1.apart in
+    let kept : (lines : List TaskLine) × IsKept work n seen lines = rw c.in-Keep.is at dec in
+    so_far-keeps g.W.World.meaning work at.0 course.sched.nodes course.jobs.items course.failure n
+    kept.0 seen course.last_shown first (moment history out course.events)
+    (moment history out c.push.new.self) at.2 d.within d.undecided may
+    apart at.1 kept.1 refl c.in_ok-push-in-Keep.ensures.ok refl)
 
 pub returns-in_ok-push-in-Keep-clause-fits : goal.returns-in_ok-push-in-Keep-clause-fits
 returns-in_ok-push-in-Keep-clause-fits g c =
