@@ -1,5 +1,5 @@
 -- One step through a chain of modifiers, and through the words of `:@`.
-use Rattle.std.proofs.Common.{◌≡◌, ℕ, ◌+◌, ◌<◌, ◌≤◌, false, List, [], ◌∷◌, Ok, length, drop, get_or, refl, Err, Result}
+use Rattle.std.proofs.Common.{◌≡◌, ℕ, ◌+◌, ◌<◌, ◌≤◌, false, List, [], ◌∷◌, Ok, length, drop, get_or, refl, Err}
 use Rattle.std.proofs.Common.{sym, ap, ◌∙◌, rules}
 use Rattle.std.proofs.lemmas.List.{drop_more, at_drop_all, append-nil}
 use Rattle.mk_ast.specs.Tree.{Tree, no_mods, mod_then, if_undefined}
@@ -14,7 +14,6 @@ use Rattle.mk_mods.specs.State.{State, plain, text_of}
 use Rattle.mk_expand.specs.Chains.{Chain, modified, given_modified, word_modified, all_modified}
 use Rattle.mk_expand.specs.Chains.{chained, chain_of, each_behind, found_as, given}
 use Rattle.mk_expand.specs.ModFaults.{with_fault}
-use Rattle.mk_expand.specs.declared.fault.ExpandFault.{ExpandFault}
 use Rattle.mk_expand.specs.Evaluators.{Counted, Finder, Progress}
 use Rattle.mk_expand.specs.Names.{Context, while_bound}
 use Rattle.mk_expand.specs.Parts.{tree_value}

@@ -3,6 +3,7 @@ pub mod ConditionLemmas
 mod ConditionRows
 pub mod FactLemmas
 pub mod FaultLemmas
+pub mod OuterLemmas
 pub mod PlainLemmas
 mod Rows
 pub mod SeparatorLemmas

@@ -1,5 +1,5 @@
 -- The truth of a condition (make(1), the directive `.if`). What does not decide is not evaluated.
-use Rattle.std.specs.Prelude.{ℕ, ◌-◌, Bool, true, false, not, List, length, drop, take, position}
+use Rattle.std.specs.Prelude.{ℕ, ◌-◌, ◌||◌, Bool, true, false, not, List, length, drop, take, position}
 use Rattle.std.specs.Prelude.{Option, Some, None, is_some, is_none, unwrap_or, Result, Ok, Err}
 use Rattle.std.specs.Prelude.{if◌then◌else◌}
 use Rattle.std.specs.List.{suffix_len}
@@ -18,7 +18,8 @@ use Rattle.mk_cond.specs.declared.fault.NoNumber.{NoNumber}
 use Rattle.mk_expand.specs.Evaluators.{Progress, Counted, Finder, with_asked}
 use Rattle.mk_expand.specs.Facts.{Answers, Lists, fact_of, asked_with}
 use Rattle.mk_expand.specs.declared.facts.Asked.{Asked}
-use Rattle.mk_expand.specs.Names.{Context, raw_in}
+use Rattle.mk_expand.specs.Locals.{is_local}
+use Rattle.mk_expand.specs.Names.{Context, known, last_value}
 use Rattle.mk_expand.specs.Parts.{tree_value}
 use Rattle.mk_scopes.specs.Scopes.{Variables}
 use Rattle.mk_bytes.specs.declared.pair.Pair.{Pair}
@@ -56,14 +57,14 @@ fact_answer c p fun argument =
 abbrev pub path_answer : Context → Progress → Fun → List ℕ → Counted Bool
 path_answer c p fun name = fact_answer c p fun (clean c.variables.cwd name)
 
--- whether a name has a raw value
-abbrev pub is_defined : Variables → Locals → List Pair → List ℕ → Result Bool ExpandFault
+-- Whether a name has a raw value. Of a local name the name alone decides.
+abbrev pub is_defined : Variables → Locals → List Pair → List ℕ → Bool
 is_defined variables locals bound name =
-    raw_in variables locals bound name >>= λ raw. Ok (is_some raw)
+    is_some (last_value bound name)
+    || (is_local locals name || is_some (known variables name))
 
 abbrev pub defined_answer : Context → Progress → List ℕ → Counted Bool
-defined_answer c p name =
-    is_defined c.variables c.locals c.bound name >>= λ answer. Ok (answer, p)
+defined_answer c p name = Ok (is_defined c.variables c.locals c.bound name, p)
 
 -- The answer of a function to the value of its argument, which is trimmed. Paths are cleaned.
 abbrev pub answer_of : Context → Progress → Fun → List ℕ → Counted Bool

@@ -7,6 +7,7 @@ pub mod Limits
 pub mod Locals
 pub mod ModFaults
 pub mod Names
+pub mod Outer
 pub mod Parts
 pub mod Separators
 pub mod Steps

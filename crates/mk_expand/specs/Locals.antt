@@ -1,6 +1,6 @@
 -- The local names: they stand for what is made at the moment.
-use Rattle.std.specs.Prelude.{ℕ, ◌==◌, ◌||◌, Bool, false, List, [], ◌∷◌, ◌++◌, Option, Some, None}
-use Rattle.std.specs.Prelude.{Result, Ok, if◌then◌else◌, codes}
+use Rattle.std.specs.Prelude.{ℕ, ◌==◌, ◌||◌, ◌&&◌, Bool, false, List, [], ◌∷◌, ◌++◌, Option, Some, None}
+use Rattle.std.specs.Prelude.{Result, Ok, is_some, if◌then◌else◌, codes}
 use Rattle.std.specs.Option.{option_map}
 use Rattle.std.specs.Str.{bytes_eq}
 use Rattle.mk_bytes.specs.Agrees.{◌>>=◌}
@@ -82,3 +82,7 @@ raw_named l name (Some form) =
 -- The raw value of a local name, where there are some.
 abbrev pub local_raw : Locals → List ℕ → Result (Option (List ℕ)) ExpandFault
 local_raw l name = if l.some then raw_named l name (part_form name) else Ok None
+
+-- whether a name is a local name, whatever it stands for
+abbrev pub is_local : Locals → List ℕ → Bool
+is_local l name = l.some && (is_some (part_form name) || is_some (local_named name))

@@ -13,22 +13,21 @@ use crate::chain::Found;
 use crate::evaluation::Run;
 use crate::facts::Facts;
 use crate::fault::ExpandFault;
-use crate::name::{Names, known, raw_above};
+use crate::local::is_local;
+use crate::name::{Names, known, last_value};
 use crate::trim::{is_white_alone, trimmed};
 use mk_ast::Part;
 use mk_bytes::{Pairs, Text, clean_path};
 use mk_cond::Fun;
 use std::alloc::Global;
 
-// Whether a name has a raw value.
-fn is_defined(names: &Names<'_>, bound: &Pairs, name: &[u8]) -> Result<bool, ExpandFault>
-    ensures { Agrees no_memory (λ answer. answer) result (spec.is_defined names.now.scopes.now
-        names.now.locals.now bound.now name.now) }
+// Whether a name has a raw value. No value is put together for it.
+fn is_defined(names: &Names<'_>, bound: &Pairs, name: &[u8]) -> bool
+    ensures { result ≡ spec.is_defined names.now.scopes.now names.now.locals.now bound.now name.now }
 {
-    if raw_above(names, bound, name)?.is_some() {
-        return Ok(true);
-    }
-    Ok(known(names.scopes, name).is_some())
+    last_value(bound, name).is_some()
+        || is_local(names.locals, name)
+        || known(names.scopes, name).is_some()
 }
 
 // Asks for a fact.
@@ -81,7 +80,7 @@ pub fn answer_of<F: Facts>(
         (F.asked facts.new) (F.faults facts.old) (F.faults facts.new) result }
 {
     match fun {
-        Fun::Defined => is_defined(names, &run.bound, trimmed(value)),
+        Fun::Defined => Ok(is_defined(names, &run.bound, trimmed(value))),
         Fun::Empty => Ok(is_white_alone(value)),
         Fun::Make => ask(names.alloc, facts, fun, trimmed(value)),
         Fun::Exists => ask_path(names, facts, fun, trimmed(value)),

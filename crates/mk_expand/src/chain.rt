@@ -1,5 +1,5 @@
 //! What a reference has found, and the modifiers whose texts are evaluated.
-ghost use Rattle.std.specs.Prelude.{◌≡◌, ◌≤◌, length, IfOk};
+ghost use Rattle.std.specs.Prelude.{◌≡◌, ◌≤◌, length, take, IfOk};
 ghost use Rattle.mk_ast.specs.View.{mod_view, part_view};
 ghost use Rattle.mk_bytes.specs.Agrees.{Agrees};
 ghost use Rattle.mk_expand.specs.Chains as spec;
@@ -14,7 +14,7 @@ use crate::limit::{MAX_TEXT, append};
 use crate::separator::separator_of;
 use mk_ast::{ModTree, Part, print_part};
 use mk_bytes::{Items, NoMemory, Text};
-use mk_mods::{Mod, Val, with_items};
+use mk_mods::{Mod, Val, placed_anew, with_items};
 use mk_pool::Region;
 use std::alloc::Global;
 
@@ -51,6 +51,32 @@ pub fn given(
     Ok(Chain {
         val: with_items(alloc, region, chain.val, &items)?,
         defined: true,
+    })
+}
+
+/// A chain, whose items are placed anew behind the first `len` bytes of the region where the modifiers
+/// so far have placed more bytes behind those than a text may have. So a long chain does not keep the
+/// texts of all its modifiers.
+pub fn compacted(
+    alloc: Global,
+    region: &mut Region,
+    len: usize,
+    chain: Chain,
+) -> Result<Chain, NoMemory>
+    requires least { 2 ≤ len }
+    requires within { len ≤ length region.old.bytes }
+    requires items { end_of chain.val ≤ length region.old.bytes }
+    ensures value { IfOk result (λ new. chain_view region.new.bytes new
+        ≡ chain_view region.old.bytes chain) }
+    ensures within { IfOk result (λ new. end_of new.val ≤ length region.new.bytes) }
+    ensures begins { Begins (take len region.old.bytes) region.new.bytes }
+{
+    if region.len() - len <= MAX_TEXT {
+        return Ok(chain);
+    }
+    Ok(Chain {
+        val: placed_anew(alloc, region, chain.val, len)?,
+        defined: chain.defined,
     })
 }
 

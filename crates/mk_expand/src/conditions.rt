@@ -1,10 +1,11 @@
 //! The truth of conditions. What does not decide is not evaluated.
 ghost use Rattle.std.specs.Prelude.{◌≡◌, ◌∷◌, [], false, OnOk};
 ghost use Rattle.mk_ast.specs.View.{tree_view};
-ghost use Rattle.mk_cond.specs.View.{cond_view, conds_view, side_view};
+ghost use Rattle.mk_cond.specs.View.{cond_view, side_view};
 ghost use Rattle.mk_expand.specs.Calls.{Asks, Keeps, at, behind, here};
 ghost use Rattle.mk_expand.specs.Conditions as spec;
 ghost use Rattle.mk_expand.specs.Facts.{Means};
+ghost use Rattle.mk_expand.specs.Outer.{leaf_truth};
 ghost use Rattle.mk_expand.specs.Value.{found_at};
 
 use crate::answer::{answer_of, if_defined, lone_reference};
@@ -12,24 +13,19 @@ use crate::evaluation::{Run, found, tree_value};
 use crate::facts::Facts;
 use crate::fault::ExpandFault;
 use crate::name::Names;
+use crate::outer::{Leaf, Step, entered, left_behind};
 use crate::plain::plain_bytes;
 use mk_ast::Tree;
 use mk_bytes::Text;
-use mk_cond::{CmpOp, Cond, Conds, Fun, Side, compare, truth};
+use mk_cond::{CmpOp, Cond, Fun, Side, compare, truth};
 
-/// How deep conditions may lie in one another, so that the stack is bounded. A text has none that are
-/// deeper: at most 256 parentheses and `!` are open in it, each with a `||` and a `&&` inside.
-pub const MAX_DEPTH: usize = 1024;
-
-/// The truth of a condition.
+/// The truth of a condition. The conditions round the one that is evaluated stand in a list.
 #[cycle(value)]
-#[tactic(auto, using(mk_cond::proofs::Views::views))]
 pub fn truth_of<F: Facts>(
     names: &Names<'_>,
     run: &mut Run,
     facts: &mut F,
     room: usize,
-    depth: usize,
     cond: &Cond,
 ) -> Result<bool, ExpandFault>
     ensures value { Means (F.asked facts.new) (behind run.new (F.asked facts.new)) result
@@ -40,91 +36,45 @@ pub fn truth_of<F: Facts>(
     ensures facts { Asks (F.leads facts.old facts.new) (F.lists facts.old) (F.lists facts.new) (F.asked facts.old)
         (F.asked facts.new) (F.faults facts.old) (F.faults facts.new) result }
 {
-    if depth == 0 {
-        return Err(ExpandFault::NoMemory);
-    }
-    match cond {
-        Cond::Any(conds) => any_truth(names, run, facts, room, depth - 1, conds),
-        Cond::All(conds) => all_truth(names, run, facts, room, depth - 1, conds),
-        Cond::Not(inner) => negated(names, run, facts, room, depth - 1, inner),
-        Cond::Test(fun, argument) => test_truth(names, run, facts, room, *fun, argument),
-        Cond::Alone(side) => alone_truth(names, run, facts, room, side),
-        Cond::Both(left, op, right) => both_truth(names, run, facts, room, left, *op, right),
-    }
-}
-
-// The truth of a condition, turned round.
-#[cycle(value)]
-fn negated<F: Facts>(
-    names: &Names<'_>,
-    run: &mut Run,
-    facts: &mut F,
-    room: usize,
-    depth: usize,
-    cond: &Cond,
-) -> Result<bool, ExpandFault>
-    ensures value { Means (F.asked facts.new) (behind run.new (F.asked facts.new)) result
-        (λ answers. spec.turned_round (spec.truth_of (found_at room)
-        (here names.now.scopes.now names.now.locals.now (F.lists facts.old) run.old false answers)
-        (at run.old (F.asked facts.old)) (cond_view cond.now))) }
-    ensures run { OnOk result (Keeps run.old run.new) }
-    ensures facts { Asks (F.leads facts.old facts.new) (F.lists facts.old) (F.lists facts.new) (F.asked facts.old)
-        (F.asked facts.new) (F.faults facts.old) (F.faults facts.new) result }
-{
-    let truth = truth_of(names, run, facts, room, depth, cond)?;
-    Ok(!truth)
-}
-
-// The first that is true decides.
-#[cycle(value)]
-fn any_truth<F: Facts>(
-    names: &Names<'_>,
-    run: &mut Run,
-    facts: &mut F,
-    room: usize,
-    depth: usize,
-    conds: &Conds,
-) -> Result<bool, ExpandFault>
-    ensures value { Means (F.asked facts.new) (behind run.new (F.asked facts.new)) result
-        (λ answers. spec.any_truth (found_at room)
-        (here names.now.scopes.now names.now.locals.now (F.lists facts.old) run.old false answers)
-        (at run.old (F.asked facts.old)) (conds_view conds.now)) }
-    ensures run { OnOk result (Keeps run.old run.new) }
-    ensures facts { Asks (F.leads facts.old facts.new) (F.lists facts.old) (F.lists facts.new) (F.asked facts.old)
-        (F.asked facts.new) (F.faults facts.old) (F.faults facts.new) result }
-{
-    for cond in conds.as_slice() {
-        if truth_of(names, run, facts, room, depth, cond)? {
-            return Ok(true);
+    let mut outer = Vec::new(names.alloc);
+    let mut step = Step::Inside(cond);
+    'steps: loop {
+        match step {
+            Step::Inside(cond) => step = entered(&mut outer, cond)?,
+            Step::AtLeaf(leaf) => {
+                let truth = leaf_truth(names, run, facts, room, leaf)?;
+                match outer.pop() {
+                    Some(one) => step = left_behind(&mut outer, one, truth)?,
+                    None => return Ok(truth),
+                }
+            }
         }
     }
-    Ok(false)
 }
 
-// The first that is false decides.
+// The truth of a condition without conditions inside.
 #[cycle(value)]
-fn all_truth<F: Facts>(
+fn leaf_truth<F: Facts>(
     names: &Names<'_>,
     run: &mut Run,
     facts: &mut F,
     room: usize,
-    depth: usize,
-    conds: &Conds,
+    leaf: Leaf<'_>,
 ) -> Result<bool, ExpandFault>
     ensures value { Means (F.asked facts.new) (behind run.new (F.asked facts.new)) result
-        (λ answers. spec.all_truth (found_at room)
+        (λ answers. leaf_truth (found_at room)
         (here names.now.scopes.now names.now.locals.now (F.lists facts.old) run.old false answers)
-        (at run.old (F.asked facts.old)) (conds_view conds.now)) }
+        (at run.old (F.asked facts.old)) leaf.entry) }
     ensures run { OnOk result (Keeps run.old run.new) }
     ensures facts { Asks (F.leads facts.old facts.new) (F.lists facts.old) (F.lists facts.new) (F.asked facts.old)
         (F.asked facts.new) (F.faults facts.old) (F.faults facts.new) result }
 {
-    for cond in conds.as_slice() {
-        if !truth_of(names, run, facts, room, depth, cond)? {
-            return Ok(false);
-        }
+    match leaf {
+        Leaf::Known(truth) => Ok(truth),
+        Leaf::Test(fun, argument) => test_truth(names, run, facts, room, fun, argument),
+        Leaf::Alone(side) => alone_truth(names, run, facts, room, side),
+        Leaf::Both(left, op, right) => both_truth(names, run, facts, room, left, op, right),
     }
-    Ok(true)
 }
 
 // The answer of a function.

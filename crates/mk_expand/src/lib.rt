@@ -14,6 +14,7 @@ mod limit;
 mod local;
 mod modifiers;
 mod name;
+mod outer;
 mod plain;
 mod separator;
 mod substitution;

@@ -158,3 +158,10 @@ pub fn local_raw(alloc: Global, locals: &Locals, name: &[u8]) -> Result<Option<T
         Some(local) => Ok(Some(local_value(alloc, locals, local)?)),
     }
 }
+
+/// Whether a name is a local name, where there are some. Takes no memory.
+pub fn is_local(locals: &Locals, name: &[u8]) -> bool
+    ensures { result ≡ spec.is_local locals.now name.now }
+{
+    locals.some && (part_form(name).is_some() || local_named(name).is_some())
+}

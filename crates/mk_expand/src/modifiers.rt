@@ -11,8 +11,8 @@ ghost use Rattle.mk_expand.specs.Value.{found_at};
 ghost use Rattle.mk_expand.specs.View.{chain_view};
 ghost use Rattle.mk_mods.specs.Pieces.{end_of};
 
-use crate::chain::{Chain, Found, given};
-use crate::conditions::{MAX_DEPTH, truth_of};
+use crate::chain::{Chain, Found, compacted, given};
+use crate::conditions::truth_of;
 use crate::evaluation::{Run, tree_value};
 use crate::facts::Facts;
 use crate::fault::ExpandFault;
@@ -122,9 +122,11 @@ fn all_modified<F: Facts>(
     ensures facts { Asks (F.leads facts.old facts.new) (F.lists facts.old) (F.lists facts.new) (F.asked facts.old)
         (F.asked facts.new) (F.faults facts.old) (F.faults facts.new) result }
 {
+    let len = run.region.len();
     let mut chain = chain;
     for one in mods.as_slice() {
-        chain = modified(names, run, facts, room, name, chain, one)?;
+        let more = modified(names, run, facts, room, name, chain, one)?;
+        chain = compacted(names.alloc, &mut run.region, len, more)?;
     }
     Ok(chain)
 }
@@ -291,7 +293,7 @@ fn chosen<F: Facts>(
         (F.asked facts.new) (F.faults facts.old) (F.faults facts.new) result }
 {
     let cond = parse_cond(names.alloc, name, Form::Inner)?;
-    if truth_of(names, run, facts, room, MAX_DEPTH, &cond)? {
+    if truth_of(names, run, facts, room, &cond)? {
         return tree_value(names, run, facts, room, false, yes);
     }
     tree_value(names, run, facts, room, false, no)

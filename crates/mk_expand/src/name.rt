@@ -35,8 +35,8 @@ pub fn known<'s>(scopes: &'s Scopes, name: &[u8]) -> Option<&'s Text>
     scopes.get(name)
 }
 
-// The value of a name among those of `:@`. The last of a name counts.
-fn last_value<'b>(bound: &'b Pairs, name: &[u8]) -> Option<&'b Text>
+/// The value of a name among those of `:@`. The last of a name counts.
+pub fn last_value<'b>(bound: &'b Pairs, name: &[u8]) -> Option<&'b Text>
     ensures { option_copied result ≡ spec.last_value bound.now name.now }
 {
     let mut found = None;

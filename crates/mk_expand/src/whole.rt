@@ -9,7 +9,7 @@ ghost use Rattle.mk_expand.specs.Value as spec;
 ghost use Rattle.mk_expand.specs.declared.fault.ExpandFault.TheVariants.{Failed as failed};
 ghost use Rattle.mk_world.specs.Causes.{HasCause};
 
-use crate::conditions::{MAX_DEPTH, truth_of};
+use crate::conditions::truth_of;
 use crate::evaluation::{Run, text_value, tree_value};
 use crate::facts::Facts;
 use crate::fault::ExpandFault;
@@ -119,7 +119,7 @@ pub fn eval_cond<F: Facts>(
         locals,
     };
     let mut run = first_run(alloc)?;
-    truth_of(&names, &mut run, facts, MAX_OPEN, MAX_DEPTH, cond)
+    truth_of(&names, &mut run, facts, MAX_OPEN, cond)
 }
 
 /// One reference to a name without modifiers, whatever bytes the name has.

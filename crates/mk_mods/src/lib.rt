@@ -24,4 +24,4 @@ pub use chain::apply;
 pub use fault::ModFault;
 pub use modifier::Mod;
 pub use results::{Results, with_results};
-pub use val::{Separator, Val, text, with_items, words_of};
+pub use val::{Separator, Val, placed_anew, text, with_items, words_of};

@@ -1,4 +1,4 @@
-ghost use Rattle.std.specs.Prelude.{◌≡◌, ◌≤◌, ◌-◌, ◌++◌, length, option_to_list, SomeIff};
+ghost use Rattle.std.specs.Prelude.{◌≡◌, ◌≤◌, ◌-◌, ◌++◌, length, take, option_to_list, SomeIff};
 ghost use Rattle.std.specs.Prelude.{IfOk, OnOk};
 ghost use Rattle.mk_mods.specs.State as spec;
 ghost use Rattle.mk_mods.specs.Limits.{fits};
@@ -178,4 +178,23 @@ pub fn with_items(
         separator: val.separator,
         one_word: val.one_word,
     })
+}
+
+/// The same state, with its items placed anew behind the first `len` bytes of the region. What lies
+/// behind those is given up, and so is the state on a refusal.
+pub fn placed_anew(
+    alloc: Global,
+    region: &mut Region,
+    val: Val,
+    len: usize,
+) -> Result<Val, NoMemory>
+    requires least { 2 ≤ len }
+    requires within { len ≤ length region.old.bytes }
+    ensures state { IfOk result (λ new. seen region.new.bytes new ≡ seen region.old.bytes val) }
+    ensures within { IfOk result (λ new. end_of new ≤ length region.new.bytes) }
+    ensures begins { Begins (take len region.old.bytes) region.new.bytes }
+{
+    let items = texts(alloc, region, val.pieces.as_slice())?;
+    region.back(len);
+    with_items(alloc, region, val, &items)
 }

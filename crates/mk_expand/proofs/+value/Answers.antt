@@ -1,27 +1,25 @@
-use Rattle.std.proofs.Common.{◌≡◌, false, [], Ok, refl, sym, ◌∙◌, inr, rules}
+use Rattle.std.proofs.Common.{◌≡◌, ◌+◌, ◌<◌, take, false, [], Ok, refl, sym, ◌∙◌, inr, rules, arith}
+use Rattle.std.proofs.lemmas.Grind.{common_steps}
 use Rattle.std.proofs.lemmas.Result.{err_from_is_err_and}
 use Rattle.mk_ast.proofs.Views as trees
 use Rattle.mk_ast.proofs.Views.{view-Short, view-Keep, view-Without, view-Select, view-Choose}
 use Rattle.mk_ast.specs.Tree.{range_to}
 use Rattle.mk_ast.specs.View.{mod_view, tree_view}
 use Rattle.mk_ast.specs.declared.tree.ModTree.{the_lemmas as mod_lemmas}
-use Rattle.mk_cond.proofs.Views.{views, view-Any, view-All}
 use Rattle.mk_cond.specs.View.{side_view}
-use Rattle.mk_cond.specs.declared.cond.Cond.{the_lemmas}
 use Rattle.mk_mods.proofs.PieceLemmas.{Begins-refl}
 use Rattle.mk_expand.specs.Calls.{at, here}
-use Rattle.mk_expand.specs.Conditions.{truth_of}
 use Rattle.mk_expand.specs.Value.{found_at}
 use Rattle.mk_expand.specs.View.{chain_view}
 use Rattle.mk_expand.specs.declared.fault.ExpandFault.TheVariants.{NoMemory as no_memory}
 use Rattle.mk_expand.proofs.ChainLemmas.{all_modified-mod, all_modified-end, each_behind-word}
 use Rattle.mk_expand.proofs.ChainLemmas.{each_behind-end, modified-words, modified-given}
 use Rattle.mk_expand.proofs.ChainLemmas.{chained-default}
-use Rattle.mk_expand.proofs.ConditionLemmas.{any_truth-cond, any_truth-end, all_truth-cond}
-use Rattle.mk_expand.proofs.ConditionLemmas.{all_truth-end}
 use Rattle.mk_expand.proofs.FactLemmas.{earlier, never_fails, ok_never, Asks-none, Asks-err, Asks-ok, Asks-then}
 use Rattle.mk_expand.proofs.FactLemmas.{Keeps-then, Extends-then, agrees_but, fault_of_all, outside}
 use Rattle.mk_expand.proofs.FaultLemmas.{never-appended, never-raw_above, err_never, fault_never}
+use Rattle.mk_expand.specs.Outer.{step_size, weight}
+use Rattle.mk_expand.proofs.OuterLemmas.{fault_inside, round_all-push, weight-push}
 use Rattle.mk_expand.proofs.PlainLemmas.{Agrees-counted, opened_value-plain, raw_of-above}
 use Rattle.mk_expand.proofs.PlainLemmas.{side_value-plain, text_value-plain, tree_value-plain}
 use Rattle.mk_expand.proofs.PlainLemmas.{variable-plain}
@@ -160,33 +158,39 @@ modifiers::all_modified-loop-one-init g t c =
       run = record { open_names = refl; bound = refl; begins = Begins-refl _ };
       facts = Asks-none (g.met.F.Facts.stays _) _ _ _ (Ok tt) (ok_never tt);
       within = c.requires;
+      len = c.len-len.ensures.value;
+      least = grind (arith, common_steps);
     }
 
-pub modifiers::all_modified-returns-in_err-chain-clause-value : goal.modifiers::all_modified-returns-in_err-chain-clause-value
-modifiers::all_modified-returns-in_err-chain-clause-value g t c =
+pub modifiers::all_modified-returns-in_err-more-clause-value : goal.modifiers::all_modified-returns-in_err-more-clause-value
+modifiers::all_modified-returns-in_err-more-clause-value g t c =
     let p = err_from_is_err_and c.from_residual.result c.from_residual.ensures.1 in
     let l = c.loop-one in
     rw (p.1, p.2) (λ answers by.
-    let before = earlier _ _ answers c.in_err-chain.ensures.facts.asked by in
+    let before = earlier _ _ answers c.in_err-more.ensures.facts.asked by in
     let step = all_modified-mod (found_at c.args.room) (here c.args.names.now.scopes.now c.args.names.now.locals.now
     (g.F.Facts.lists l.facts) l.run false answers)
     (at l.run (g.F.Facts.asked l.facts)) c.args.name.now (chain_view l.run.region.bytes l.chain) c.as_slice-one-items.result.now l.one-index c.one-item.result
     c.loop-one-test.true c.one-item.is in
     rw (← c.as_slice-one-items.ensures.value, ← l.invariant.value answers before, step)
-    (fault_of_all c.in_err-chain.field-0.0 _ _ (c.in_err-chain.ensures.value answers by)))
+    (fault_of_all c.in_err-more.field-0.0 _ _ (c.in_err-more.ensures.value answers by)))
 
-pub modifiers::all_modified-returns-in_err-chain-clause-facts : goal.modifiers::all_modified-returns-in_err-chain-clause-facts
-modifiers::all_modified-returns-in_err-chain-clause-facts g t c =
+pub modifiers::all_modified-returns-in_err-more-clause-facts : goal.modifiers::all_modified-returns-in_err-more-clause-facts
+modifiers::all_modified-returns-in_err-more-clause-facts g t c =
     let p = err_from_is_err_and c.from_residual.result c.from_residual.ensures.1 in
     rw (p.1, p.2)
-    (Asks-then (g.met.F.Facts.goes_on _ _ _) c.loop-one.invariant.facts (Asks-err c.in_err-chain.ensures.facts))
+    (Asks-then (g.met.F.Facts.goes_on _ _ _) c.loop-one.invariant.facts (Asks-err c.in_err-more.ensures.facts))
 
 pub modifiers::all_modified-loop-one-preserved : goal.modifiers::all_modified-loop-one-preserved
 modifiers::all_modified-loop-one-preserved g t c =
     let l = c.loop-one in
+    let more = c.in_ok-more.ensures in
+    let run = Extends-then _ _ _ l.invariant.run more.run in
+    let short : take c.len-len.result c.modified.new.run.region.bytes ≡ c.args.run.now.region.bytes =
+    rw l.invariant.len run.begins in
     record {
       value = λ answers by.
-          let before = earlier _ _ answers c.in_ok-chain.ensures.facts.asked by in
+          let before = earlier _ _ answers more.facts.asked by in
           let step = all_modified-mod (found_at c.args.room) (here c.args.names.now.scopes.now c.args.names.now.locals.now
           (g.F.Facts.lists l.facts) l.run false answers)
           (at l.run (g.F.Facts.asked l.facts)) c.args.name.now (chain_view l.run.region.bytes l.chain) c.as_slice-one-items.result.now l.one-index c.one-item.result
@@ -194,13 +198,20 @@ modifiers::all_modified-loop-one-preserved g t c =
           rw (
             ← l.invariant.value answers before,
             step,
-            c.in_ok-chain.ensures.value answers by,
-            c.in_ok-chain.ensures.run.open_names,
-            c.in_ok-chain.ensures.run.bound,
-            c.in_ok-chain.ensures.facts.lists,
+            more.value answers by,
+            c.in_ok-chain.ensures.value,
+            more.run.open_names,
+            more.run.bound,
+            more.facts.lists,
           ) refl;
-      run = Extends-then _ _ _ l.invariant.run c.in_ok-chain.ensures.run;
-      facts = Asks-then (g.met.F.Facts.goes_on _ _ _) l.invariant.facts (Asks-ok tt c.in_ok-chain.ensures.facts);
+      len = l.invariant.len;
+      least = l.invariant.least;
+      run = record {
+        open_names = run.open_names;
+        bound = run.bound;
+        begins = rw short at c.in_ok-chain.ensures.begins;
+      };
+      facts = Asks-then (g.met.F.Facts.goes_on _ _ _) l.invariant.facts (Asks-ok tt more.facts);
       within = c.in_ok-chain.ensures.within;
     }
 
@@ -296,204 +307,6 @@ modifiers::each_behind-returns-clause-value g t c =
 pub modifiers::each_behind-returns-clause-facts : goal.modifiers::each_behind-returns-clause-facts
 modifiers::each_behind-returns-clause-facts g t c =
     Asks-ok _ c.loop-word.invariant.facts
-
-pub conditions::any_truth-loop-cond-init : goal.conditions::any_truth-loop-cond-init
-conditions::any_truth-loop-cond-init g t c =
-    record {
-      value = λ answers by. refl;
-      run = record { open_names = refl; bound = refl; region = refl };
-      facts = Asks-none (g.met.F.Facts.stays _) _ _ _ (Ok tt) (ok_never tt);
-    }
-
-pub conditions::any_truth-returns-in_err-truth_of-clause-value : goal.conditions::any_truth-returns-in_err-truth_of-clause-value
-conditions::any_truth-returns-in_err-truth_of-clause-value g t c =
-    let p = err_from_is_err_and c.from_residual.result c.from_residual.ensures.1 in
-    let l = c.loop-cond in
-    rw (p.1, p.2) (λ answers by.
-    let before = earlier _ _ answers c.in_err-truth_of.ensures.facts.asked by in
-    let step = any_truth-cond (found_at c.args.room) (here c.args.names.now.scopes.now c.args.names.now.locals.now
-    (g.F.Facts.lists l.facts) l.run false answers)
-    (at l.run (g.F.Facts.asked l.facts)) c.as_slice-cond-items.result.now l.cond-index c.cond-item.result
-    c.loop-cond-test.true c.cond-item.is in
-    rw (← c.as_slice-cond-items.ensures.value, ← l.invariant.value answers before, step)
-    (fault_of_all c.in_err-truth_of.field-0.0 _ _ (c.in_err-truth_of.ensures.value answers by)))
-
-pub conditions::any_truth-returns-in_err-truth_of-clause-facts : goal.conditions::any_truth-returns-in_err-truth_of-clause-facts
-conditions::any_truth-returns-in_err-truth_of-clause-facts g t c =
-    let p = err_from_is_err_and c.from_residual.result c.from_residual.ensures.1 in
-    rw (p.1, p.2)
-    (Asks-then (g.met.F.Facts.goes_on _ _ _) c.loop-cond.invariant.facts (Asks-err c.in_err-truth_of.ensures.facts))
-
-pub conditions::any_truth-returns-then-branch-clause-value : goal.conditions::any_truth-returns-then-branch-clause-value
-conditions::any_truth-returns-then-branch-clause-value g t c =
-    let l = c.loop-cond in
-    λ answers by.
-    let before = earlier _ _ answers c.in_ok-truth_of.ensures.facts.asked by in
-    let step = any_truth-cond (found_at c.args.room) (here c.args.names.now.scopes.now c.args.names.now.locals.now
-    (g.F.Facts.lists l.facts) l.run false answers)
-    (at l.run (g.F.Facts.asked l.facts)) c.as_slice-cond-items.result.now l.cond-index c.cond-item.result
-    c.loop-cond-test.true c.cond-item.is in
-    rw (
-      ← c.as_slice-cond-items.ensures.value,
-      ← l.invariant.value answers before,
-      step,
-      c.in_ok-truth_of.ensures.value answers by,
-      c.if-branch.true,
-    ) refl
-
-pub conditions::any_truth-returns-then-branch-clause-facts : goal.conditions::any_truth-returns-then-branch-clause-facts
-conditions::any_truth-returns-then-branch-clause-facts g t c =
-    Asks-then (g.met.F.Facts.goes_on _ _ _) c.loop-cond.invariant.facts (Asks-ok _ c.in_ok-truth_of.ensures.facts)
-
-pub conditions::any_truth-loop-cond-preserved : goal.conditions::any_truth-loop-cond-preserved
-conditions::any_truth-loop-cond-preserved g t c =
-    let l = c.loop-cond in
-    record {
-      value = λ answers by.
-          let before = earlier _ _ answers c.in_ok-truth_of.ensures.facts.asked by in
-          let step = any_truth-cond (found_at c.args.room) (here c.args.names.now.scopes.now c.args.names.now.locals.now
-          (g.F.Facts.lists l.facts) l.run false answers)
-          (at l.run (g.F.Facts.asked l.facts)) c.as_slice-cond-items.result.now l.cond-index c.cond-item.result
-          c.loop-cond-test.true c.cond-item.is in
-          rw (
-            ← l.invariant.value answers before,
-            step,
-            c.in_ok-truth_of.ensures.value answers by,
-            c.if-branch.false,
-            c.in_ok-truth_of.ensures.run.open_names,
-            c.in_ok-truth_of.ensures.run.bound,
-            c.in_ok-truth_of.ensures.facts.lists,
-          ) refl;
-      run = Keeps-then _ _ _ l.invariant.run c.in_ok-truth_of.ensures.run;
-      facts = Asks-then (g.met.F.Facts.goes_on _ _ _) l.invariant.facts (Asks-ok tt c.in_ok-truth_of.ensures.facts);
-    }
-
-pub conditions::any_truth-returns-clause-value : goal.conditions::any_truth-returns-clause-value
-conditions::any_truth-returns-clause-value g t c =
-    let l = c.loop-cond in
-    λ answers by.
-    let done = any_truth-end (found_at c.args.room) (here c.args.names.now.scopes.now c.args.names.now.locals.now
-    (g.F.Facts.lists l.facts) l.run false answers)
-    (at l.run (g.F.Facts.asked l.facts)) c.as_slice-cond-items.result.now l.cond-index c.loop-cond-test.false in
-    rw (← c.as_slice-cond-items.ensures.value) (sym (l.invariant.value answers by) ∙ done)
-
-pub conditions::any_truth-returns-clause-facts : goal.conditions::any_truth-returns-clause-facts
-conditions::any_truth-returns-clause-facts g t c =
-    Asks-ok _ c.loop-cond.invariant.facts
-
-pub conditions::all_truth-loop-cond-init : goal.conditions::all_truth-loop-cond-init
-conditions::all_truth-loop-cond-init g t c =
-    record {
-      value = λ answers by. refl;
-      run = record { open_names = refl; bound = refl; region = refl };
-      facts = Asks-none (g.met.F.Facts.stays _) _ _ _ (Ok tt) (ok_never tt);
-    }
-
-pub conditions::all_truth-returns-in_err-truth_of-clause-value : goal.conditions::all_truth-returns-in_err-truth_of-clause-value
-conditions::all_truth-returns-in_err-truth_of-clause-value g t c =
-    let p = err_from_is_err_and c.from_residual.result c.from_residual.ensures.1 in
-    let l = c.loop-cond in
-    rw (p.1, p.2) (λ answers by.
-    let before = earlier _ _ answers c.in_err-truth_of.ensures.facts.asked by in
-    let step = all_truth-cond (found_at c.args.room) (here c.args.names.now.scopes.now c.args.names.now.locals.now
-    (g.F.Facts.lists l.facts) l.run false answers)
-    (at l.run (g.F.Facts.asked l.facts)) c.as_slice-cond-items.result.now l.cond-index c.cond-item.result
-    c.loop-cond-test.true c.cond-item.is in
-    rw (← c.as_slice-cond-items.ensures.value, ← l.invariant.value answers before, step)
-    (fault_of_all c.in_err-truth_of.field-0.0 _ _ (c.in_err-truth_of.ensures.value answers by)))
-
-pub conditions::all_truth-returns-in_err-truth_of-clause-facts : goal.conditions::all_truth-returns-in_err-truth_of-clause-facts
-conditions::all_truth-returns-in_err-truth_of-clause-facts g t c =
-    let p = err_from_is_err_and c.from_residual.result c.from_residual.ensures.1 in
-    rw (p.1, p.2)
-    (Asks-then (g.met.F.Facts.goes_on _ _ _) c.loop-cond.invariant.facts (Asks-err c.in_err-truth_of.ensures.facts))
-
-pub conditions::all_truth-returns-then-not-branch-clause-value : goal.conditions::all_truth-returns-then-not-branch-clause-value
-conditions::all_truth-returns-then-not-branch-clause-value g t c =
-    let l = c.loop-cond in
-    λ answers by.
-    let before = earlier _ _ answers c.in_ok-truth_of.ensures.facts.asked by in
-    let step = all_truth-cond (found_at c.args.room) (here c.args.names.now.scopes.now c.args.names.now.locals.now
-    (g.F.Facts.lists l.facts) l.run false answers)
-    (at l.run (g.F.Facts.asked l.facts)) c.as_slice-cond-items.result.now l.cond-index c.cond-item.result
-    c.loop-cond-test.true c.cond-item.is in
-    rw (
-      ← c.as_slice-cond-items.ensures.value,
-      ← l.invariant.value answers before,
-      step,
-      c.in_ok-truth_of.ensures.value answers by,
-      c.if-not-branch.true,
-    ) refl
-
-pub conditions::all_truth-returns-then-not-branch-clause-facts : goal.conditions::all_truth-returns-then-not-branch-clause-facts
-conditions::all_truth-returns-then-not-branch-clause-facts g t c =
-    Asks-then (g.met.F.Facts.goes_on _ _ _) c.loop-cond.invariant.facts (Asks-ok _ c.in_ok-truth_of.ensures.facts)
-
-pub conditions::all_truth-loop-cond-preserved : goal.conditions::all_truth-loop-cond-preserved
-conditions::all_truth-loop-cond-preserved g t c =
-    let l = c.loop-cond in
-    record {
-      value = λ answers by.
-          let before = earlier _ _ answers c.in_ok-truth_of.ensures.facts.asked by in
-          let step = all_truth-cond (found_at c.args.room) (here c.args.names.now.scopes.now c.args.names.now.locals.now
-          (g.F.Facts.lists l.facts) l.run false answers)
-          (at l.run (g.F.Facts.asked l.facts)) c.as_slice-cond-items.result.now l.cond-index c.cond-item.result
-          c.loop-cond-test.true c.cond-item.is in
-          rw (
-            ← l.invariant.value answers before,
-            step,
-            c.in_ok-truth_of.ensures.value answers by,
-            c.if-not-branch.false,
-            c.in_ok-truth_of.ensures.run.open_names,
-            c.in_ok-truth_of.ensures.run.bound,
-            c.in_ok-truth_of.ensures.facts.lists,
-          ) refl;
-      run = Keeps-then _ _ _ l.invariant.run c.in_ok-truth_of.ensures.run;
-      facts = Asks-then (g.met.F.Facts.goes_on _ _ _) l.invariant.facts (Asks-ok tt c.in_ok-truth_of.ensures.facts);
-    }
-
-pub conditions::all_truth-returns-clause-value : goal.conditions::all_truth-returns-clause-value
-conditions::all_truth-returns-clause-value g t c =
-    let l = c.loop-cond in
-    λ answers by.
-    let done = all_truth-end (found_at c.args.room) (here c.args.names.now.scopes.now c.args.names.now.locals.now
-    (g.F.Facts.lists l.facts) l.run false answers)
-    (at l.run (g.F.Facts.asked l.facts)) c.as_slice-cond-items.result.now l.cond-index c.loop-cond-test.false in
-    rw (← c.as_slice-cond-items.ensures.value) (sym (l.invariant.value answers by) ∙ done)
-
-pub conditions::all_truth-returns-clause-facts : goal.conditions::all_truth-returns-clause-facts
-conditions::all_truth-returns-clause-facts g t c =
-    Asks-ok _ c.loop-cond.invariant.facts
-
-pub conditions::truth_of-returns-in-Any-clause-value : goal.conditions::truth_of-returns-in-Any-clause-value
-unfolding truth_of
-conditions::truth_of-returns-in-Any-clause-value g t c =
-    rw (c.in-Any.is, view-Any c.in-Any.conds) c.any_truth.ensures.value
-
-pub conditions::truth_of-returns-in-All-clause-value : goal.conditions::truth_of-returns-in-All-clause-value
-unfolding truth_of
-conditions::truth_of-returns-in-All-clause-value g t c =
-    rw (c.in-All.is, view-All c.in-All.conds) c.all_truth.ensures.value
-
-pub conditions::truth_of-returns-in-Test-clause-value : goal.conditions::truth_of-returns-in-Test-clause-value
-unfolding truth_of
-conditions::truth_of-returns-in-Test-clause-value g t c =
-    let value = c.test_truth.ensures.value in search (rules, views)
-
-pub conditions::truth_of-returns-in-Alone-clause-value : goal.conditions::truth_of-returns-in-Alone-clause-value
-unfolding truth_of
-conditions::truth_of-returns-in-Alone-clause-value g t c =
-    let value = c.alone_truth.ensures.value in search (rules, views)
-
-pub conditions::truth_of-returns-in-Both-clause-value : goal.conditions::truth_of-returns-in-Both-clause-value
-unfolding truth_of
-conditions::truth_of-returns-in-Both-clause-value g t c =
-    let value = c.both_truth.ensures.value in search (rules, views)
-
-pub conditions::truth_of-returns-in-Not-clause-value : goal.conditions::truth_of-returns-in-Not-clause-value
-unfolding truth_of
-conditions::truth_of-returns-in-Not-clause-value g t c =
-    let value = c.negated.ensures.value in search (rules, the_lemmas, views)
 
 pub evaluation::text_value-returns-then-not-has_dollar-clause-value : goal.evaluation::text_value-returns-then-not-has_dollar-clause-value
 evaluation::text_value-returns-then-not-has_dollar-clause-value g t c =
@@ -825,3 +638,55 @@ evaluation::reference-returns-clause-value g t c =
       c.bytes.ensures.value,
     ) at (c.named-2.ensures.value answers by) in
     rw first behind
+
+pub conditions::truth_of-returns-in_err-truth-in-AtLeaf-clause-value : goal.conditions::truth_of-returns-in_err-truth-in-AtLeaf-clause-value
+conditions::truth_of-returns-in_err-truth-in-AtLeaf-clause-value g t c =
+    let l = c.steps in
+    let first = c.in_err-truth-in-AtLeaf in
+    let p = err_from_is_err_and c.from_residual-in_err-truth-in-AtLeaf.result
+    c.from_residual-in_err-truth-in-AtLeaf.ensures.1 in
+    rw (p.1, p.2) (λ answers by.
+    let before = earlier _ _ answers first.ensures.facts.asked by in
+    rw (← l.invariant.value answers before, c.in-AtLeaf.is)
+    (fault_inside _ _ l.outer.items _ first.field-0.0 (first.ensures.value answers by)))
+
+pub conditions::truth_of-steps-smaller : goal.conditions::truth_of-steps-smaller
+conditions::truth_of-steps-smaller g t c =
+    let l = c.steps in
+    let next = c.in_ok-step-in-Some in
+    let less : weight c.left_behind.new.outer.items + step_size next.step
+    < weight l.outer.items + step_size l.step =
+    rw (c.in-AtLeaf.is, c.in-Some.ensures.items, weight-push c.pop.new.self.items c.in-Some.one)
+    (omega (arith, next.ensures.less)) in
+    less
+
+pub conditions::truth_of-steps-preserved : goal.conditions::truth_of-steps-preserved
+conditions::truth_of-steps-preserved g t c =
+    let l = c.steps in
+    let leaf = c.in_ok-truth-in-AtLeaf.ensures in
+    record {
+      value = λ answers by.
+          let before = earlier _ _ answers leaf.facts.asked by in
+          c.in_ok-step-in-Some.ensures.same _ _ _
+          ∙ rw (
+            ← l.invariant.value answers before,
+            c.in-AtLeaf.is,
+            c.in-Some.ensures.items,
+            round_all-push _ _ c.pop.new.self.items c.in-Some.one _,
+            leaf.value answers by,
+            leaf.run.open_names,
+            leaf.run.bound,
+            leaf.facts.lists,
+          ) refl;
+      run = Keeps-then _ _ _ l.invariant.run leaf.run;
+      facts = Asks-then (g.met.F.Facts.goes_on _ _ _) l.invariant.facts (Asks-ok tt leaf.facts);
+    }
+
+pub conditions::truth_of-returns-in-None-clause-value : goal.conditions::truth_of-returns-in-None-clause-value
+conditions::truth_of-returns-in-None-clause-value g t c =
+    let l = c.steps in
+    let leaf = c.in_ok-truth-in-AtLeaf.ensures in
+    let none : l.outer.items ≡ [] = grind (arith, common_steps) in
+    λ answers by.
+    let before = earlier _ _ answers leaf.facts.asked by in
+    rw (← l.invariant.value answers before, c.in-AtLeaf.is, none) (leaf.value answers by)

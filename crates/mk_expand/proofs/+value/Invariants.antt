@@ -1,11 +1,12 @@
 use Rattle.std.proofs.Common.{◌≡◌, ◌+◌, ◌*◌, ◌≤◌, drop, length, false, Ok}
 use Rattle.mk_ast.specs.View.{mods_view, tree_view}
-use Rattle.mk_cond.specs.View.{conds_view}
+use Rattle.mk_cond.specs.View.{cond_view}
 use Rattle.mk_mods.specs.Pieces.{end_of}
 use Rattle.mk_expand.specs.Calls.{Asks, Extends, Keeps, at, here}
 use Rattle.mk_expand.specs.Chains.{all_modified, each_behind}
-use Rattle.mk_expand.specs.Conditions.{any_truth, all_truth}
+use Rattle.mk_expand.specs.Conditions.{truth_of}
 use Rattle.mk_expand.specs.Facts.{Answers, AnsweredBy}
+use Rattle.mk_expand.specs.Outer.{round_all, step_size, step_truth, weight}
 use Rattle.mk_expand.specs.Parts.{joined, tree_value}
 use Rattle.mk_expand.specs.Substitutions.{old_in_tree}
 use Rattle.mk_expand.specs.Value.{found_at}
@@ -120,17 +121,11 @@ decreases-conditions::both_truth g l = 4096 * l.room + 6
 abbrev pub decreases-conditions::test_truth : goal.decreases-conditions::test_truth
 decreases-conditions::test_truth g l = 4096 * l.room + 6
 
+abbrev pub decreases-conditions::leaf_truth : goal.decreases-conditions::leaf_truth
+decreases-conditions::leaf_truth g l = 4096 * l.room + 7
+
 abbrev pub decreases-conditions::truth_of : goal.decreases-conditions::truth_of
-decreases-conditions::truth_of g l = 4096 * l.room + 2 * l.depth + 8
-
-abbrev pub decreases-conditions::negated : goal.decreases-conditions::negated
-decreases-conditions::negated g l = 4096 * l.room + 2 * l.depth + 9
-
-abbrev pub decreases-conditions::any_truth : goal.decreases-conditions::any_truth
-decreases-conditions::any_truth g l = 4096 * l.room + 2 * l.depth + 9
-
-abbrev pub decreases-conditions::all_truth : goal.decreases-conditions::all_truth
-decreases-conditions::all_truth g l = 4096 * l.room + 2 * l.depth + 9
+decreases-conditions::truth_of g l = 4096 * l.room + 8
 
 -- the text so far, and behind it the values of the parts that are left
 abbrev pub invariant-evaluation::joined-loop-part : goal.invariant-evaluation::joined-loop-part
@@ -177,6 +172,8 @@ invariant-modifiers::all_modified-loop-one g l = record {
       (here l.names.scopes.now l.names.locals.now (g.F.Facts.lists l.initial.facts) l.initial.run false answers)
       (at l.initial.run (g.F.Facts.asked l.initial.facts)) l.name
       (chain_view l.initial.run.region.bytes l.initial.chain) (mods_view l.one-items);
+  len : l.len ≡ length l.initial.run.region.bytes;
+  least : 2 ≤ l.len;
   run : Extends l.initial.run l.run;
   facts : Asks {A = Unit {0}} (g.F.Facts.leads l.initial.facts l.facts) (g.F.Facts.lists l.initial.facts) (g.F.Facts.lists l.facts)
       (g.F.Facts.asked l.initial.facts) (g.F.Facts.asked l.facts)
@@ -200,34 +197,23 @@ invariant-modifiers::each_behind-loop-word g l = record {
       (g.F.Facts.faults l.initial.facts) (g.F.Facts.faults l.facts) (Ok tt);
 }
 
--- none so far was true, and the conditions that are left decide
-abbrev pub invariant-conditions::any_truth-loop-cond : goal.invariant-conditions::any_truth-loop-cond
-invariant-conditions::any_truth-loop-cond g l = record {
+-- the step that is next, inside the conditions round it, is the whole condition
+abbrev pub invariant-conditions::truth_of-steps : goal.invariant-conditions::truth_of-steps
+invariant-conditions::truth_of-steps g l = record {
   value : (answers : Answers) → AnsweredBy answers (g.F.Facts.asked l.facts)
-      → any_truth (found_at l.room)
+      → round_all (found_at l.room)
+      (here l.names.scopes.now l.names.locals.now (g.F.Facts.lists l.facts) l.run false answers) l.outer.items
+      (step_truth (found_at l.room)
       (here l.names.scopes.now l.names.locals.now (g.F.Facts.lists l.facts) l.run false answers)
-      (at l.run (g.F.Facts.asked l.facts)) (conds_view (drop l.cond-index l.cond-items))
-      ≡ any_truth (found_at l.room)
+      (at l.run (g.F.Facts.asked l.facts)) l.step)
+      ≡ truth_of (found_at l.room)
       (here l.names.scopes.now l.names.locals.now (g.F.Facts.lists l.initial.facts) l.initial.run false answers)
-      (at l.initial.run (g.F.Facts.asked l.initial.facts)) (conds_view l.cond-items);
+      (at l.initial.run (g.F.Facts.asked l.initial.facts)) (cond_view l.cond);
   run : Keeps l.initial.run l.run;
   facts : Asks {A = Unit {0}} (g.F.Facts.leads l.initial.facts l.facts) (g.F.Facts.lists l.initial.facts) (g.F.Facts.lists l.facts)
       (g.F.Facts.asked l.initial.facts) (g.F.Facts.asked l.facts)
       (g.F.Facts.faults l.initial.facts) (g.F.Facts.faults l.facts) (Ok tt);
 }
 
--- all so far were true, and the conditions that are left decide
-abbrev pub invariant-conditions::all_truth-loop-cond : goal.invariant-conditions::all_truth-loop-cond
-invariant-conditions::all_truth-loop-cond g l = record {
-  value : (answers : Answers) → AnsweredBy answers (g.F.Facts.asked l.facts)
-      → all_truth (found_at l.room)
-      (here l.names.scopes.now l.names.locals.now (g.F.Facts.lists l.facts) l.run false answers)
-      (at l.run (g.F.Facts.asked l.facts)) (conds_view (drop l.cond-index l.cond-items))
-      ≡ all_truth (found_at l.room)
-      (here l.names.scopes.now l.names.locals.now (g.F.Facts.lists l.initial.facts) l.initial.run false answers)
-      (at l.initial.run (g.F.Facts.asked l.initial.facts)) (conds_view l.cond-items);
-  run : Keeps l.initial.run l.run;
-  facts : Asks {A = Unit {0}} (g.F.Facts.leads l.initial.facts l.facts) (g.F.Facts.lists l.initial.facts) (g.F.Facts.lists l.facts)
-      (g.F.Facts.asked l.initial.facts) (g.F.Facts.asked l.facts)
-      (g.F.Facts.faults l.initial.facts) (g.F.Facts.faults l.facts) (Ok tt);
-}
+abbrev pub decreases-conditions::truth_of-steps : goal.decreases-conditions::truth_of-steps
+decreases-conditions::truth_of-steps g l = weight l.outer.items + step_size l.step
