@@ -120,6 +120,10 @@ row shows='a target below a folder that is not there' \
     makefile=$'d/t:\n\t@{ echo 1 > d/t; } 2>/dev/null\n' \
     status=1 err="bmake: target d/t command 1: status $no_folder"$'\n'
 
+row shows='a recorder finds its log beside the output' \
+    makefile=$'t:\n\t@echo "$${BMAKE_FILEMON##*/}"\n' \
+    out=$'.bmake.fm.1\n' after='[ "$(ls -A)" = makefile ]'
+
 row shows='files that an earlier run left behind are removed' \
     before='echo old >.bmake.out.1; echo old >.bmake.fm.1' \
     makefile=$'t:\n\t@echo new\n' \
@@ -128,6 +132,20 @@ row shows='files that an earlier run left behind are removed' \
 row shows='a command that removes its own output file' \
     makefile=$'t:\n\t@rm .bmake.out.*\n' \
     status=3 err="$outside"
+
+row shows='a folder where the log of a recorder would be' \
+    before='mkdir .bmake.fm.1' \
+    makefile=$'t:\n\t@echo a\n' \
+    status=3 err="$outside"
+
+row shows='an older child is given up, and its output stays' \
+    makefile=$'all: x y\nx:\n\t@echo $$$$ > pid; exec sleep 600\ny:\n\t@until [ -s pid ]; do sleep 0.05; done; rm .bmake.out.$${BMAKE_FILEMON##*.}\n' \
+    run='timeout 60 "$program" -j 2' status=3 err="$outside" \
+    after='kill "$(cat pid)" 2>/dev/null; [ -e .bmake.out.1 ]'
+
+row shows='a command that is asked answers with its standard output alone' \
+    makefile=$'A!=echo a; echo "no answer" >&2; exit 4\n' run='"$program" -V A' \
+    out=$'a\n' err=$'no answer\n'
 
 row shows='the names of folders are quoted' \
     before=$'d=$\'it\\\'s "$x" *\\n`y`\'; mkdir "$d"; cd "$d"' \
@@ -193,6 +211,15 @@ row shows='.DELETE_ON_ERROR removes the target of a job that failed, but for a p
     makefile=$'.DELETE_ON_ERROR:\n.PRECIOUS: p\nall: t p\nt p:\n\t@echo 1 > ${.TARGET}; exit 2\n' \
     run='"$program" -k' \
     status=1 err=$'bmake: target t command 1: status 2\n' after='[ ! -e t ] && [ -e p ]'
+
+row shows='a target that cannot be removed' \
+    makefile=$'.DELETE_ON_ERROR:\nt:\n\t@mkdir t; exit 2\n' \
+    status=3 err="$outside" after='[ -d t ]'
+
+row shows='a target that is not there, or stands below a plain file, is not removed' \
+    makefile=$'.DELETE_ON_ERROR:\nall: t p/x\nt:\n\t@exit 2\np/x:\n\t@echo 1 > p; exit 2\n' \
+    run='"$program" -k' \
+    status=1 err=$'bmake: target t command 1: status 2\n' after='[ -f p ]'
 
 if mkdir "$room/small" && mount -t tmpfs -o size=64k none "$room/small" 2>/dev/null; then
     row shows='a full file system' \

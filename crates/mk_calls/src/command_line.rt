@@ -1,7 +1,7 @@
 //! What the words of a command line ask for.
 use crate::texts::{are, texts};
 use mk_bytes::is_clean_directory;
-use mk_cli::{Order, words};
+use mk_cli::{Order, Usage, words};
 use std::alloc::Global;
 use std::test::Fail;
 
@@ -74,5 +74,13 @@ fn words_ask(rt: HostRuntime) -> Result<(), Fail> {
         let (shows, all, asked) = *row;
         assert!(rt; are_read_as(rt.alloc(), all, asked), "{shows}");
     }
+    Ok(())
+}
+
+#[test]
+fn a_word_behind_generate_is_refused(rt: HostRuntime) -> Result<(), Fail> {
+    assert!(rt; is_clean_directory(CWD));
+    let all = texts(rt.alloc(), &[b"--generate", b"10", b"t"])?;
+    assert!(rt; matches!(words(rt.alloc(), &all, CWD), Err(Usage::Word(2))));
     Ok(())
 }

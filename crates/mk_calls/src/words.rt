@@ -1,5 +1,7 @@
-//! Words at their places, and the directories that paths are cleaned against.
+//! Words at their places, patterns and the empty word, and the directories that paths are cleaned
+//! against.
 use mk_bytes::{Span, is_clean_directory, next_word};
+use mk_glob::matches;
 
 const WORDS: [(&str, &[u8], usize, Option<Span>); 6] = [
     (
@@ -50,5 +52,19 @@ fn clean_directories_are_known(rt: HostRuntime) {
     for row in &DIRECTORIES {
         let (shows, path, clean) = *row;
         assert_eq!(rt; is_clean_directory(path), clean, "{shows}");
+    }
+}
+
+const PATTERNS: [(&str, &[u8], bool); 3] = [
+    ("a question mark takes a byte", b"?", false),
+    ("a star takes nothing", b"*", true),
+    ("the empty pattern", b"", true),
+];
+
+#[test]
+fn patterns_take_the_empty_word(rt: HostRuntime) {
+    for row in &PATTERNS {
+        let (shows, pattern, wanted) = *row;
+        assert_eq!(rt; matches(pattern, b""), wanted, "{shows}");
     }
 }

@@ -11,8 +11,6 @@ mod file;
 mod refusal;
 mod script;
 mod sink;
-#[cfg(test)]
-mod tests;
 mod world;
 
 pub use child::RealKid;
