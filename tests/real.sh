@@ -138,6 +138,10 @@ row shows='nor behind a fault of the outside, and the shells of other children a
     run='TMPDIR=$PWD/tmp timeout 60 "$program" -j 2' \
     status=3 err="$outside" after='! kill -0 "$(cat pid)" 2>/dev/null && [ -z "$(ls -A tmp)" ]'
 
+row shows='a recorder finds its log beside the output' \
+    makefile=$'t:\n\t@echo "$${BMAKE_FILEMON##*/}"\n' \
+    out=$'fm.1\n'
+
 row shows='a command that removes its own output file' \
     makefile=$'t:\n\t@rm "$${BMAKE_FILEMON%/*}"/out.*\n' \
     status=3 err="$outside"
@@ -182,6 +186,14 @@ if $nobody true 2>/dev/null && $nobody test -x "$program"; then
 else
     echo 'skipped: a directory that cannot be written (nobody may not run the program here)'
 fi
+
+row shows='a folder where the log of a recorder would be' \
+    makefile=$'t:\n\t@mkdir "$$BMAKE_FILEMON"\n' \
+    status=3 err="$outside"
+
+row shows='a command that is asked answers with its standard output alone' \
+    makefile=$'A!=echo a; echo "no answer" >&2; exit 4\n' run='"$program" -V A' \
+    out=$'a\n' err=$'no answer\n'
 
 row shows='the names of folders are quoted' \
     before=$'d=$\'it\\\'s "$x" *\\n`y`\'; mkdir "$d"; cd "$d"' \
@@ -247,6 +259,15 @@ row shows='.DELETE_ON_ERROR removes the target of a job that failed, but for a p
     makefile=$'.DELETE_ON_ERROR:\n.PRECIOUS: p\nall: t p\nt p:\n\t@echo 1 > ${.TARGET}; exit 2\n' \
     run='"$program" -k' \
     status=1 err=$'bmake: target t command 1: status 2\n' after='[ ! -e t ] && [ -e p ]'
+
+row shows='a target that cannot be removed' \
+    makefile=$'.DELETE_ON_ERROR:\nt:\n\t@mkdir t; exit 2\n' \
+    status=3 err="$outside" after='[ -d t ]'
+
+row shows='a target that is not there, or stands below a plain file, is not removed' \
+    makefile=$'.DELETE_ON_ERROR:\nall: t p/x\nt:\n\t@exit 2\np/x:\n\t@echo 1 > p; exit 2\n' \
+    run='"$program" -k' \
+    status=1 err=$'bmake: target t command 1: status 2\n' after='[ -f p ]'
 
 if mkdir "$room/small" && mount -t tmpfs -o size=64k none "$room/small" 2>/dev/null; then
     row shows='a full file system' \

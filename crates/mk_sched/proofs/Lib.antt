@@ -3,4 +3,3 @@ pub mod CountLemmas
 pub mod DecideLemmas
 pub mod StartLemmas
 pub mod NextRows
-pub mod RunLemmas

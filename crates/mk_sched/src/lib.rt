@@ -8,6 +8,3 @@ mod sched;
 mod start;
 
 pub use sched::{Next, Sched};
-
-#[cfg(test)]
-mod tests;

@@ -1,0 +1,86 @@
+//! What the words of a command line ask for.
+use crate::texts::{are, texts};
+use mk_bytes::is_clean_directory;
+use mk_cli::{Order, Usage, words};
+use std::alloc::Global;
+use std::test::Fail;
+
+const CWD: &[u8] = b"/w";
+
+type Words = &'static [&'static [u8]];
+
+/// The number of jobs, whether the build goes on after a failure, how many makefiles, assignments and
+/// prints there are, and the targets.
+type Asked = (u32, bool, usize, usize, usize, Words);
+
+const ROWS: [(&str, Words, Asked); 7] = [
+    ("no words", &[], (1, false, 0, 0, 0, &[])),
+    (
+        "a shared word",
+        &[b"-kj4", b"X=1", b"t"],
+        (4, true, 0, 1, 0, &[b"t"]),
+    ),
+    (
+        "the last -j",
+        &[b"-j2", b"t", b"-j", b"03"],
+        (3, false, 0, 0, 0, &[b"t"]),
+    ),
+    (
+        "-B beside -j, and -S behind -k",
+        &[b"-kB", b"-j", b"4", b"-S"],
+        (1, false, 0, 0, 0, &[]),
+    ),
+    (
+        "any argument",
+        &[b"-f", b"--", b"-VA", b"-v", b"$B"],
+        (1, false, 1, 0, 2, &[]),
+    ),
+    (
+        "options that end",
+        &[b"-DA", b"--", b"-k", b"--"],
+        (1, false, 0, 1, 0, &[b"-k", b"--"]),
+    ),
+    (
+        "cleaned targets",
+        &[b"./a//b", b"/w/c", b"=x"],
+        (1, false, 0, 0, 0, &[b"a/b", b"c", b"=x"]),
+    ),
+];
+
+fn asks_for(order: &Order, asked: Asked) -> bool {
+    let (jobs, keep_going, files, sets, prints, targets) = asked;
+    order.flags.jobs == jobs
+        && order.flags.keep_going == keep_going
+        && order.files.len() == files
+        && order.sets.len() == sets
+        && order.prints.len() == prints
+        && are(&order.flags.requested, targets)
+}
+
+fn are_read_as(alloc: Global, all: Words, asked: Asked) -> bool {
+    let Ok(all) = texts(alloc, all) else {
+        return false;
+    };
+    match words(alloc, &all, CWD) {
+        Ok(order) => asks_for(&order, asked),
+        Err(_) => false,
+    }
+}
+
+#[test]
+fn words_ask(rt: HostRuntime) -> Result<(), Fail> {
+    assert!(rt; is_clean_directory(CWD));
+    for row in &ROWS {
+        let (shows, all, asked) = *row;
+        assert!(rt; are_read_as(rt.alloc(), all, asked), "{shows}");
+    }
+    Ok(())
+}
+
+#[test]
+fn a_word_behind_generate_is_refused(rt: HostRuntime) -> Result<(), Fail> {
+    assert!(rt; is_clean_directory(CWD));
+    let all = texts(rt.alloc(), &[b"--generate", b"10", b"t"])?;
+    assert!(rt; matches!(words(rt.alloc(), &all, CWD), Err(Usage::Word(2))));
+    Ok(())
+}

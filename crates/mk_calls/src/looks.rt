@@ -1,0 +1,57 @@
+//! Which paths of records are looked at.
+use crate::texts::{are, texts};
+use mk_bytes::{Items, NoMemory, Texts};
+use mk_filemon::{Recs, read_op};
+use mk_oodate::{left_paths, missed_paths, read_paths};
+use std::alloc::Global;
+use std::test::Fail;
+
+const RECORDS: [&[u8]; 7] = [
+    b"R 1 ab",
+    b"R 1 b",
+    b"R 1 /w/x",
+    b"N 1 x",
+    b"N 1 ac",
+    b"W 1 t",
+    b"W 1 a",
+];
+
+/// The records of lines.
+pub fn records_of(alloc: Global, lines: &[&[u8]]) -> Result<Recs, NoMemory> {
+    let mut records = Items::new(alloc, 0)?;
+    for line in lines {
+        if let Some(one) = read_op(alloc, line)? {
+            records.push(one)?;
+        }
+    }
+    Ok(records)
+}
+
+// The beginnings of paths that are ignored.
+fn ignored(alloc: Global) -> Result<Texts, NoMemory> {
+    texts(alloc, &[b"a", b"/w/x"])
+}
+
+#[test]
+fn ignored_paths_are_not_read(rt: HostRuntime) -> Result<(), Fail> {
+    let records = records_of(rt.alloc(), &RECORDS)?;
+    let paths = read_paths(rt.alloc(), &ignored(rt.alloc())?, &records)?;
+    assert!(rt; are(&paths, &[b"b"]));
+    Ok(())
+}
+
+#[test]
+fn ignored_paths_are_not_missed(rt: HostRuntime) -> Result<(), Fail> {
+    let records = records_of(rt.alloc(), &RECORDS)?;
+    let paths = missed_paths(rt.alloc(), &ignored(rt.alloc())?, &records)?;
+    assert!(rt; are(&paths, &[b"x"]));
+    Ok(())
+}
+
+#[test]
+fn ignored_paths_are_not_left(rt: HostRuntime) -> Result<(), Fail> {
+    let records = records_of(rt.alloc(), &RECORDS)?;
+    let paths = left_paths(rt.alloc(), &ignored(rt.alloc())?, &records)?;
+    assert!(rt; are(&paths, &[b"t"]));
+    Ok(())
+}

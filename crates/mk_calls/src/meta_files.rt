@@ -1,0 +1,226 @@
+//! Meta files, read and written.
+use crate::looks::records_of;
+use mk_bytes::{Items, NoMemory, Text};
+use mk_meta::{Meta, head, read_meta, write_meta};
+use mk_world::{Lines, TaskLine, Time};
+use std::alloc::Global;
+use std::test::Fail;
+
+const SAMPLE: &[u8] =
+    b"# Meta data file t.meta\nSTAMP 4\nCMD cat t a b\nCWD /w\nTARGET t\nOUTPUT 0\n-- command output --\n\n-- filemon acquired metadata --\nR 1 a\nR 1 b\nW 1 t\n# end 3\n";
+
+// What a row shows, a text, and whether it is a meta file.
+const TEXTS: [(&str, &[u8], bool); 24] = [
+    ("one job", SAMPLE, true),
+    (
+        "no lines, no records, and a large stamp",
+        b"# Meta data file .meta\nSTAMP 18446744073709551615\nCWD d/..\nTARGET \nOUTPUT 0\n-- command output --\n\n# end 3\n",
+        true,
+    ),
+    (
+        "an ignored line, an empty one, and a text with a sign inside",
+        b"# Meta data file t.meta\nSTAMP 4\nCMD -fail 1\nCMD \nCMD a - @\nCWD /w\nTARGET t\nOUTPUT 0\n-- command output --\n\n# end 3\n",
+        true,
+    ),
+    (
+        "escapes and exports",
+        b"# Meta data file a\\\\\\n.meta\nSTAMP 0\nCWD /w\nENV A=\\n=\nENV _b=\nTARGET a\\\\\\n\nOUTPUT 0\n-- command output --\n\n# end 3\n",
+        true,
+    ),
+    (
+        "output as it is, and no records, none in number",
+        b"# Meta data file t.meta\nSTAMP 4\nCWD /w\nTARGET t\nOUTPUT 9\n-- command output --\n# end 3\n\\\n-- filemon acquired metadata --\n# end 3\n",
+        true,
+    ),
+    (
+        "an older last line",
+        b"# Meta data file t.meta\nSTAMP 4\nCWD /w\nTARGET t\nOUTPUT 0\n-- command output --\n\n# end\n",
+        false,
+    ),
+    (
+        "a last line of the form before",
+        b"# Meta data file t.meta\nSTAMP 4\nCWD /w\nTARGET t\nOUTPUT 0\n-- command output --\n\n# end 2\n",
+        false,
+    ),
+    (
+        "a byte behind the last line",
+        b"# Meta data file t.meta\nSTAMP 4\nCWD /w\nTARGET t\nOUTPUT 0\n-- command output --\n\n# end 3\n\n",
+        false,
+    ),
+    (
+        "a stamp that is too large",
+        b"# Meta data file t.meta\nSTAMP 18446744073709551616\nCWD /w\nTARGET t\nOUTPUT 0\n-- command output --\n\n# end 3\n",
+        false,
+    ),
+    (
+        "a leading zero",
+        b"# Meta data file t.meta\nSTAMP 04\nCWD /w\nTARGET t\nOUTPUT 0\n-- command output --\n\n# end 3\n",
+        false,
+    ),
+    (
+        "another target in the first line",
+        b"# Meta data file u.meta\nSTAMP 4\nCWD /w\nTARGET t\nOUTPUT 0\n-- command output --\n\n# end 3\n",
+        false,
+    ),
+    (
+        "a command with a blank before it",
+        b"# Meta data file t.meta\nSTAMP 4\nCMD  a\nCWD /w\nTARGET t\nOUTPUT 0\n-- command output --\n\n# end 3\n",
+        false,
+    ),
+    (
+        "a command with a sign before it",
+        b"# Meta data file t.meta\nSTAMP 4\nCMD @a\nCWD /w\nTARGET t\nOUTPUT 0\n-- command output --\n\n# end 3\n",
+        false,
+    ),
+    (
+        "two signs",
+        b"# Meta data file t.meta\nSTAMP 4\nCMD --a\nCWD /w\nTARGET t\nOUTPUT 0\n-- command output --\n\n# end 3\n",
+        false,
+    ),
+    (
+        "another escape",
+        b"# Meta data file t.meta\nSTAMP 4\nCMD \\a\nCWD /w\nTARGET t\nOUTPUT 0\n-- command output --\n\n# end 3\n",
+        false,
+    ),
+    (
+        "exports that are not sorted",
+        b"# Meta data file t.meta\nSTAMP 4\nCWD /w\nENV b=\nENV a=\nTARGET t\nOUTPUT 0\n-- command output --\n\n# end 3\n",
+        false,
+    ),
+    (
+        "an export that stands twice",
+        b"# Meta data file t.meta\nSTAMP 4\nCWD /w\nENV a=\nENV a=\nTARGET t\nOUTPUT 0\n-- command output --\n\n# end 3\n",
+        false,
+    ),
+    (
+        "an export that begins with a digit",
+        b"# Meta data file t.meta\nSTAMP 4\nCWD /w\nENV 1=\nTARGET t\nOUTPUT 0\n-- command output --\n\n# end 3\n",
+        false,
+    ),
+    (
+        "an export without a name",
+        b"# Meta data file t.meta\nSTAMP 4\nCWD /w\nENV =\nTARGET t\nOUTPUT 0\n-- command output --\n\n# end 3\n",
+        false,
+    ),
+    (
+        "output that is longer",
+        b"# Meta data file t.meta\nSTAMP 4\nCWD /w\nTARGET t\nOUTPUT 1\n-- command output --\nab\n# end 3\n",
+        false,
+    ),
+    (
+        "output that ends early",
+        b"# Meta data file t.meta\nSTAMP 4\nCWD /w\nTARGET t\nOUTPUT 99\n-- command output --\nab\n# end 3\n",
+        false,
+    ),
+    (
+        "a record of a line that is not there",
+        b"# Meta data file t.meta\nSTAMP 4\nCMD a\nCWD /w\nTARGET t\nOUTPUT 0\n-- command output --\n\n-- filemon acquired metadata --\nR 2 a\n# end 3\n",
+        false,
+    ),
+    (
+        "a record of line 0",
+        b"# Meta data file t.meta\nSTAMP 4\nCMD a\nCWD /w\nTARGET t\nOUTPUT 0\n-- command output --\n\n-- filemon acquired metadata --\nR 0 a\n# end 3\n",
+        false,
+    ),
+    (
+        "records without their marker",
+        b"# Meta data file t.meta\nSTAMP 4\nCMD a\nCWD /w\nTARGET t\nOUTPUT 0\n-- command output --\n\nR 1 a\n# end 3\n",
+        false,
+    ),
+];
+
+// What is read of a text, written again; nothing where it is no meta file.
+fn again(alloc: Global, text: &[u8]) -> Result<Option<Text>, NoMemory> {
+    match read_meta(alloc, text)? {
+        Some(meta) => Ok(Some(write_meta(alloc, &meta)?)),
+        None => Ok(None),
+    }
+}
+
+fn is_again(found: &Option<Text>, text: &[u8], meta_file: bool) -> bool {
+    match found {
+        Some(again) => meta_file && again.bytes() == text,
+        None => !meta_file,
+    }
+}
+
+#[test]
+fn meta_files_have_one_spelling(rt: HostRuntime) -> Result<(), Fail> {
+    for row in &TEXTS {
+        let (shows, text, meta_file) = *row;
+        let found = again(rt.alloc(), text)?;
+        assert!(rt; is_again(&found, text, meta_file), "{shows}");
+    }
+    Ok(())
+}
+
+#[test]
+fn no_beginning_of_a_meta_file_is_one(rt: HostRuntime) -> Result<(), Fail> {
+    for len in 0..SAMPLE.len() {
+        let found = read_meta(rt.alloc(), &SAMPLE[..len])?;
+        assert!(rt; found.is_none(), "{len}");
+    }
+    Ok(())
+}
+
+#[test]
+fn a_head_is_the_first_line(rt: HostRuntime) -> Result<(), Fail> {
+    let text = head(rt.alloc(), b"a\n.o")?;
+    assert_eq!(rt; text.bytes(), b"# Meta data file a\\n.o.meta\n".as_slice());
+    Ok(())
+}
+
+fn one_line(alloc: Global, text: &[u8]) -> Result<Lines, NoMemory> {
+    let mut lines = Items::new(alloc, 1)?;
+    lines.push(TaskLine {
+        text: Text::from_bytes(alloc, text)?,
+        ignore: false,
+        silent: false,
+        always: false,
+        compared: false,
+    })?;
+    Ok(lines)
+}
+
+// What the sample tells.
+fn job(alloc: Global) -> Result<Meta, NoMemory> {
+    let lines = one_line(alloc, b"cat t a b")?;
+    let records = records_of(alloc, &[b"R 1 a", b"R 1 b", b"W 1 t"])?;
+    Ok(Meta {
+        stamp: Time(4),
+        exports: Items::new(alloc, 0)?,
+        lines,
+        cwd: Text::from_bytes(alloc, b"/w")?,
+        target: Text::from_bytes(alloc, b"t")?,
+        output: Text::new(alloc),
+        records: Some(records),
+    })
+}
+
+#[test]
+fn a_job_is_written(rt: HostRuntime) -> Result<(), Fail> {
+    let job = job(rt.alloc())?;
+    let text = write_meta(rt.alloc(), &job)?;
+    assert_eq!(rt; text.bytes(), SAMPLE);
+    Ok(())
+}
+
+fn is_that_job(meta: &Meta) -> bool {
+    meta.stamp == Time(4)
+        && meta.exports.is_empty()
+        && meta.lines.len() == 1
+        && meta.cwd.bytes() == b"/w".as_slice()
+        && meta.target.bytes() == b"t".as_slice()
+        && meta.output.is_empty()
+        && meta
+            .records
+            .as_ref()
+            .is_some_and(|records| records.len() == 3)
+}
+
+#[test]
+fn a_job_is_read(rt: HostRuntime) -> Result<(), Fail> {
+    let meta = read_meta(rt.alloc(), SAMPLE)?.expect(&rt, "a meta file");
+    assert!(rt; is_that_job(&meta));
+    Ok(())
+}

@@ -1,0 +1,61 @@
+//! Names of nodes, and the region in which words lie.
+use mk_bytes::NoMemory;
+use mk_pool::{MAX_NAMES, Name, Piece, Pool, PoolFault, Region};
+use std::alloc::Global;
+use std::test::Fail;
+
+const INTERNED: [(&str, &[u8], u32); 3] = [
+    ("the first text", b"a", 0),
+    ("the same text again", b"a", 0),
+    ("another text", b"b", 1),
+];
+
+#[test]
+fn equal_texts_share_a_name(rt: HostRuntime) -> Result<(), Fail> {
+    let mut pool = Pool::new(rt.alloc())?;
+    for row in &INTERNED {
+        let (shows, text, name) = *row;
+        assert_eq!(rt; pool.intern(text)?, Name(name), "{shows}");
+    }
+    assert_eq!(rt; pool.find(b"c"), None);
+    assert_eq!(rt; pool.len(), 2);
+    assert_eq!(rt; pool.text(Name(1)), b"b".as_slice());
+    Ok(())
+}
+
+// A pool of the four bytes of each number below the most names, in this order.
+fn full_pool(alloc: Global) -> Result<Pool, PoolFault> {
+    let mut pool = Pool::new(alloc)?;
+    for n in 0..MAX_NAMES {
+        pool.intern(&(n as u32).to_be_bytes())?;
+    }
+    Ok(pool)
+}
+
+#[test]
+fn a_full_pool_takes_no_new_text(rt: HostRuntime) -> Result<(), Fail> {
+    let mut pool = full_pool(rt.alloc())?;
+    assert_eq!(rt; pool.len(), 1_048_576);
+    assert_eq!(rt; pool.intern(b"x"), Err(PoolFault::Full));
+    assert_eq!(rt; pool.intern(b"\0\0\0\0"), Ok(Name(0)));
+    Ok(())
+}
+
+// A region with `ab cd` in it, and where that lies.
+fn placed(alloc: Global) -> Result<(Region, Piece), NoMemory> {
+    let mut region = Region::new(alloc)?;
+    region.reserve(5)?;
+    let piece = region.place(b"ab cd");
+    Ok((region, piece))
+}
+
+#[test]
+fn a_region_places_and_goes_back(rt: HostRuntime) -> Result<(), Fail> {
+    let (mut region, piece) = placed(rt.alloc())?;
+    assert_eq!(rt; piece, Piece { start: 2, end: 7 });
+    assert_eq!(rt; region.bytes(Piece { start: 5, end: 7 }), b"cd".as_slice());
+    assert!(rt; region.len() >= 4);
+    region.back(4);
+    assert_eq!(rt; region.len(), 4);
+    Ok(())
+}

@@ -1,0 +1,121 @@
+//! Which node of a plan comes next, by the jobs that are open and the nodes that are made.
+ghost use Rattle.std.specs.Prelude.{◌≡◌, ◌≤◌, length, IfOk, IsTrue};
+ghost use Rattle.mk_plan.specs.Plans.{is_behind};
+
+use mk_bytes::{Items, NoMemory, Text, Texts};
+use mk_graph::{Marks, Nodes};
+use mk_plan::{Plan, PlanNode};
+use mk_sched::{Next, Sched};
+use std::alloc::Global;
+use std::test::Fail;
+
+// A node that waits for the one before it, or for none.
+fn node_of(alloc: Global, n: u32, in_a_row: bool) -> Result<PlanNode, NoMemory>
+    ensures { IfOk result (λ node. IsTrue (is_behind n node.before)) }
+{
+    let mut before = Nodes::new(alloc, 0)?;
+    if in_a_row && n > 0 {
+        before.push(n - 1)?;
+    }
+    Ok(PlanNode {
+        name: Text::new(alloc),
+        sources: Nodes::new(alloc, 0)?,
+        before,
+        commands: Texts::new(alloc, 0)?,
+        implied: Text::new(alloc),
+        marks: Marks::none(),
+    })
+}
+
+fn plan_of(alloc: Global, count: u32, in_a_row: bool) -> Result<Plan, NoMemory>
+    ensures { IfOk result (λ plan. length plan ≡ count) }
+{
+    let mut nodes = Items::new(alloc, 0)?;
+    for n in 0..count {
+        nodes.push(node_of(alloc, n, in_a_row)?)?;
+    }
+    Ok(Plan::of(nodes))
+}
+
+// How many nodes of a plan are made, where the job that was opened first ends first.
+fn made_of(alloc: Global, plan: &Plan, jobs: u32) -> Result<u32, NoMemory>
+    requires short { length plan.now ≤ 1000000 }
+    requires some { 1 ≤ jobs }
+    requires few { jobs ≤ 256 }
+{
+    let mut sched = Sched::new(alloc, plan, jobs, false)?;
+    let mut ended = 0;
+    let mut started = 0;
+    let steps = 2 * plan.len();
+    for _ in 0..steps {
+        match sched.next() {
+            Next::Decide(n) if n == started => {
+                sched.started(n);
+                started += 1;
+            }
+            Next::Wait if ended < started => {
+                sched.ended(ended, true);
+                ended += 1;
+            }
+            _ => return Ok(0),
+        }
+    }
+    if sched.next() == Next::Over {
+        Ok(ended)
+    } else {
+        Ok(0)
+    }
+}
+
+// What comes next with so many jobs, where the first nodes that came were started.
+fn next_behind(alloc: Global, plan: &Plan, jobs: u32, started: u32) -> Result<Next, NoMemory>
+    requires some { 1 ≤ jobs }
+    requires few { jobs ≤ 256 }
+{
+    let mut sched = Sched::new(alloc, plan, jobs, false)?;
+    for _ in 0..started {
+        match sched.next() {
+            Next::Decide(n) => sched.started(n),
+            other => return Ok(other),
+        }
+    }
+    Ok(sched.next())
+}
+
+// What a row shows, the number of jobs, how many nodes were started, and what comes next in a plan of
+// three nodes that wait for none.
+const NEXT: [(&str, u32, u32, Next); 5] = [
+    ("the first node", 2, 0, Next::Decide(0)),
+    ("the next one, while tokens are free", 2, 1, Next::Decide(1)),
+    ("no token is free", 1, 1, Next::Wait),
+    ("nor with two jobs", 2, 2, Next::Wait),
+    ("all are started", 256, 3, Next::Wait),
+];
+
+#[test]
+fn nodes_come_while_tokens_are_free(rt: HostRuntime) -> Result<(), Fail> {
+    let plan = plan_of(rt.alloc(), 3, false)?;
+    for (shows, jobs, started, next) in NEXT {
+        assert!(rt; 1 <= jobs && jobs <= 256);
+        assert!(rt;
+            next_behind(rt.alloc(), &plan, jobs, started)? == next,
+            "{shows}"
+        );
+    }
+    Ok(())
+}
+
+#[test]
+fn large_plans_are_made(rt: HostRuntime) -> Result<(), Fail> {
+    for (what, in_a_row, jobs_are_many) in [
+        ("one behind the other, one job", true, false),
+        ("one behind the other, many jobs", true, true),
+        ("each by itself, one job", false, false),
+        ("each by itself, many jobs", false, true),
+    ] {
+        let plan = plan_of(rt.alloc(), 200_000, in_a_row)?;
+        let jobs = if jobs_are_many { 256 } else { 1 };
+        assert_eq!(rt; made_of(rt.alloc(), &plan, jobs)?, 200_000, "{what}");
+    }
+    Ok(())
+}

@@ -1,0 +1,73 @@
+//! Chains of suffix rules, and names without their suffix.
+use crate::texts::{are, texts};
+use mk_bytes::{Items, NoMemory, Pair, Text, is_clean_directory};
+use mk_graph::{Attr, Graph};
+use mk_memworld::{MemWorld, are_clean};
+use mk_pool::PoolFault;
+use mk_suffix::{prefix_of, resolve};
+use std::alloc::Global;
+use std::process::Abort;
+use std::test::Fail;
+
+// A graph with the rule `.c.o`.
+fn one_rule(alloc: Global) -> Result<Graph, PoolFault> {
+    let mut graph = Graph::new(alloc)?;
+    let n = graph.node(b".c.o")?;
+    graph.mark(n, Attr::Rule)?;
+    Ok(graph)
+}
+
+/// A world with one file, which is empty.
+pub fn world(rt: &impl Abort, alloc: Global, path: &[u8]) -> Result<MemWorld, NoMemory> {
+    let cwd = Text::from_bytes(alloc, b"/w")?;
+    let mut files = Items::new(alloc, 1)?;
+    files.push(Pair {
+        name: Text::from_bytes(alloc, path)?,
+        value: Text::new(alloc),
+    })?;
+    assert!(rt; is_clean_directory(cwd.bytes()));
+    assert!(rt; are_clean(alloc, &cwd, &files)?);
+    MemWorld::new(
+        alloc,
+        cwd,
+        files,
+        Items::new(alloc, 0)?,
+        Items::new(alloc, 0)?,
+    )
+}
+
+// The names of the chain of `x.o` in a world with this file; none where there is no chain.
+fn has_chain(rt: &impl Abort, alloc: Global, file: &[u8], names: &[&[u8]]) -> Result<bool, Fail> {
+    let graph = one_rule(alloc)?;
+    let known = texts(alloc, &[b".c", b".o"])?;
+    let mut memory = world(rt, alloc, file)?;
+    match resolve(alloc, &graph, &known, b"x.o", &mut memory) {
+        Ok(Some(chain)) => Ok(are(&chain.names, names)),
+        Ok(None) => Ok(names.is_empty()),
+        Err(_) => Ok(false),
+    }
+}
+
+#[test]
+fn a_rule_makes_a_chain(rt: HostRuntime) -> Result<(), Fail> {
+    assert!(rt; has_chain(&rt, rt.alloc(), b"x.c", &[b"x.c", b"x.o"])?);
+    assert!(rt; has_chain(&rt, rt.alloc(), b"x.y", &[])?);
+    Ok(())
+}
+
+const PREFIXES: [(&[u8], &[u8]); 5] = [
+    (b"x.o", b"x"),
+    (b"d/x.y.c", b"x.y"),
+    (b"x.h", b"x.h"),
+    (b"d/.c", b".c"),
+    (b"d.c/x", b"x"),
+];
+
+#[test]
+fn prefixes_are_without_suffixes(rt: HostRuntime) -> Result<(), Fail> {
+    let known = texts(rt.alloc(), &[b".c", b".o", b".y"])?;
+    for (name, wanted) in PREFIXES {
+        assert_eq!(rt; prefix_of(&known, name), wanted);
+    }
+    Ok(())
+}
