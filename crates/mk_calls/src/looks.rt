@@ -2,7 +2,7 @@
 use crate::texts::{are, texts};
 use mk_bytes::{Items, NoMemory, Texts};
 use mk_filemon::{Recs, read_op};
-use mk_oodate::{left_paths, missed_paths, read_paths};
+use mk_oodate::looked_at;
 use std::alloc::Global;
 use std::test::Fail;
 
@@ -35,7 +35,7 @@ fn ignored(alloc: Global) -> Result<Texts, NoMemory> {
 #[test]
 fn ignored_paths_are_not_read(rt: HostRuntime) -> Result<(), Fail> {
     let records = records_of(rt.alloc(), &RECORDS)?;
-    let paths = read_paths(rt.alloc(), &ignored(rt.alloc())?, &records)?;
+    let paths = looked_at(rt.alloc(), &ignored(rt.alloc())?, &records)?.found;
     assert!(rt; are(&paths, &[b"b"]));
     Ok(())
 }
@@ -43,7 +43,7 @@ fn ignored_paths_are_not_read(rt: HostRuntime) -> Result<(), Fail> {
 #[test]
 fn ignored_paths_are_not_missed(rt: HostRuntime) -> Result<(), Fail> {
     let records = records_of(rt.alloc(), &RECORDS)?;
-    let paths = missed_paths(rt.alloc(), &ignored(rt.alloc())?, &records)?;
+    let paths = looked_at(rt.alloc(), &ignored(rt.alloc())?, &records)?.missed;
     assert!(rt; are(&paths, &[b"x"]));
     Ok(())
 }
@@ -51,7 +51,7 @@ fn ignored_paths_are_not_missed(rt: HostRuntime) -> Result<(), Fail> {
 #[test]
 fn ignored_paths_are_not_left(rt: HostRuntime) -> Result<(), Fail> {
     let records = records_of(rt.alloc(), &RECORDS)?;
-    let paths = left_paths(rt.alloc(), &ignored(rt.alloc())?, &records)?;
+    let paths = looked_at(rt.alloc(), &ignored(rt.alloc())?, &records)?.left;
     assert!(rt; are(&paths, &[b"t"]));
     Ok(())
 }
