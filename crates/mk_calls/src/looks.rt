@@ -33,25 +33,11 @@ fn ignored(alloc: Global) -> Result<Texts, NoMemory> {
 }
 
 #[test]
-fn ignored_paths_are_not_read(rt: HostRuntime) -> Result<(), Fail> {
+fn ignored_paths_are_not_looked_at(rt: HostRuntime) -> Result<(), Fail> {
     let records = records_of(rt.alloc(), &RECORDS)?;
-    let paths = looked_at(rt.alloc(), &ignored(rt.alloc())?, &records)?.found;
-    assert!(rt; are(&paths, &[b"b"]));
-    Ok(())
-}
-
-#[test]
-fn ignored_paths_are_not_missed(rt: HostRuntime) -> Result<(), Fail> {
-    let records = records_of(rt.alloc(), &RECORDS)?;
-    let paths = looked_at(rt.alloc(), &ignored(rt.alloc())?, &records)?.missed;
-    assert!(rt; are(&paths, &[b"x"]));
-    Ok(())
-}
-
-#[test]
-fn ignored_paths_are_not_left(rt: HostRuntime) -> Result<(), Fail> {
-    let records = records_of(rt.alloc(), &RECORDS)?;
-    let paths = looked_at(rt.alloc(), &ignored(rt.alloc())?, &records)?.left;
-    assert!(rt; are(&paths, &[b"t"]));
+    let paths = looked_at(rt.alloc(), &ignored(rt.alloc())?, &records)?;
+    assert!(rt; are(&paths.found, &[b"b"]));
+    assert!(rt; are(&paths.missed, &[b"x"]));
+    assert!(rt; are(&paths.left, &[b"t"]));
     Ok(())
 }
