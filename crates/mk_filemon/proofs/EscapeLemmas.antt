@@ -1,6 +1,6 @@
 -- Texts with escapes, one byte after the other, and both ways.
 use Rattle.std.proofs.Common.{◌≡◌, ℕ, Bool, true, false, ◌==◌, List}
-use Rattle.std.proofs.Common.{[], ◌∷◌, ◌++◌, length, Option}
+use Rattle.std.proofs.Common.{[], ◌∷◌, ◌++◌, not, ◌||◌, suc, length, take, drop, Option}
 use Rattle.std.proofs.Common.{Some, None}
 use Rattle.std.proofs.Common.{if◌then◌else◌, refl, sym, ◌∙◌, ap, ap₂, arith, append_assoc}
 use Rattle.std.proofs.lemmas.Bool.Decides.{nat_tests}
@@ -8,6 +8,7 @@ use Rattle.std.proofs.lemmas.Option.{some_pair_parts}
 use Rattle.std.proofs.lemmas.List.{append-nil}
 use Rattle.std.specs.Option.{option_map}
 use Rattle.mk_bytes.specs.Bytes.{newline, backslash}
+use Rattle.mk_filemon.specs.Escapes.{is_plain, plain_len}
 use Rattle.mk_filemon.specs.Escapes.{quote, letter_n, is_quote, escaped_byte, escaped, byte_behind}
 use Rattle.mk_filemon.specs.Escapes.{Part, with_byte, with_escape, at_end, part_behind, part_at}
 
@@ -31,6 +32,140 @@ pub with_bytes-byte : (bytes : List ℕ) (byte : ℕ) (part : Part)
 with_bytes-byte bytes byte None = refl
 with_bytes-byte bytes byte (Some found) =
     ap (λ text. Some (text, found.1)) (append_assoc bytes (byte ∷ []) found.0)
+
+pub with_bytes-append : (first second : List ℕ) (part : Part)
+    → with_bytes (first ++ second) part ≡ with_bytes first (with_bytes second part)
+with_bytes-append first second None = refl
+with_bytes-append first second (Some found) =
+    ap (λ text. Some (text, found.1)) (append_assoc first second found.0)
+
+with_bytes-first : (byte : ℕ) (text : List ℕ) (part : Part)
+    → with_bytes (byte ∷ text) part ≡ with_byte byte (with_bytes text part)
+with_bytes-first byte text None = refl
+with_bytes-first byte text (Some found) = refl
+
+-- the three tests that a plain byte does not pass
+pub record IsPlain (quoted : Bool) (byte : ℕ) : Type 0 where
+  pub slash : (byte == backslash) ≡ false
+  pub line : (byte == newline) ≡ false
+  pub quote : is_quote quoted byte ≡ false
+
+plain-by : (slash line close : Bool) → not (slash || (line || close)) ≡ true
+    → (slash ≡ false) × (line ≡ false) × (close ≡ false)
+plain-by true line close is = absurd cc
+plain-by false true close is = absurd cc
+plain-by false false true is = absurd cc
+plain-by false false false is = (refl, refl, refl)
+
+plain-is : (quoted : Bool) (byte : ℕ) → is_plain quoted byte ≡ true → IsPlain quoted byte
+plain-is quoted byte is =
+    let parts = plain-by (byte == backslash) (byte == newline) (is_quote quoted byte) is in
+    record { slash = parts.0; line = parts.1; quote = parts.2 }
+
+one-more : (quoted : Bool) (byte : ℕ) (text : List ℕ) → is_plain quoted byte ≡ true
+    → plain_len quoted (byte ∷ text) ≡ suc (plain_len quoted text)
+one-more quoted byte text is = rw is (omega arith)
+
+none-plain : (quoted : Bool) (byte : ℕ) (text : List ℕ) → is_plain quoted byte ≡ false
+    → plain_len quoted (byte ∷ text) ≡ 0
+none-plain quoted byte text none = rw none refl
+
+part-more : (quoted : Bool) (byte : ℕ) (text : List ℕ) (len more : ℕ) → more ≡ suc len
+    → is_plain quoted byte ≡ true
+    → with_bytes (take len text) (part_at quoted (drop len text)) ≡ part_at quoted text
+    → with_bytes (take more (byte ∷ text)) (part_at quoted (drop more (byte ∷ text)))
+    ≡ part_at quoted (byte ∷ text)
+unfolding part_behind
+part-more quoted byte text len more longer is so =
+    let plain = plain-is quoted byte is in
+    rw longer (with_bytes-first byte (take len text) (part_at quoted (drop len text))
+    ∙ ap (with_byte byte) so ∙ rw (plain.slash, plain.line, plain.quote) refl)
+
+part-none-more : (quoted : Bool) (text : List ℕ) (len : ℕ) → len ≡ 0
+    → with_bytes (take len text) (part_at quoted (drop len text)) ≡ part_at quoted text
+part-none-more quoted text len none = rw none (with_bytes-nil (part_at quoted text))
+
+-- the plain bytes that a text begins with are read as themselves
+part-plain : (quoted : Bool) (text : List ℕ)
+    → with_bytes (take (plain_len quoted text) text)
+    (part_at quoted (drop (plain_len quoted text) text))
+    ≡ part_at quoted text
+part-plain quoted [] = with_bytes-nil (part_at quoted [])
+part-plain quoted (byte ∷ text) =
+    cases (is_plain quoted byte)
+    (λ is. part-more quoted byte text (plain_len quoted text) (plain_len quoted (byte ∷ text))
+    (one-more quoted byte text is) is (part-plain quoted text))
+    (λ none. part-none-more quoted (byte ∷ text) (plain_len quoted (byte ∷ text))
+    (none-plain quoted byte text none))
+
+-- so is what stands behind bytes that were read
+part-run : (quoted : Bool) (before text : List ℕ)
+    → with_bytes (before ++ take (plain_len quoted text) text)
+    (part_at quoted (drop (plain_len quoted text) text))
+    ≡ with_bytes before (part_at quoted text)
+part-run quoted before text =
+    with_bytes-append before (take (plain_len quoted text) text)
+    (part_at quoted (drop (plain_len quoted text) text))
+    ∙ ap (with_bytes before) (part-plain quoted text)
+
+-- what was read so far, and what is special behind the plain bytes
+pub special-is : (quoted : Bool) (text before rest out special : List ℕ)
+    → with_bytes before (part_at quoted rest) ≡ part_at quoted text
+    → out ≡ before ++ take (plain_len quoted rest) rest
+    → special ≡ drop (plain_len quoted rest) rest
+    → with_bytes out (part_at quoted special) ≡ part_at quoted text
+special-is quoted text before rest out special so pushed left =
+    rw (pushed, left) (part-run quoted before rest ∙ so)
+
+-- the text ends where something special ends it
+pub ends-by : (quoted : Bool) (text out special end : List ℕ)
+    → with_bytes out (part_at quoted special) ≡ part_at quoted text
+    → part_at quoted special ≡ Some ([], end) → Some (out, end) ≡ part_at quoted text
+ends-by quoted text out special end so is =
+    ap (λ bytes. Some (bytes, end)) (sym (append-nil out))
+    ∙ ap (with_bytes out) (sym is) ∙ so
+
+pub fails-by : (quoted : Bool) (text out special : List ℕ)
+    → with_bytes out (part_at quoted special) ≡ part_at quoted text
+    → part_at quoted special ≡ None → None ≡ part_at quoted text
+fails-by quoted text out special so is = ap (with_bytes out) (sym is) ∙ so
+
+-- they are written as themselves too
+escaped-more : (quoted : Bool) (byte : ℕ) (text : List ℕ) (len more : ℕ) → more ≡ suc len
+    → is_plain quoted byte ≡ true
+    → take len text ++ escaped quoted (drop len text) ≡ escaped quoted text
+    → take more (byte ∷ text) ++ escaped quoted (drop more (byte ∷ text))
+    ≡ escaped quoted (byte ∷ text)
+escaped-more quoted byte text len more longer is so =
+    let plain = plain-is quoted byte is in
+    rw (longer, plain.slash, plain.line, plain.quote) (ap (λ rest. byte ∷ rest) so)
+
+escaped-plain : (quoted : Bool) (text : List ℕ)
+    → take (plain_len quoted text) text ++ escaped quoted (drop (plain_len quoted text) text)
+    ≡ escaped quoted text
+escaped-plain quoted [] = refl
+escaped-plain quoted (byte ∷ text) =
+    cases (is_plain quoted byte)
+    (λ is. escaped-more quoted byte text (plain_len quoted text) (plain_len quoted (byte ∷ text))
+    (one-more quoted byte text is) is (escaped-plain quoted text))
+    (λ none. let no = none-plain quoted byte text none in rw no refl)
+
+-- what is written so far, and what is special behind the plain bytes
+pub special-written : (quoted : Bool) (all before rest out special : List ℕ)
+    → before ++ escaped quoted rest ≡ all
+    → out ≡ before ++ take (plain_len quoted rest) rest
+    → special ≡ drop (plain_len quoted rest) rest
+    → out ++ escaped quoted special ≡ all
+special-written quoted all before rest out special so pushed left =
+    rw (pushed, left) (append_assoc before (take (plain_len quoted rest) rest)
+    (escaped quoted (drop (plain_len quoted rest) rest))
+    ∙ ap (λ end. before ++ end) (escaped-plain quoted rest) ∙ so)
+
+-- nothing special is left
+pub written-end : (quoted : Bool) (all out special : List ℕ) → length special ≡ 0
+    → out ++ escaped quoted special ≡ all → out ≡ all
+written-end quoted all out [] none so = sym (append-nil out) ∙ so
+written-end quoted all out (byte ∷ special) none so = absurd (omega arith)
 
 -- one byte of a text, in the order of the tests
 pub part-none : (quoted : Bool) (text : List ℕ) → length text ≡ 0 → part_at quoted text

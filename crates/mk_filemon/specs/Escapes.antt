@@ -1,6 +1,7 @@
 -- How texts are written on one line: a backslash, a newline, and a quote within quotes are escaped.
-use Rattle.std.specs.Prelude.{ℕ, ◌==◌, ◌&&◌, ◌^◌, Bool, true, false, nat_lt, List, [], ◌∷◌}
+use Rattle.std.specs.Prelude.{ℕ, ◌==◌, ◌&&◌, ◌||◌, ◌^◌, Bool, true, false, not, nat_lt, List, [], ◌∷◌}
 use Rattle.std.specs.Prelude.{flat_map}
+use Rattle.std.specs.List.{prefix_len}
 use Rattle.std.specs.Prelude.{Option, Some, None, if◌then◌else◌, decimal}
 use Rattle.std.specs.Option.{option_map}
 use Rattle.std.specs.Str.{bytes_eq}
@@ -27,6 +28,13 @@ escaped_byte quoted byte =
 -- A text as it is written, within quotes or not.
 abbrev pub escaped : Bool → List ℕ → List ℕ
 escaped quoted text = flat_map (escaped_byte quoted) text
+
+-- how many bytes a text begins with that are written and read as themselves
+abbrev pub is_plain : Bool → ℕ → Bool
+is_plain quoted byte = not (byte == backslash || (byte == newline || is_quote quoted byte))
+
+abbrev pub plain_len : Bool → List ℕ → ℕ
+plain_len quoted text = prefix_len (is_plain quoted) text
 
 -- the byte that an escape stands for
 abbrev pub byte_behind : Bool → ℕ → Option ℕ

@@ -1,5 +1,5 @@
 //! Texts on one line, with escapes.
-ghost use Rattle.std.specs.Prelude.{◌≡◌, ◌<◌, ◌++◌, ◌==◌, length, true, false, position, IfOk};
+ghost use Rattle.std.specs.Prelude.{◌≡◌, ◌<◌, ◌≤◌, ◌++◌, ◌==◌, length, take, take_while, drop, true, false, position, IfOk};
 ghost use Rattle.std.specs.Prelude.{IfSome, OnOk, OnErr};
 ghost use Rattle.std.specs.Option.{option_map};
 ghost use Rattle.mk_filemon.specs.Escapes as spec;
@@ -71,6 +71,32 @@ fn first_unit<'t>(quoted: bool, text: &'t [u8]) -> Unit<'t>
     Unit::Byte(*byte, rest)
 }
 
+fn is_plain(quoted: bool, byte: u8) -> bool
+    ensures { result ≡ spec.is_plain quoted byte }
+{
+    !(byte == b'\\' || byte == b'\n' || is_quote(quoted, byte))
+}
+
+fn plain_len(quoted: bool, text: &[u8]) -> usize
+    ensures taken { result ≡ length (take_while (spec.is_plain quoted) text.now) }
+    ensures within { result ≤ length text.now }
+{
+    text.iter()
+        .take_while(|byte| is_plain(quoted, **byte))
+        .count()
+}
+
+// Appends the plain bytes that a text begins with, and gives what follows them.
+fn push_plain<'t>(out: &mut Text, quoted: bool, text: &'t [u8]) -> Result<&'t [u8], NoMemory>
+    ensures pushed { OnOk result (out.new ≡ out.old ++ take (spec.plain_len quoted text.now) text.now) }
+    ensures rest { IfOk result (λ rest. rest.now ≡ drop (spec.plain_len quoted text.now) text.now) }
+    ensures shorter { IfOk result (λ rest. length rest.now ≤ length text.now) }
+{
+    let len = plain_len(quoted, text);
+    out.push(&text[..len])?;
+    Ok(&text[len..])
+}
+
 /// Reads a text with escapes, up to the quote that ends it, and what follows the quote; without
 /// quotes up to the end. `None` where it is none.
 pub fn read_part<'t>(
@@ -84,7 +110,8 @@ pub fn read_part<'t>(
     let mut part = Text::new(alloc);
     let mut rest = text;
     'units: loop {
-        match first_unit(quoted, rest) {
+        let special = push_plain(&mut part, quoted, rest)?;
+        match first_unit(quoted, special) {
             Unit::Byte(byte, after) => {
                 part.push(&[byte])?;
                 rest = after;
@@ -123,10 +150,15 @@ fn push_byte(text: &mut Text, quoted: bool, byte: u8) -> Result<(), NoMemory>
 pub fn push_part(text: &mut Text, quoted: bool, bytes: &[u8]) -> Result<(), NoMemory>
     ensures { OnOk result (text.new ≡ text.old ++ spec.escaped quoted bytes.now) }
 {
-    for byte in bytes {
+    let mut rest = bytes;
+    'runs: loop {
+        let special = push_plain(text, quoted, rest)?;
+        let Some((byte, more)) = special.split_first() else {
+            return Ok(());
+        };
         push_byte(text, quoted, *byte)?;
+        rest = more;
     }
-    Ok(())
 }
 
 /// Appends bytes as they are written on one line: a backslash as `\\` and a newline as `\n`. Where

@@ -1,7 +1,11 @@
-use Rattle.std.proofs.Common.{◌≡◌, ◌++◌, take}
+use Rattle.std.proofs.Common.{◌≡◌, ◌++◌, length}
 use Rattle.mk_filemon.specs.Escapes.{escaped}
 use Rattle.mk_filemon.proofs.escape.push_part.Given as goal
 
--- the bytes so far stand at the end
-abbrev pub invariant-loop-byte : goal.invariant-loop-byte
-invariant-loop-byte l = l.text ≡ l.fn.text ++ escaped l.quoted (take l.byte-index l.bytes)
+-- what is written so far, and the rest as it is written
+abbrev pub invariant-runs : goal.invariant-runs
+invariant-runs l =
+    l.text ++ escaped l.quoted l.rest ≡ l.fn.text ++ escaped l.quoted l.bytes
+
+abbrev pub decreases-runs : goal.decreases-runs
+decreases-runs l = length l.rest
