@@ -158,13 +158,17 @@ fn failed_text(alloc: Global, node: &[u8], line: u32, status: u8) -> Result<Text
     )
 }
 
+fn kind_name(kind: &Kind) -> &'static str {
+    match kind {
+        Kind::Names => "Names",
+        Kind::Lines => "Lines",
+        Kind::Includes => "Includes",
+    }
+}
+
 fn limit_text(alloc: Global, kind: &Kind, most: u64) -> Result<Text, NoMemory> {
     let mut buffer = Buffer::new();
-    let name: &[u8] = match kind {
-        Kind::Names => b"Names",
-        Kind::Lines => b"Lines",
-        Kind::Includes => b"Includes",
-    };
+    let name = kind_name(kind).as_bytes();
     call(alloc, "Limit", &[name, buffer.format(most).as_bytes()])
 }
 

@@ -118,7 +118,7 @@ impl Tally {
 
     /// A case that was run. Those of a file whose name begins with `wrong` are to differ.
     pub fn note(&mut self, file: &str, case: &Case, found: &Found) -> Result<(), NoMemory> {
-        if file.starts_with("wrong") {
+        if is_wrong(file) {
             self.note_wrong(file, case, found)
         } else {
             self.note_right(file, case, found)
@@ -132,6 +132,15 @@ impl Tally {
         self.push_number(self.failed)?;
         self.text.push(b" failed\n")
     }
+}
+
+// Whether the cases of a file are to differ.
+fn is_wrong(file: &str) -> bool {
+    let name = match file.rsplit_once('/') {
+        Some((_, name)) => name,
+        None => file,
+    };
+    name.starts_with("wrong")
 }
 
 // Whether something differs, and only the thing that the text of a case begins with, before a colon.
