@@ -1,14 +1,14 @@
 //! What conditions ask of a graph that was read, over a world in memory.
 use crate::suffixes::world;
 use crate::texts::texts;
-use mk_bytes::{Items, NoMemory, Text, is_clean_directory};
+use crate::variables::scopes;
+use mk_bytes::{Items, NoMemory};
 use mk_cond::Fun;
 use mk_expand::Facts;
 use mk_graph::{Attr, Graph, Made, Mode};
 use mk_memworld::MemWorld;
 use mk_plan::MadeFacts;
 use mk_pool::PoolFault;
-use mk_scopes::{Env, Scopes};
 use std::alloc::Global;
 use std::process::Abort;
 use std::test::Fail;
@@ -31,13 +31,6 @@ fn graph(alloc: Global) -> Result<Graph, PoolFault> {
     Ok(graph)
 }
 
-fn scopes(rt: &impl Abort, alloc: Global) -> Result<Scopes, NoMemory> {
-    let cwd = Text::from_bytes(alloc, b"/w")?;
-    assert!(rt; is_clean_directory(cwd.bytes()));
-    let vars = Items::new(alloc, 0)?;
-    Scopes::new(alloc, &Env { vars, cwd }, false)
-}
-
 fn mode(alloc: Global) -> Result<Mode, NoMemory> {
     Ok(Mode {
         meta: false,
@@ -53,8 +46,8 @@ fn mode(alloc: Global) -> Result<Mode, NoMemory> {
     })
 }
 
-// What is left by a makefile with that target, which is the main one.
-fn made(rt: &impl Abort, alloc: Global) -> Result<Made, PoolFault> {
+/// What is left by a makefile with that target, which is the main one.
+pub fn made(rt: &impl Abort, alloc: Global) -> Result<Made, PoolFault> {
     let graph = graph(alloc)?;
     let scopes = scopes(rt, alloc)?;
     let mode = mode(alloc)?;

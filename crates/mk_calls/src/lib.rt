@@ -35,9 +35,13 @@ mod sinks;
 #[cfg(test)]
 mod suffixes;
 #[cfg(test)]
+mod tasks;
+#[cfg(test)]
 mod texts;
 #[cfg(test)]
 mod values;
+#[cfg(test)]
+mod variables;
 #[cfg(test)]
 mod walks;
 #[cfg(test)]

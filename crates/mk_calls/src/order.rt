@@ -82,21 +82,28 @@ fn next_behind(alloc: Global, plan: &Plan, jobs: u32, started: u32) -> Result<Ne
     Ok(sched.next())
 }
 
-// What a row shows, the number of jobs, how many nodes were started, and what comes next in a plan of
-// three nodes that wait for none.
-const NEXT: [(&str, u32, u32, Next); 5] = [
-    ("the first node", 2, 0, Next::Decide(0)),
-    ("the next one, while tokens are free", 2, 1, Next::Decide(1)),
-    ("no token is free", 1, 1, Next::Wait),
-    ("nor with two jobs", 2, 2, Next::Wait),
-    ("all are started", 256, 3, Next::Wait),
+// What a row shows, whether each of three nodes waits for the one before it, the number of jobs, how
+// many nodes were started, and what comes next.
+const NEXT: [(&str, bool, u32, u32, Next); 6] = [
+    ("the first node", false, 2, 0, Next::Decide(0)),
+    (
+        "the next one, while tokens are free",
+        false,
+        2,
+        1,
+        Next::Decide(1),
+    ),
+    ("no token is free", false, 1, 1, Next::Wait),
+    ("nor with two jobs", false, 2, 2, Next::Wait),
+    ("the next one waits", true, 256, 1, Next::Wait),
+    ("all are started", false, 256, 3, Next::Wait),
 ];
 
 #[test]
 fn nodes_come_while_tokens_are_free(rt: HostRuntime) -> Result<(), Fail> {
-    let plan = plan_of(rt.alloc(), 3, false)?;
-    for (shows, jobs, started, next) in NEXT {
+    for (shows, in_a_row, jobs, started, next) in NEXT {
         assert!(rt; 1 <= jobs && jobs <= 256);
+        let plan = plan_of(rt.alloc(), 3, in_a_row)?;
         assert!(rt;
             next_behind(rt.alloc(), &plan, jobs, started)? == next,
             "{shows}"

@@ -1,0 +1,145 @@
+//! The lines of a task: which of them run in a dry run too, and which are compared with those of
+//! another build.
+ghost use Rattle.std.specs.Prelude.{◌≡◌};
+ghost use Rattle.mk_plan.specs.Plans as spec;
+
+use crate::facts::made;
+use crate::suffixes::world;
+use crate::texts::texts;
+use mk_bytes::{Items, NoMemory, Text, Texts};
+use mk_flags::Flags;
+use mk_graph::{Made, Marks};
+use mk_memworld::MemWorld;
+use mk_plan::{MadeFacts, Nodes, Plan, PlanNode, task};
+use mk_world::TaskLine;
+use std::alloc::Global;
+use std::process::Abort;
+use std::test::Fail;
+
+type Bytes = &'static [u8];
+
+// A command, its text, whether it is always run, and whether it is compared.
+const LINES: [(Bytes, Bytes, bool, bool); 11] = [
+    (b"say $@", b"say t", false, true),
+    (b"@say", b"say", false, true),
+    (b"- +fail 3", b"fail 3", true, true),
+    (b"say $?", b"say a", false, false),
+    (b"say ${.OODATE}", b"say a", false, false),
+    (b"say $(?:)", b"say a", false, false),
+    (b"say ${X${?}}", b"say ", false, false),
+    (b"say ${.OODATE$X}", b"say a", false, true),
+    (b"say ${?D} $(?F)", b"say . a", false, true),
+    (b"${:U@-}say", b"say", false, true),
+    (b"say $$? .OODATE", b"say $? .OODATE", false, true),
+];
+
+fn is_behind(place: usize, before: &[u32]) -> bool
+    ensures { result ≡ spec.is_behind place before.now }
+{
+    before.iter().all(|one| (*one as usize) < place)
+}
+
+fn are_ordered(nodes: &[PlanNode]) -> bool
+    ensures { result ≡ spec.are_ordered 0 nodes.now }
+{
+    for (place, node) in nodes.iter().enumerate() {
+        if !is_behind(place, node.before.as_slice()) {
+            return false;
+        }
+    }
+    true
+}
+
+fn node_of(
+    alloc: Global,
+    name: &[u8],
+    sources: &[u32],
+    commands: Texts,
+) -> Result<PlanNode, NoMemory> {
+    let mut places = Nodes::new(alloc, sources.len())?;
+    for source in sources {
+        places.push(*source)?;
+    }
+    Ok(PlanNode {
+        name: Text::from_bytes(alloc, name)?,
+        sources: places,
+        before: Nodes::new(alloc, 0)?,
+        commands,
+        implied: Text::new(alloc),
+        marks: Marks::none(),
+    })
+}
+
+fn commands(alloc: Global) -> Result<Texts, NoMemory> {
+    let mut commands = Items::new(alloc, LINES.len())?;
+    for line in &LINES {
+        commands.push(Text::from_bytes(alloc, line.0)?)?;
+    }
+    Ok(commands)
+}
+
+// A file `a`, and a target `t` over it with these lines.
+fn plan(rt: &impl Abort, alloc: Global) -> Result<Plan, NoMemory> {
+    let mut nodes = Items::new(alloc, 2)?;
+    nodes.push(node_of(alloc, b"a", &[], Items::new(alloc, 0)?)?)?;
+    nodes.push(node_of(alloc, b"t", &[0], commands(alloc)?)?)?;
+    assert!(rt; are_ordered(nodes.as_slice()));
+    Ok(Plan::of(nodes))
+}
+
+fn flags(alloc: Global) -> Result<Flags, NoMemory> {
+    Ok(Flags {
+        jobs: 1,
+        keep_going: false,
+        ignore: false,
+        silent: false,
+        dry: false,
+        query: false,
+        requested: Items::new(alloc, 0)?,
+    })
+}
+
+// The place of the first line that is another one than its row wants, or how many lines there are.
+fn first_other(lines: &[TaskLine]) -> usize {
+    let mut place = 0;
+    for (line, row) in lines.iter().zip(&LINES) {
+        let (_, text, always, compared) = *row;
+        if line.text.bytes() != text || line.always != always || line.compared != compared {
+            return place;
+        }
+        place += 1;
+    }
+    place
+}
+
+// The same of the task of the plan's target; nothing where there is no task.
+fn told(
+    alloc: Global,
+    memory: &mut MemWorld,
+    plan: &Plan,
+    made: &Made,
+) -> Result<Option<usize>, NoMemory> {
+    let newer = texts(alloc, &[b"a"])?;
+    let flags = flags(alloc)?;
+    let mut asked = Vec::new(alloc);
+    let mut facts = MadeFacts::new(made, &flags.requested, memory, &mut asked);
+    if plan.len() < 2 {
+        return Ok(None);
+    }
+    match task(alloc, plan, made, 1, &newer, &flags, &mut facts) {
+        Ok(task) => Ok(Some(first_other(task.lines.as_slice()))),
+        Err(_) => Ok(None),
+    }
+}
+
+#[test]
+fn lines_have_their_marks(rt: HostRuntime) -> Result<(), Fail> {
+    let made = made(&rt, rt.alloc())?;
+    let plan = plan(&rt, rt.alloc())?;
+    let mut memory = world(&rt, rt.alloc(), b"a")?;
+    assert_eq!(rt;
+        told(rt.alloc(), &mut memory, &plan, &made)?,
+        Some(LINES.len())
+    );
+    Ok(())
+}

@@ -1,0 +1,58 @@
+//! A variable by its name alone, whatever bytes that has.
+use mk_bytes::{Items, NoMemory, Text, is_clean_directory};
+use mk_cond::Fun;
+use mk_expand::{FactFault, Facts, Locals, expand, name_tree};
+use mk_scopes::{Class, Env, Scopes};
+use std::alloc::Global;
+use std::process::Abort;
+use std::test::Fail;
+
+/// Refuses every question, as want of memory does: that may stand in place of any answer.
+#[derive(Drop)]
+struct Untold;
+
+impl Facts for Untold {
+    ghost use Rattle.std.specs.Prelude.{[]};
+
+    ghost lists = { λ _. record { requested = []; targets = []; with_commands = [] } };
+
+    ghost asked = { λ _. [] };
+
+    ghost faults = { λ _. 0 };
+
+    ghost leads = { λ _ _. Unit {0} };
+
+    fn fact(&mut self, _alloc: Global, _fun: Fun, _argument: &[u8]) -> Result<bool, FactFault> {
+        Err(FactFault::NoMemory)
+    }
+
+    ghost stays = { λ _. tt };
+
+    ghost goes_on = { λ _ _ _ _ _. tt };
+}
+
+/// Variables where nothing is set.
+pub fn scopes(rt: &impl Abort, alloc: Global) -> Result<Scopes, NoMemory> {
+    let cwd = Text::from_bytes(alloc, b"/w")?;
+    assert!(rt; is_clean_directory(cwd.bytes()));
+    let vars = Items::new(alloc, 0)?;
+    Scopes::new(alloc, &Env { vars, cwd }, false)
+}
+
+fn has_value(alloc: Global, scopes: &Scopes, name: &[u8], wanted: &[u8]) -> bool {
+    let (Ok(locals), Ok(tree)) = (Locals::none(alloc), name_tree(alloc, name)) else {
+        return false;
+    };
+    match expand(alloc, scopes, &locals, &tree, &mut Untold, false) {
+        Ok(value) => value.bytes() == wanted,
+        Err(_) => false,
+    }
+}
+
+#[test]
+fn a_dollar_in_a_name_is_a_byte(rt: HostRuntime) -> Result<(), Fail> {
+    let mut scopes = scopes(&rt, rt.alloc())?;
+    scopes.assign(Class::Global, b"x$", b"name")?;
+    assert!(rt; has_value(rt.alloc(), &scopes, b"x$", b"name"));
+    Ok(())
+}

@@ -1,0 +1,94 @@
+#!/usr/bin/env bash
+# The built program on long makefiles: lines at their limit, long values, and what a walk that is not
+# linear would not end on. Run it at the top of the repository, where the program stands at
+# crates/bmake/out/bmake. Its last line is 'N passed, M failed'.
+set -u
+program=${BMAKE:-$PWD/crates/bmake/out/bmake}
+room=$(mktemp -d) || exit 1
+trap 'rm -rf "$room"' EXIT
+passed=0
+failed=0
+
+# So many letters x.
+letters() {
+    head -c "$1" /dev/zero | tr '\0' x
+}
+
+# So many times a text.
+times() {
+    yes "$2" | head -n "$1" | tr -d '\n'
+}
+
+# One case: what it shows, the standard output, standard error and exit status that are wanted, and the
+# words of the run. The makefile comes from standard input.
+row() {
+    local shows=$1 out=$2 err=$3 status=$4 is wrong=''
+    shift 4
+    cat >"$room/makefile"
+    (cd "$room" && exec timeout 100 "$program" "$@") >"$room/out" 2>"$room/err" </dev/null
+    is=$?
+    [ "$is" = "$status" ] || wrong="status $is and not $status"
+    printf '%s' "$out" | cmp -s - "$room/out" || wrong="$wrong; standard output"
+    printf '%s' "$err" | cmp -s - "$room/err" || wrong="$wrong; standard error: $(cat "$room/err")"
+    if [ -z "$wrong" ]; then
+        passed=$((passed + 1))
+    else
+        failed=$((failed + 1))
+        printf 'failed: %s: %s\n' "$shows" "$wrong"
+    fi
+}
+
+if [ ! -x "$program" ]; then
+    echo "there is no program $program"
+    echo "0 passed, 1 failed"
+    exit 1
+fi
+
+# A makefile whose lines are read, and one whose first fault stands at a line.
+fine() {
+    row "$1" $'\n' '' 0 -V A
+}
+refused() {
+    row "$1" '' "bmake: \"makefile\" line $2: $3"$'\n' 2 -V A
+}
+
+# The most bytes of a logical line.
+limit=1048576
+
+fine 'short lines' < <(printf '#a\\\nb\n#'; letters 3; printf '\n\n')
+fine 'a line at the limit' < <(printf '#'; letters $((limit - 1)); echo)
+refused 'a line of one byte more' 1 'line too long' < <(letters $((limit + 1)))
+refused 'a continued line has the number of its first part' 2 'line too long' \
+    < <(printf 'a\nb\\\n'; letters $limit; printf '\\\nc')
+refused 'the space of a continuation counts' 1 'line too long' \
+    < <(printf 'a\\\n'; letters $((limit - 1)))
+fine 'blanks behind it do not' < <(printf '#\\\n \t'; letters $((limit - 2)))
+fine 'nor does a last backslash' < <(printf '#'; letters $((limit - 1)); printf '\\')
+refused 'a zero byte on a line that is too long' 2 'zero byte' \
+    < <(letters $((limit + 1)); printf '\\\n\0\n')
+refused 'a zero byte behind it' 1 'line too long' < <(letters $((limit + 1)); printf '\n\0\n')
+fine 'a line at the limit between others' < <(printf '#\n#'; letters $((limit - 1)); printf '\n#\n')
+fine 'two backslashes end a line' < <(printf '#\\\\\n#'; letters $((limit - 1)))
+
+row 'a value of more than 4194304 bytes' '' $'bmake: value too long\n' 2 \
+    -V '${a:L:range=1000000}' <<<''
+row 'a value with one byte between its words' $'600000\n' '' 0 \
+    -V '${a:L:range=600000:ts,:[#]}' <<<''
+row 'and with one byte more in each' '' $'bmake: value too long\n' 2 \
+    -V '${a:L:range=600000:ts,:S/$/x/}' <<<''
+
+row 'forty stars and no end that fits' $'[]\n' '' 0 -V '[${W:M$P}]' \
+    < <(printf 'W='; times 20000 a; printf '\nP='; times 40 '*a'; echo b)
+row 'brackets that are not closed' $'[]\n' '' 0 -V '[${W:M$P}]' \
+    < <(printf 'W='; times 4000 '['; printf '\nP=*'; times 300 '['; echo a)
+
+row 'a chain of 20000 targets' '' '' 0 t20000 <<'MAKEFILE'
+P=
+.for i in ${:U:range=20000}
+t${i}: ${P}
+P=t${i}
+.endfor
+MAKEFILE
+
+echo "$passed passed, $failed failed"
+[ "$failed" = 0 ]
