@@ -13,7 +13,7 @@ failed=0
 times() {
     local spaces
     printf -v spaces '%*s' "$1" ''
-    printf '%s' "${spaces// /$2}"
+    printf '%s' "${spaces// /"$2"}"
 }
 
 # A text and what stands behind it, so many times: 'a' and 'b' three times are 'aaabbb'.
@@ -28,8 +28,8 @@ around() {
 lines() {
     local i line
     for ((i = 0; i < $1; i++)); do
-        line=${2//%/$i}
-        printf '%s\n' "${line//+/$((i + 1))}"
+        line=${2//%/"$i"}
+        printf '%s\n' "${line//+/"$((i + 1))"}"
     done
 }
 
@@ -89,23 +89,23 @@ row shows='a parenthesis too many in a directive' status=2 words='-v A' \
 
 # References inside references
 
-row shows='256 references in the names of one another' out=$'\n' words='-v "$(cat makefile)"' \
-    makefile='around 256 "\${" a "}"'
+row shows='256 references in the names of one another' out=$'\n' words='-v "$(cat expression)"' \
+    makefile='around 256 "\${" a "}" >expression'
 
-row shows='256 defaults in one another' out="$one" words='-v "$(cat makefile)"' \
-    makefile='around 256 "\${:U" 1 "}"'
+row shows='256 defaults in one another' out="$one" words='-v "$(cat expression)"' \
+    makefile='around 256 "\${:U" 1 "}" >expression'
 
-row shows='256 patterns in one another' out=$'\n' words='-v "$(cat makefile)"' \
-    makefile='around 256 "\${:Ua:M" 1 "}"'
+row shows='256 patterns in one another' out=$'\n' words='-v "$(cat expression)"' \
+    makefile='around 256 "\${:Ua:M" 1 "}" >expression'
 
-row shows='256 substitutions in one another' out="$one" words='-v "$(cat makefile)"' \
-    makefile='around 256 "\${:Ua:S/a/" 1 "/}"'
+row shows='256 substitutions in one another' out="$one" words='-v "$(cat expression)"' \
+    makefile='around 256 "\${:Ua:S/a/" 1 "/}" >expression'
 
-row shows='256 choices in one another' out="$one" words='-v "$(cat makefile)"' \
-    makefile='around 256 "\${1:?" 1 ":0}"'
+row shows='256 choices in one another' out="$one" words='-v "$(cat expression)"' \
+    makefile='around 256 "\${1:?" 1 ":0}" >expression'
 
-row shows='256 loops over words in one another' out="$one" words='-v A' \
-    makefile='printf "A=%s\n" "$(around 256 "\${:Ux:@v@" 1 "@}")"'
+row shows='255 loops over words in one another' out="$one" words='-v A' \
+    makefile='printf "A=%s\n" "$(around 255 "\${:Ux:@v@" 1 "@}")"'
 
 row shows='256 variables in the values of one another' out="$one" words='-v A0' \
     makefile='lines 255 "A%=\${A+}"; echo A255=1'
@@ -134,7 +134,7 @@ row shows='1,000 loops in one another' out="$one" words='-v A' \
 row shows='a chain of 100,000 targets' out=$'made\n' words='-s t0' \
     makefile='lines 100000 "t%: t+"; printf "t100000:\n\techo made\n"'
 
-row shows='a cycle of 100,000 targets' status=2 words='-n t0' err='bmake: ' \
+row shows='a cycle of 100,000 targets' status=2 words='t0' err='bmake: ' \
     makefile='lines 99999 "t%: t+"; echo "t99999: t0"'
 
 row shows='a chain of 100,000 targets in order' out=$'made\n' words='-s t100000' \
@@ -150,18 +150,18 @@ row shows='a chain of 300 suffix rules' out=$'made\n' words='-s t' \
 
 # Words
 
-row shows='5,000 groups of braces in a word' words='-n t' \
-    out="echo $(times 5000 a)"$'\n' \
+row shows='5,000 groups of braces in a word' words='-s t' \
+    out="$(times 5000 a)"$'\n' \
     makefile='printf "t: %s\n\techo \$>\n" "$(times 5000 "{a}")"; echo "$(times 5000 a):"'
 
-row shows='2,000 groups of braces in one another' words='-n t' \
-    out='echo a'$'\n' \
+row shows='2,000 groups of braces in one another' words='-s t' \
+    out=$'a\n' \
     makefile='printf "t: %s\n\techo \$>\na:\n" "$(around 2000 "{" a "}")"'
 
 # Values
 
 row shows='a chain of 1,024 modifiers of 4 MiB in less than 64 MiB' memory=65536 \
-    words='-v "\${C12:tu:tl:$(times 1022 "tu:tl:"):hash}" | wc -c' out=$'9\n' \
+    words='-v "\${C12$(times 512 ":tu:tl")}" | wc -c' out=$'4194305\n' \
     makefile='echo "C0=$(times 1024 x)"; lines 12 "C+=\${C%}\${C%}"'
 
 row shows='200,000 suffixes in a line' words='-v A' out="$one" \

@@ -1,14 +1,17 @@
 -- Groups of braces and their alternatives.
-use Rattle.std.proofs.Common.{◌≡◌, ℕ, zero, suc, ◌+◌, ◌-◌, ◌<◌, ◌≤◌, ◌⊎◌, length, Bool, true, false, List, [], ◌∷◌, ◌++◌}
+use Rattle.std.proofs.Common.{◌≡◌, ℕ, zero, suc, ◌+◌, ◌-◌, ◌<◌, ◌≤◌, Bool, true, false, List, [], ◌∷◌, ◌++◌}
 use Rattle.std.proofs.Common.{Option, Some, None, Result, Ok, Err, take, drop, refl, sym, ap, inl, inr}
-use Rattle.std.proofs.Common.{append_assoc, arith}
+use Rattle.std.proofs.Common.{append_assoc, ◌∙◌, arith}
 use Rattle.std.proofs.lemmas.List.{append-nil}
 use Rattle.std.specs.List.{onto_first}
 use Rattle.std.specs.Option.{option_map}
-use Rattle.mk_bytes.specs.Agrees.{Agrees, AgreesErr, ◌>>=◌}
+use Rattle.mk_bytes.specs.Agrees.{AgreesErr, ◌>>=◌}
 use Rattle.mk_depline.specs.Braces.{Group, added, alternatives, alternatives_from, comma, depth_behind}
-use Rattle.mk_depline.specs.Braces.{Speller, each_spelled, group_of, place_from, place_of, spelled_in, spelled_out, stops}
+use Rattle.mk_depline.specs.Braces.{all_pending, all_steps, both_spelled, each_spelled, each_steps}
+use Rattle.mk_depline.specs.Braces.{group_of, pending_steps, pending_words, place_from, place_of}
+use Rattle.mk_depline.specs.Braces.{spelled_in, steps_left, stops, word_steps, words_left}
 use Rattle.mk_depline.specs.Words.{words_among}
+use Rattle.mk_depline.specs.declared.brace.Pending.{Pending}
 use Rattle.mk_depline.specs.declared.fault.DepFault.{DepFault}
 use Rattle.mk_depline.specs.declared.fault.DepFault.TheVariants.{NoMemory}
 
@@ -77,108 +80,75 @@ added-both names now (Err fault) others is = cc
 pub added-none : (names : List (List ℕ)) → added names (Ok []) ≡ Ok names
 added-none names = ap (λ all. Ok all) (append-nil names)
 
-pub added-fault : (names : List (List ℕ)) (found : Result (List (List ℕ)) DepFault)
-    (fault : DepFault) (next : List (List ℕ) → Result (List (List ℕ)) DepFault)
-    → AgreesErr NoMemory fault (added names found)
-    → AgreesErr NoMemory fault (added names (found >>= next))
-added-fault names found fault next (inl want) = inl want
-added-fault names (Ok words) fault next (inr is) = inr cc
-added-fault names (Err other) fault next (inr is) = inr is
-
 -- a word with a brace that is not closed
-pub spelled-fault : (names : List (List ℕ)) (most : ℕ) (word : List ℕ) (fault : DepFault)
-    → AgreesErr NoMemory fault (group_of word)
-    → AgreesErr NoMemory fault (added names (spelled_in most word))
+pub spelled-fault : (most : ℕ) (word : List ℕ) (fault : DepFault)
+    → AgreesErr NoMemory fault (group_of word) → AgreesErr NoMemory fault (spelled_in most word)
 unfolding spelled_in
-spelled-fault names most word fault (inl want) = inl want
-spelled-fault names zero word fault (inr is) = rw is (inr refl)
-spelled-fault names (suc most) word fault (inr is) = rw is (inr refl)
+spelled-fault most word fault (inl want) = inl want
+spelled-fault zero word fault (inr is) = rw is (inr refl)
+spelled-fault (suc most) word fault (inr is) = rw is (inr refl)
 
-no_answer : (found : Result (List (List ℕ)) DepFault) (now : List (List ℕ))
-    → found ≡ Err NoMemory → found ≡ Ok now → ⊥
-no_answer found now full is = cc
+-- the fault of a first word is that of all
+pub first-fault : (names : List (List ℕ)) (first : Result (List (List ℕ)) DepFault)
+    (behind : Result (List (List ℕ)) DepFault) (fault : DepFault)
+    → AgreesErr NoMemory fault first
+    → AgreesErr NoMemory fault (added names (both_spelled first behind))
+first-fault names first behind fault (inl want) = inl want
+first-fault names first behind fault (inr is) = rw is (inr refl)
 
-same_fault : (found : Result (List (List ℕ)) DepFault) (fault : DepFault)
-    → found ≡ Err NoMemory → found ≡ Err fault → fault ≡ NoMemory
-same_fault found fault full is = cc
+pub both-assoc : (a b c : Result (List (List ℕ)) DepFault)
+    → both_spelled (both_spelled a b) c ≡ both_spelled a (both_spelled b c)
+both-assoc (Ok a) (Ok b) (Ok c) = ap (λ all. Ok all) (append_assoc a b c)
+both-assoc (Ok a) (Ok b) (Err fault) = refl
+both-assoc (Ok a) (Err fault) c = refl
+both-assoc (Err fault) b c = refl
 
-added-full : (names : List (List ℕ)) (small : Result (List (List ℕ)) DepFault)
-    → small ≡ Err NoMemory → added names small ≡ Err NoMemory
-added-full names small full = rw full refl
+pub both-none : (words : Result (List (List ℕ)) DepFault) → both_spelled words (Ok []) ≡ words
+both-none (Ok words) = ap (λ all. Ok all) (append-nil words)
+both-none (Err fault) = refl
 
--- with room for more groups it is the same, where there was room
-abbrev Within : Result (List (List ℕ)) DepFault → Result (List (List ℕ)) DepFault → Type 0
-Within small large = (small ≡ Err NoMemory) ⊎ (large ≡ small)
+pub none-both : (words : Result (List (List ℕ)) DepFault) → both_spelled (Ok []) words ≡ words
+none-both (Ok words) = refl
+none-both (Err fault) = refl
 
-each-words : (words : List (List ℕ)) (small large : Result (List (List ℕ)) DepFault)
-    → Within small large
-    → Within (small >>= λ others. Ok (words ++ others)) (large >>= λ others. Ok (words ++ others))
-each-words words small large (inl full) = rw full (inl refl)
-each-words words small large (inr same) = rw same (inr refl)
+pub pending-push : (waiting : List Pending) (p : Pending)
+    → all_pending (waiting ++ p ∷ []) ≡ both_spelled (pending_words p) (all_pending waiting)
+pending-push [] p = none-both (pending_words p) ∙ sym (both-none (pending_words p))
+pending-push (q ∷ waiting) p =
+    ap (λ inner. both_spelled inner (pending_words q)) (pending-push waiting p)
+    ∙ both-assoc (pending_words p) (all_pending waiting) (pending_words q)
 
-each-first : (small large : Result (List (List ℕ)) DepFault)
-    (behind wider : Result (List (List ℕ)) DepFault)
-    → Within small large → Within behind wider
-    → Within (small >>= λ words. behind >>= λ others. Ok (words ++ others))
-    (large >>= λ words. wider >>= λ others. Ok (words ++ others))
-each-first small large behind wider (inl full) rest = rw full (inl refl)
-each-first (Ok words) large behind wider (inr same) rest =
-    rw same (each-words words behind wider rest)
-each-first (Err fault) large behind wider (inr same) rest = rw same (inr refl)
+pub steps-push : (waiting : List Pending) (p : Pending)
+    → all_steps (waiting ++ p ∷ []) ≡ all_steps waiting + pending_steps p
+steps-push [] p = omega arith
+steps-push (q ∷ waiting) p = omega (arith, steps-push waiting p)
 
-each-within : (narrow wide : Speller) (before behind : List ℕ) (alternatives : List (List ℕ))
-    → ((word : List ℕ) → Within (narrow word) (wide word))
-    → Within (each_spelled narrow before behind alternatives)
-    (each_spelled wide before behind alternatives)
-each-within narrow wide before behind [] within = inr refl
-each-within narrow wide before behind (one ∷ more) within =
-    each-first _ _ _ _ (within (before ++ one ++ behind))
-    (each-within narrow wide before behind more within)
+pub steps-group : (most : ℕ) (word : List ℕ) (group : Group)
+    → 0 < most → group_of word ≡ Ok (Some group)
+    → word_steps most word ≡ each_steps (word_steps (most - 1)) group.before group.behind
+    (alternatives group.inside)
+unfolding word_steps
+steps-group zero word group some is = absurd (omega (arith, some))
+steps-group (suc most) word group some is =
+    let less : suc most - 1 ≡ most = omega arith in rw (is, less) refl
 
-spelled-wider : (most more : ℕ) (word : List ℕ) (group : Result (Option Group) DepFault)
-    → group_of word ≡ group → ((other : List ℕ) → Within (spelled_in most other) (spelled_in (most + more) other))
-    → Within (spelled_in (suc most) word) (spelled_in (suc (most + more)) word)
-unfolding spelled_in
-spelled-wider most more word (Ok None) is within = rw is (inr refl)
-spelled-wider most more word (Ok (Some group)) is within =
-    rw is (each-within _ _ group.before group.behind (alternatives group.inside) within)
-spelled-wider most more word (Err fault) is within = rw is (inr refl)
+-- a group whose first word is taken, with those that are left put back
+pub popped : (waiting rest pushed : List Pending) (words : Pending) (word : List ℕ)
+    (left : Option Pending)
+    → waiting ≡ rest ++ words ∷ []
+    → pending_words words ≡ both_spelled (spelled_in words.most word) (words_left left)
+    → all_pending pushed ≡ both_spelled (words_left left) (all_pending rest)
+    → all_pending waiting ≡ both_spelled (spelled_in words.most word) (all_pending pushed)
+popped waiting rest pushed words word left pops first puts =
+    rw (pops, pending-push rest words, first, puts)
+    (both-assoc (spelled_in words.most word) (words_left left) (all_pending rest))
 
-spelled-zero : (more : ℕ) (word : List ℕ) (group : Result (Option Group) DepFault)
-    → group_of word ≡ group → Within (spelled_in 0 word) (spelled_in more word)
-unfolding spelled_in
-spelled-zero zero word group is = inr refl
-spelled-zero (suc more) word (Ok None) is = rw is (inr refl)
-spelled-zero (suc more) word (Ok (Some group)) is = rw is (inl refl)
-spelled-zero (suc more) word (Err fault) is = rw is (inr refl)
-
-spelled-within : (most more : ℕ) (word : List ℕ)
-    → Within (spelled_in most word) (spelled_in (most + more) word)
-spelled-within zero more word =
-    let start : 0 + more ≡ more = omega arith in
-    rw start (spelled-zero more word (group_of word) refl)
-spelled-within (suc most) more word =
-    let next : suc most + more ≡ suc (most + more) = omega arith in
-    rw next (spelled-wider most more word (group_of word) refl (spelled-within most more))
-
-agrees-within : (names : List (List ℕ)) (result : Result (Unit {0}) DepFault) (now : List (List ℕ))
-    (small large : Result (List (List ℕ)) DepFault)
-    → Within small large → Agrees NoMemory (λ _. now) result (added names small)
-    → Agrees NoMemory (λ _. now) result (added names large)
-agrees-within names (Ok done) now small large (inl full) is =
-    absurd (no_answer (added names small) now (added-full names small full) is)
-agrees-within names (Err fault) now small large (inl full) (inl want) = inl want
-agrees-within names (Err fault) now small large (inl full) (inr is) =
-    inl (same_fault (added names small) fault (added-full names small full) is)
-agrees-within names result now small large (inr same) is = rw same is
-
--- a word is spelled out with as much room as it has bytes; less may be enough
-pub spelled_out_in : (names : List (List ℕ)) (result : Result (Unit {0}) DepFault)
-    (now : List (List ℕ)) (most : ℕ) (word : List ℕ)
-    → most ≤ length word → Agrees NoMemory (λ _. now) result (added names (spelled_in most word))
-    → Agrees NoMemory (λ _. now) result (added names (spelled_out word))
-spelled_out_in names result now most word few is =
-    let all : most + (length word - most) ≡ length word = omega (arith, few) in
-    let within = spelled-within most (length word - most) word in
-    let wide = rw all at within in
-    agrees-within names result now _ _ wide is
+pub steps_popped : (waiting rest pushed new : List Pending) (words : Pending) (word : List ℕ)
+    (left : Option Pending)
+    → waiting ≡ rest ++ words ∷ []
+    → pending_steps words ≡ 1 + (word_steps words.most word + steps_left left)
+    → all_steps pushed ≡ all_steps rest + steps_left left
+    → all_steps new ≤ all_steps pushed + word_steps words.most word
+    → all_steps new < all_steps waiting
+steps_popped waiting rest pushed new words word left pops first puts fewer =
+    rw (pops, steps-push rest words) (omega (arith, first, puts, fewer))

@@ -7,6 +7,7 @@ use Rattle.std.specs.Option.{option_map}
 use Rattle.mk_bytes.specs.Agrees.{◌>>=◌}
 use Rattle.mk_bytes.specs.Bytes.{curly_open, curly_close}
 use Rattle.mk_depline.specs.Words.{words_among}
+use Rattle.mk_depline.specs.declared.brace.Pending.{Pending}
 use Rattle.mk_depline.specs.declared.fault.DepFault.{DepFault}
 use Rattle.mk_depline.specs.declared.fault.DepFault.TheVariants.{Brace, NoMemory}
 
@@ -46,9 +47,9 @@ alternatives_from depth (byte ∷ rest) =
 abbrev pub alternatives : List ℕ → List (List ℕ)
 alternatives inside = alternatives_from 0 inside
 
-abbrev pub alternatives_behind : Option (List ℕ) → List (List ℕ)
-alternatives_behind None = []
-alternatives_behind (Some rest) = alternatives rest
+abbrev pub alternatives_at : List ℕ → Option ℕ → List (List ℕ)
+alternatives_at inside None = []
+alternatives_at inside (Some at) = alternatives (drop at inside)
 
 -- a word with braces: what stands before the first, in it and behind it
 pub record Group : Type 0 where
@@ -111,3 +112,50 @@ abbrev pub all_spelled_out : List (List ℕ) → Result (List (List ℕ)) DepFau
 all_spelled_out [] = Ok []
 all_spelled_out (word ∷ words) =
     spelled_out word >>= λ names. all_spelled_out words >>= λ others. Ok (names ++ others)
+
+-- What the code keeps open
+
+-- the words of one, and those behind them
+abbrev pub both_spelled : Result (List (List ℕ)) DepFault → Result (List (List ℕ)) DepFault
+    → Result (List (List ℕ)) DepFault
+both_spelled first behind = first >>= λ words. behind >>= λ others. Ok (words ++ others)
+
+abbrev pub pending_words : Pending → Result (List (List ℕ)) DepFault
+pending_words p =
+    each_spelled (spelled_in p.most) p.before p.behind (alternatives (drop p.at p.inside))
+
+abbrev pub words_left : Option Pending → Result (List (List ℕ)) DepFault
+words_left None = Ok []
+words_left (Some p) = pending_words p
+
+-- the innermost is the last, and its words come first
+abbrev pub all_pending : List Pending → Result (List (List ℕ)) DepFault
+all_pending [] = Ok []
+all_pending (p ∷ inner) = both_spelled (all_pending inner) (pending_words p)
+
+-- how many words are spelled on the way
+abbrev pub each_steps : (List ℕ → ℕ) → List ℕ → List ℕ → List (List ℕ) → ℕ
+each_steps steps before behind [] = 0
+each_steps steps before behind (one ∷ more) =
+    1 + (steps (before ++ one ++ behind) + each_steps steps before behind more)
+
+abbrev pub group_steps : (List ℕ → ℕ) → Result (Option Group) DepFault → ℕ
+group_steps steps (Ok (Some group)) =
+    each_steps steps group.before group.behind (alternatives group.inside)
+group_steps steps _ = 0
+
+unfoldable pub word_steps : ℕ → List ℕ → ℕ
+word_steps zero word = 0
+word_steps (suc most) word = group_steps (word_steps most) (group_of word)
+
+abbrev pub pending_steps : Pending → ℕ
+pending_steps p =
+    each_steps (word_steps p.most) p.before p.behind (alternatives (drop p.at p.inside))
+
+abbrev pub steps_left : Option Pending → ℕ
+steps_left None = 0
+steps_left (Some p) = pending_steps p
+
+abbrev pub all_steps : List Pending → ℕ
+all_steps [] = 0
+all_steps (p ∷ inner) = pending_steps p + all_steps inner

@@ -1,7 +1,6 @@
 //! Braces: `x{a,b}y` stands for `xay xby`.
-ghost use Rattle.std.specs.Prelude.{◌≡◌, ◌+◌, ◌<◌, ◌≤◌, ◌∷◌, ◌++◌, [], length, min, position, Ok, IfOk, IfSome, OnOk};
-ghost use Rattle.std.specs.Option.{option_copied};
-ghost use Rattle.mk_bytes.specs.Agrees.{Agrees};
+ghost use Rattle.std.specs.Prelude.{◌≡◌, ◌+◌, ◌<◌, ◌≤◌, ◌∷◌, ◌++◌, [], length, drop, position, Ok, IfOk, IfErr, IfSome, OnOk};
+ghost use Rattle.mk_bytes.specs.Agrees.{Agrees, AgreesErr};
 ghost use Rattle.mk_depline.specs.Braces as spec;
 ghost use Rattle.mk_depline.specs.View.{group_seen};
 ghost use Rattle.mk_depline.specs.Words as words;
@@ -11,9 +10,6 @@ use crate::fault::DepFault;
 use crate::word::first_piece;
 use mk_bytes::{Items, NoMemory, Text, Texts};
 use std::alloc::Global;
-
-// Words may have so many groups, one in another or one behind another.
-const MAX_GROUPS: usize = 256;
 
 fn depth_behind(depth: usize, byte: u8) -> usize
     requires { depth < usize.MAX }
@@ -55,14 +51,24 @@ fn place_of(wanted: u8, text: &[u8]) -> Option<usize>
     None
 }
 
-// The first alternative, and what follows its comma.
-fn first_alternative<'t>(inside: &'t [u8]) -> (&'t [u8], Option<&'t [u8]>)
+// A text without its first bytes.
+fn behind(text: &[u8], at: usize) -> &[u8]
+    ensures { result.now ≡ drop at text.now }
+{
+    if at >= text.len() {
+        return b"";
+    }
+    &text[at..]
+}
+
+// The first alternative, and the place behind its comma.
+fn first_alternative(inside: &[u8]) -> (&[u8], Option<usize>)
     ensures alternatives { spec.alternatives inside.now
-        ≡ result.0.now ∷ spec.alternatives_behind (option_copied result.1) }
-    ensures shorter { IfSome result.1 (λ rest. length rest.now < length inside.now) }
+        ≡ result.0.now ∷ spec.alternatives_at inside.now result.1 }
+    ensures within { IfSome result.1 (λ at. (0 < at) × (at ≤ length inside.now)) }
 {
     match place_of(b',', inside) {
-        Some(at) => (&inside[..at], Some(&inside[at + 1..])),
+        Some(at) => (&inside[..at], Some(at + 1)),
         None => (inside, None),
     }
 }
@@ -112,11 +118,88 @@ fn push_word(alloc: Global, word: &[u8], names: &mut Texts) -> Result<(), NoMemo
     names.push(Text::from_bytes(alloc, word)?)
 }
 
-// Adds the words that a word stands for, where it has at most so many groups.
-#[cycle(spell)]
-fn spell(alloc: Global, most: usize, word: &[u8], names: &mut Texts) -> Result<(), DepFault>
-    ensures { Agrees no_memory (λ _. names.new) result
-        (spec.added names.old (spec.spelled_in most word.now)) }
+/// The words of a group's alternatives, from the one at a place inside on. Each may have so many
+/// groups more.
+#[derive(Drop)]
+pub struct Pending {
+    pub most: usize,
+    pub before: Text,
+    pub inside: Text,
+    pub at: usize,
+    pub behind: Text,
+}
+
+fn group_words(alloc: Global, most: usize, group: Group<'_>) -> Result<Pending, NoMemory>
+    ensures words { IfOk result (λ words. spec.pending_words words
+        ≡ spec.each_spelled (spec.spelled_in most) group.entry.before.now group.entry.behind.now
+        (spec.alternatives group.entry.inside.now)) }
+    ensures steps { IfOk result (λ words. spec.pending_steps words
+        ≡ spec.each_steps (spec.word_steps most) group.entry.before.now group.entry.behind.now
+        (spec.alternatives group.entry.inside.now)) }
+{
+    Ok(Pending {
+        most,
+        before: Text::from_bytes(alloc, group.before)?,
+        inside: Text::from_bytes(alloc, group.inside)?,
+        at: 0,
+        behind: Text::from_bytes(alloc, group.behind)?,
+    })
+}
+
+fn push_pending(waiting: &mut Vec<Pending>, words: Pending) -> Result<(), NoMemory>
+    ensures { OnOk result (waiting.new.items ≡ waiting.old.items ++ words ∷ []) }
+{
+    waiting.push(words)?;
+    Ok(())
+}
+
+// The word of the first alternative, and those that are left.
+fn next_word(alloc: Global, words: Pending) -> Result<(Text, Option<Pending>), NoMemory>
+    ensures words { IfOk result (λ next. spec.pending_words words
+        ≡ spec.both_spelled (spec.spelled_in words.most next.0) (spec.words_left next.1)) }
+    ensures steps { IfOk result (λ next. spec.pending_steps words
+        ≡ 1 + (spec.word_steps words.most next.0 + spec.steps_left next.1)) }
+{
+    let mut words = words;
+    let (one, more) = first_alternative(behind(words.inside.bytes(), words.at));
+    let word = joined(alloc, words.before.bytes(), one, words.behind.bytes())?;
+    let Some(at) = more else {
+        return Ok((word, None));
+    };
+    words.at += at;
+    Ok((word, Some(words)))
+}
+
+// Puts back those that are left.
+fn push_left(waiting: &mut Vec<Pending>, left: Option<Pending>) -> Result<(), NoMemory>
+    ensures words { OnOk result (spec.all_pending waiting.new.items
+        ≡ spec.both_spelled (spec.words_left left) (spec.all_pending waiting.old.items)) }
+    ensures steps { OnOk result (spec.all_steps waiting.new.items
+        ≡ spec.all_steps waiting.old.items + spec.steps_left left) }
+{
+    match left {
+        Some(words) => {
+            push_pending(waiting, words)?;
+            Ok(())
+        }
+        None => Ok(()),
+    }
+}
+
+// Adds a word that has no group. Of one that has, the words of its first group's alternatives wait.
+fn spell(
+    alloc: Global,
+    most: usize,
+    word: &[u8],
+    waiting: &mut Vec<Pending>,
+    names: &mut Texts,
+) -> Result<(), DepFault>
+    ensures ok { OnOk result (spec.added names.new (spec.all_pending waiting.new.items)
+        ≡ spec.added names.old
+        (spec.both_spelled (spec.spelled_in most word.now) (spec.all_pending waiting.old.items))) }
+    ensures err { IfErr result (λ fault. AgreesErr no_memory fault (spec.spelled_in most word.now)) }
+    ensures steps { OnOk result (spec.all_steps waiting.new.items
+        ≤ spec.all_steps waiting.old.items + spec.word_steps most word.now) }
 {
     match group_of(word)? {
         None => Ok(push_word(alloc, word, names)?),
@@ -124,51 +207,25 @@ fn spell(alloc: Global, most: usize, word: &[u8], names: &mut Texts) -> Result<(
             if most == 0 {
                 return Err(DepFault::NoMemory);
             }
-            spell_each(
-                alloc,
-                most - 1,
-                group.before,
-                group.inside,
-                group.behind,
-                names,
-            )
+            Ok(push_pending(waiting, group_words(alloc, most - 1, group)?)?)
         }
     }
 }
 
-// Adds the words of each alternative, in order.
-#[cycle(spell)]
-fn spell_each(
-    alloc: Global,
-    most: usize,
-    before: &[u8],
-    inside: &[u8],
-    behind: &[u8],
-    names: &mut Texts,
-) -> Result<(), DepFault>
-    ensures { Agrees no_memory (λ _. names.new) result
-        (spec.added names.old (spec.each_spelled (spec.spelled_in most) before.now behind.now
-        (spec.alternatives inside.now))) }
-{
-    let mut rest = inside;
-    'alternatives: loop {
-        let (one, more) = first_alternative(rest);
-        let word = joined(alloc, before, one, behind)?;
-        spell(alloc, most, word.bytes(), names)?;
-        match more {
-            Some(after) => rest = after,
-            None => return Ok(()),
-        }
-    }
-}
-
-// Adds the words that a word stands for.
-
+// Adds the words that a word stands for. Those of groups that are open wait in a list, the innermost last.
 fn spell_word(alloc: Global, word: &[u8], names: &mut Texts) -> Result<(), DepFault>
     ensures { Agrees no_memory (λ _. names.new) result
         (spec.added names.old (spec.spelled_out word.now)) }
 {
-    spell(alloc, word.len().min(MAX_GROUPS), word, names)
+    let mut waiting = Vec::new(alloc);
+    spell(alloc, word.len(), word, &mut waiting, names)?;
+    'words: while let Some(words) = waiting.pop() {
+        let most = words.most;
+        let (word, left) = next_word(alloc, words)?;
+        push_left(&mut waiting, left)?;
+        spell(alloc, most, word.bytes(), &mut waiting, names)?;
+    }
+    Ok(())
 }
 
 // Adds the words that a piece of a text stands for, if it is a word.
@@ -183,7 +240,7 @@ fn spell_piece(alloc: Global, piece: &[u8], names: &mut Texts) -> Result<(), Dep
 }
 
 /// The words that the words of a text stand for, from the left. `Brace` exactly where a brace of
-/// one is not closed; a word with more than 256 groups may be refused as want of memory.
+/// one is not closed.
 pub fn spelled_words(alloc: Global, text: &[u8]) -> Result<Texts, DepFault>
     ensures { Agrees no_memory (λ names. names) result
         (spec.all_spelled_out (words.words_of text.now)) }
