@@ -1,7 +1,8 @@
 -- How a node is made.
-use Rattle.std.specs.Prelude.{ℕ, zero, suc, Bool, List, [], length, get_or, codes}
-use Rattle.std.specs.Prelude.{Result, Ok, Err, if◌then◌else◌}
+use Rattle.std.specs.Prelude.{ℕ, zero, suc, Bool, false, List, [], length, get_or, codes}
+use Rattle.std.specs.Prelude.{Option, Some, None, Result, Ok, Err, if◌then◌else◌}
 use Rattle.mk_bytes.specs.Agrees.{◌>>=◌}
+use Rattle.mk_closure.specs.Means.{has_commands}
 use Rattle.mk_closure.specs.Names.{name_in, numbered}
 use Rattle.mk_closure.specs.Parts.{State, is_open, with_way}
 use Rattle.mk_closure.specs.declared.fault.CloseFault.{CloseFault}
@@ -10,9 +11,8 @@ use Rattle.mk_closure.specs.declared.means.Means.{Means}
 use Rattle.mk_closure.specs.declared.means.Means.TheVariants as mean
 use Rattle.mk_closure.specs.declared.part.Way.TheVariants.{Own, Rule, Default, Dropped}
 use Rattle.mk_graph.specs.Marks.{has}
-use Rattle.mk_graph.specs.Nodes.{Node, node_at}
-use Rattle.mk_graph.specs.declared.attr.Attr.TheVariants.{Target, Optional}
-use Rattle.mk_suffix.specs.Found.{is_marked}
+use Rattle.mk_graph.specs.Nodes.{Node, node_at, number_of}
+use Rattle.mk_graph.specs.declared.attr.Attr.TheVariants.{Optional}
 use Rattle.mk_suffix.specs.declared.chain.Chain.{Chain}
 
 -- a walk so far, or its refusal
@@ -34,9 +34,13 @@ linked s n chain (suc links) =
     >>= λ found. linked found.0 found.1 chain links)
     else Ok s
 
--- whether `.DEFAULT` is a target
+abbrev pub serves_at : List Node → Option ℕ → Bool
+serves_at nodes None = false
+serves_at nodes (Some n) = has_commands nodes n
+
+-- whether `.DEFAULT` has commands; without them it serves nobody
 abbrev pub has_default : List Node → Bool
-has_default nodes = is_marked nodes (codes ".DEFAULT") Target
+has_default nodes = serves_at nodes (number_of nodes (codes ".DEFAULT"))
 
 abbrev pub is_optional : List Node → ℕ → Bool
 is_optional nodes n = has (node_at nodes n).marks Optional

@@ -9,7 +9,7 @@ ghost use Rattle.mk_suffix.specs.Made.{IsFor};
 
 use crate::closure::Closure;
 use crate::fault::CloseFault;
-use crate::means::Means;
+use crate::means::{Means, has_commands};
 use crate::part::Way;
 use mk_bytes::Text;
 use mk_graph::{Attr, Graph};
@@ -20,7 +20,7 @@ fn has_default(graph: &Graph) -> bool
     ensures { result ≡ spec.has_default graph.now }
 {
     match graph.find(b".DEFAULT".as_slice()) {
-        Some(n) => graph.has(n, Attr::Target),
+        Some(n) => has_commands(graph, n),
         None => false,
     }
 }

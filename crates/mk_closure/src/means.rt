@@ -27,7 +27,8 @@ pub enum Means {
     Missing,
 }
 
-fn has_commands(graph: &Graph, n: u32) -> bool
+/// Whether a node has commands.
+pub fn has_commands(graph: &Graph, n: u32) -> bool
     ensures { result ≡ spec.has_commands graph.now n }
 {
     (n as usize) < graph.len() && !graph.commands(n).is_empty()

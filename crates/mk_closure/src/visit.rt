@@ -199,8 +199,8 @@ impl<'g> Closure<'g> {
 /// without commands that is not phony is made by the chosen chain of suffix rules, if there is one:
 /// each step gives its rule's commands to a name and adds its source as the last one, and a name for
 /// which that was decided before stays as it is, with those before it. A node without commands and
-/// chain that is no target and has no file takes the commands of `.DEFAULT`; where that is no target,
-/// it is dropped if it is optional, and else it is refused.
+/// chain that is no target and has no file takes the commands of `.DEFAULT`; where that has none, it is
+/// dropped if it is optional, and else it is refused.
 ///
 /// `NoRule` is the first such name, and `Full` comes exactly where a 1,048,577th name would be added
 /// before. `Failed` comes only where the world's count of faults rose or is at its end.
