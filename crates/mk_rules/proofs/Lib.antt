@@ -1,3 +1,4 @@
 pub mod EndLemmas
 pub mod FoldLemmas
 pub mod ModeLemmas
+pub mod SuffixLemmas

@@ -6,4 +6,5 @@ pub mod Names
 pub mod Rules
 pub mod SourceView
 pub mod Sources
+pub mod Suffixes
 pub mod View

@@ -11,6 +11,7 @@ mod mode;
 mod names;
 mod rules;
 mod source;
+mod suffixes;
 
 pub use end::Finished;
 pub use fault::RuleFault;

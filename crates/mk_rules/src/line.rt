@@ -11,9 +11,10 @@ use crate::fault::RuleFault;
 use crate::names::{add_all_sources, all_named, mark_all, order_neighbours};
 use crate::rules::Rules;
 use crate::source::{meet_all, take_attributes};
+use crate::suffixes::add_suffixes;
 use indexmap::IndexSet;
 use mk_bytes::{Items, NoMemory, Text, Texts};
-use mk_depline::{DepLine, Special, is_attribute};
+use mk_depline::{DepLine, Special};
 use mk_graph::{Attr, Graph, Nodes};
 use std::alloc::Global;
 
@@ -119,24 +120,6 @@ fn names_at(alloc: Global, graph: &Graph, nodes: &[u32], names: &mut Texts) -> R
 {
     for n in nodes {
         names.push(Text::from_bytes(alloc, graph.name(*n))?)?;
-    }
-    Ok(())
-}
-
-fn is_among(names: &Texts, name: &[u8]) -> bool
-    ensures { result ≡ spec.is_known names.now name.now }
-{
-    names.as_slice().iter().any(|one| name == one.bytes())
-}
-
-// Adds suffixes behind those that are known, each where it is none of them.
-fn add_suffixes(alloc: Global, known: &mut Texts, suffixes: &Texts) -> Result<(), NoMemory>
-    ensures { OnOk result (known.new ≡ spec.all_suffixes known.old suffixes.now) }
-{
-    for suffix in suffixes.as_slice() {
-        if !is_attribute(suffix.bytes()) && !is_among(known, suffix.bytes()) {
-            known.push(suffix.copy(alloc)?)?;
-        }
     }
     Ok(())
 }
