@@ -130,7 +130,7 @@ tmp" ] && [ -z "$(ls -A tmp)" ]'
 row shows='nor behind a command that fails while others run' \
     before='mkdir tmp' \
     makefile=$'all: x y\nx:\n\t@sleep 1; echo x\ny:\n\t@exit 3\n' run='TMPDIR=$PWD/tmp "$program" -j 2' \
-    status=1 out=$'x\n' err=$'bmake: target y command 1: status 3\n' after='[ -z "$(ls -A tmp)" ]'
+    status=1 out=$'--- x ---\nx\n' err=$'bmake: target y command 1: status 3\n' after='[ -z "$(ls -A tmp)" ]'
 
 row shows='nor behind a fault of the outside, and the shells of other children are ended' \
     before='mkdir tmp' \
