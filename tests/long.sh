@@ -82,6 +82,25 @@ row 'forty stars and no end that fits' $'[]\n' '' 0 -V '[${W:M$P}]' \
 row 'brackets that are not closed' $'[]\n' '' 0 -V '[${W:M$P}]' \
     < <(printf 'W='; times 4000 '['; printf '\nP=*'; times 300 '['; echo a)
 
+# A target of 80000 sources whose names have more than 4194304 bytes together.
+long_sources() {
+    printf 'B='
+    times 99 b
+    printf '\nC='
+    times 99 c
+    printf '\n%s:\n' '${:U:range=40000:S/^/$B/}' '${:U:range=40000:S/^/$C/}'
+    printf 't: %s\n' '${:U:range=40000:S/^/$B/}' '${:U:range=40000:S/^/$C/}'
+    printf '\t@%s\n' "$1"
+}
+
+row 'a local name is defined where its value would be too long' $'y y\n' '' 0 t \
+    < <(long_sources 'echo ${defined(>F):?y:n} ${defined(>):?y:n}')
+row 'the value itself is too long' '' $'bmake: target t command 1: value too long\n' 2 t \
+    < <(long_sources 'echo ${>F:[1]}')
+
+row '200000 suffixes on a line' $'1\n' '' 0 -v A \
+    <<<$'.SUFFIXES: ${:U:range=200000:S/^/./}\nA=1'
+
 row 'a chain of 20000 targets' '' '' 0 t20000 <<'MAKEFILE'
 P=
 .for i in ${:U:range=20000}
