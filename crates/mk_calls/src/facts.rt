@@ -15,19 +15,33 @@ use std::test::Fail;
 
 type Bytes = &'static [u8];
 
+fn add_target(graph: &mut Graph, name: &[u8]) -> Result<(), PoolFault> {
+    let n = graph.node(name)?;
+    graph.mark(n, Attr::Target)?;
+    Ok(())
+}
+
+fn add_command(graph: &mut Graph, name: &[u8], text: &[u8]) -> Result<(), PoolFault> {
+    let n = graph.node(name)?;
+    graph.add_command(n, text)?;
+    Ok(())
+}
+
+fn add_source(graph: &mut Graph, name: &[u8], other: &[u8]) -> Result<(), PoolFault> {
+    graph.node(other)?;
+    let n = graph.node(name)?;
+    if let Some(source) = graph.find(other) {
+        graph.add_source(n, source)?;
+    }
+    Ok(())
+}
+
 // A target `t` with a source `a` and a command.
 fn graph(alloc: Global) -> Result<Graph, PoolFault> {
     let mut graph = Graph::new(alloc)?;
-    let a = graph.node(b"a")?;
-    graph.node(b"t")?;
-    let Some(t) = graph.find(b"t") else {
-        return Err(PoolFault::Full);
-    };
-    graph.mark(t, Attr::Target)?;
-    graph.add_command(t, b"say 1")?;
-    if (a as usize) < graph.len() {
-        graph.add_source(t, a)?;
-    }
+    add_target(&mut graph, b"t")?;
+    add_source(&mut graph, b"t", b"a")?;
+    add_command(&mut graph, b"t", b"say 1")?;
     Ok(graph)
 }
 

@@ -1,4 +1,7 @@
 //! Chains of suffix rules, and names without their suffix.
+ghost use Rattle.std.specs.Prelude.{◌≡◌, [], IfOk};
+ghost use Rattle.mk_world.specs.History.{state_of, tickets_of};
+
 use crate::texts::{are, texts};
 use mk_bytes::{Items, NoMemory, Pair, Text, is_clean_directory};
 use mk_graph::{Attr, Graph};
@@ -17,8 +20,10 @@ fn one_rule(alloc: Global) -> Result<Graph, PoolFault> {
     Ok(graph)
 }
 
-/// A world with one file, which is empty.
-pub fn world(rt: &impl Abort, alloc: Global, path: &[u8]) -> Result<MemWorld, NoMemory> {
+/// A world with one file, which is empty, in which no child runs.
+pub fn world(rt: &impl Abort, alloc: Global, path: &[u8]) -> Result<MemWorld, NoMemory>
+    ensures { IfOk result (λ world. tickets_of (state_of world.chronicle).children ≡ []) }
+{
     let cwd = Text::from_bytes(alloc, b"/w")?;
     let mut files = Items::new(alloc, 1)?;
     files.push(Pair {

@@ -7,6 +7,7 @@ use crate::facts::made;
 use crate::suffixes::world;
 use crate::texts::texts;
 use mk_bytes::{Items, NoMemory, Text, Texts};
+use mk_expand::Facts;
 use mk_flags::Flags;
 use mk_graph::{Made, Marks};
 use mk_memworld::MemWorld;
@@ -99,21 +100,41 @@ fn flags(alloc: Global) -> Result<Flags, NoMemory> {
     })
 }
 
-// The place of the first line that is another one than its row wants, or how many lines there are.
-fn first_other(lines: &[TaskLine]) -> usize {
-    let mut place = 0;
-    for (line, row) in lines.iter().zip(&LINES) {
-        let (_, text, always, compared) = *row;
-        if line.text.bytes() != text || line.always != always || line.compared != compared {
-            return place;
-        }
-        place += 1;
-    }
-    place
+fn is_line(line: &TaskLine, row: &(Bytes, Bytes, bool, bool)) -> bool {
+    let (_, text, always, compared) = *row;
+    line.text.bytes() == text && line.always == always && line.compared == compared
 }
 
-// The same of the task of the plan's target; nothing where there is no task.
-fn told(
+// The place of the first line that is not as its row wants it.
+fn first_other(lines: &[TaskLine]) -> Option<usize> {
+    for (place, row) in LINES.iter().enumerate() {
+        match lines.get(place) {
+            Some(line) if is_line(line, row) => {}
+            _ => return Some(place),
+        }
+    }
+    None
+}
+
+// The same of the task of the second node of a plan; 100 where there is none.
+fn other_line<F: Facts>(
+    alloc: Global,
+    plan: &Plan,
+    made: &Made,
+    newer: &Texts,
+    flags: &Flags,
+    facts: &mut F,
+) -> Option<usize> {
+    if plan.len() < 2 {
+        return Some(100);
+    }
+    match task(alloc, plan, made, 1, newer, flags, facts) {
+        Ok(task) => first_other(task.lines.as_slice()),
+        Err(_) => Some(100),
+    }
+}
+
+fn other_line_in(
     alloc: Global,
     memory: &mut MemWorld,
     plan: &Plan,
@@ -123,13 +144,7 @@ fn told(
     let flags = flags(alloc)?;
     let mut asked = Vec::new(alloc);
     let mut facts = MadeFacts::new(made, &flags.requested, memory, &mut asked);
-    if plan.len() < 2 {
-        return Ok(None);
-    }
-    match task(alloc, plan, made, 1, &newer, &flags, &mut facts) {
-        Ok(task) => Ok(Some(first_other(task.lines.as_slice()))),
-        Err(_) => Ok(None),
-    }
+    Ok(other_line(alloc, plan, made, &newer, &flags, &mut facts))
 }
 
 #[test]
@@ -137,9 +152,6 @@ fn lines_have_their_marks(rt: HostRuntime) -> Result<(), Fail> {
     let made = made(&rt, rt.alloc())?;
     let plan = plan(&rt, rt.alloc())?;
     let mut memory = world(&rt, rt.alloc(), b"a")?;
-    assert_eq!(rt;
-        told(rt.alloc(), &mut memory, &plan, &made)?,
-        Some(LINES.len())
-    );
+    assert_eq!(rt; other_line_in(rt.alloc(), &mut memory, &plan, &made)?, None);
     Ok(())
 }
