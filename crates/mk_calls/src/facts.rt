@@ -1,4 +1,7 @@
 //! What conditions ask of a graph that was read, over a world in memory.
+ghost use Rattle.std.specs.Prelude.{IsTrue};
+ghost use Rattle.mk_expand.specs.Facts.{is_fact};
+
 use crate::suffixes::world;
 use crate::texts::texts;
 use crate::variables::scopes;
@@ -76,37 +79,62 @@ pub fn made(rt: &impl Abort, alloc: Global) -> Result<Made, PoolFault> {
     })
 }
 
-// A function of a condition, its argument, the requested names, and the answer, where there is a file
-// `a`.
-type Row = (Fun, Bytes, &'static [Bytes], bool);
+// The argument of a function of a condition, the requested names, and the answer, where there is a
+// file `a`.
+type Row = (Bytes, &'static [Bytes], bool);
 
-const FACTS: [Row; 10] = [
-    (Fun::Target, b"t", &[], true),
-    (Fun::Target, b"a", &[], false),
-    (Fun::Commands, b"t", &[], true),
-    (Fun::Commands, b"a", &[], false),
-    (Fun::Exists, b"a", &[], true),
-    (Fun::Exists, b"q", &[], false),
-    (Fun::Make, b"?", &[], true),
-    (Fun::Make, b"x*", &[], false),
-    (Fun::Make, b"x*", &[b"xy"], true),
-    (Fun::Make, b"t", &[b"xy"], false),
+const TARGETS: [Row; 2] = [(b"t", &[], true), (b"a", &[], false)];
+
+const COMMANDS: [Row; 2] = [(b"t", &[], true), (b"a", &[], false)];
+
+const FILES: [Row; 2] = [(b"a", &[], true), (b"q", &[], false)];
+
+const REQUESTS: [Row; 4] = [
+    (b"?", &[], true),
+    (b"x*", &[], false),
+    (b"x*", &[b"xy"], true),
+    (b"t", &[b"xy"], false),
 ];
 
-fn is_told(alloc: Global, memory: &mut MemWorld, made: &Made, row: Row) -> Result<bool, NoMemory> {
-    let (fun, argument, requested, wanted) = row;
+fn is_told(
+    alloc: Global,
+    memory: &mut MemWorld,
+    made: &Made,
+    fun: Fun,
+    row: Row,
+) -> Result<bool, NoMemory>
+    requires { IsTrue (is_fact fun) }
+{
+    let (argument, requested, wanted) = row;
     let requested = texts(alloc, requested)?;
     let mut asked = Vec::new(alloc);
     let mut facts = MadeFacts::new(made, &requested, memory, &mut asked);
     Ok(facts.fact(alloc, fun, argument) == Ok(wanted))
 }
 
-#[test]
-fn facts_are_told(rt: HostRuntime) -> Result<(), Fail> {
-    let made = made(&rt, rt.alloc())?;
-    let mut memory = world(&rt, rt.alloc(), b"a")?;
-    for (place, row) in FACTS.iter().enumerate() {
-        assert!(rt; is_told(rt.alloc(), &mut memory, &made, *row)?, "{place}");
+fn all_told(
+    rt: &impl Abort,
+    alloc: Global,
+    memory: &mut MemWorld,
+    made: &Made,
+    fun: Fun,
+    rows: &[Row],
+) -> Result<(), Fail>
+    requires { IsTrue (is_fact fun) }
+{
+    for (place, row) in rows.iter().enumerate() {
+        assert!(rt; is_told(alloc, memory, made, fun, *row)?, "{place}");
     }
     Ok(())
+}
+
+#[test]
+fn facts_are_told(rt: HostRuntime) -> Result<(), Fail> {
+    let alloc = rt.alloc();
+    let made = made(&rt, alloc)?;
+    let mut memory = world(&rt, alloc, b"a")?;
+    all_told(&rt, alloc, &mut memory, &made, Fun::Target, &TARGETS)?;
+    all_told(&rt, alloc, &mut memory, &made, Fun::Commands, &COMMANDS)?;
+    all_told(&rt, alloc, &mut memory, &made, Fun::Exists, &FILES)?;
+    all_told(&rt, alloc, &mut memory, &made, Fun::Make, &REQUESTS)
 }
