@@ -272,7 +272,7 @@ row shows='a target that is not there, or stands below a plain file, is not remo
 if mkdir "$room/small" && mount -t tmpfs -o size=64k none "$room/small" 2>/dev/null; then
     row shows='a full file system' \
         makefile=$'t:\n\t@head -c 1000000 /dev/zero\n' \
-        run='cp makefile "$room/small"; cd "$room/small"; "$program" >/dev/null 2>&1; test $? -ne 0'
+        run='TMPDIR=$room/small "$program" >/dev/null 2>&1; test $? -ne 0'
     umount "$room/small"
 else
     echo 'skipped: a full file system (no small one may be made here)'
