@@ -9,14 +9,16 @@ use Rattle.mk_plan.specs.declared.plan.NodeState.{NodeState}
 use Rattle.mk_plan.specs.declared.plan.NodeState.TheVariants.{Undecided, Open, Settled, Failed}
 use Rattle.mk_world.specs.declared.command.TaskLine.{TaskLine}
 use Rattle.mk_world.specs.declared.step.Ended.{Ended}
-use Rattle.mk_driver.specs.Builds.{Work, Build, rules_of, or_next, is_removed, IsBegun}
-use Rattle.mk_driver.specs.Items.{passes, ends, removes}
-use Rattle.mk_driver.specs.Progress.{Known, HasTasks, AreRunning, AreFresh, IsGoing, IsPoised, IsBehind, IsFailing, IsEnding}
-use Rattle.mk_driver.specs.Runs as run
-use Rattle.mk_driver.specs.Steps.{GoesOn}
+use Rattle.mk_decision.specs.Decisions.{Work, IsBegun}
+use Rattle.mk_trace.specs.Builds.{Build, rules_of, or_next, is_removed}
+use Rattle.mk_trace.specs.Items.{passes, ends, removes}
+use Rattle.mk_driver.specs.Progress.{AreRunning, AreFresh, IsGoing, IsPoised, IsBehind, IsFailing, IsEnding}
+use Rattle.mk_trace.specs.Growth.{Known, HasTasks}
+use Rattle.mk_trace.specs.Runs as run
+use Rattle.mk_trace.specs.Steps.{GoesOn}
 use Rattle.mk_driver.specs.declared.job.Job.{Job}
-use Rattle.mk_driver.specs.declared.result.Failure.{Failure}
-use Rattle.mk_driver.specs.declared.result.Failure.TheVariants.{JobFailed}
+use Rattle.mk_trace.specs.declared.result.Failure.{Failure}
+use Rattle.mk_trace.specs.declared.result.Failure.TheVariants.{JobFailed}
 use Rattle.mk_sched.proofs.DecideLemmas.{open_within}
 use Rattle.mk_driver.proofs.NodeLemmas.{fresh-but, fresh-set, get-open}
 use Rattle.mk_driver.proofs.StepLemmas.{running-take, running-apart, other_node}

@@ -15,24 +15,25 @@ use Rattle.mk_world.specs.declared.command.Cmd.{Cmd}
 use Rattle.mk_world.specs.declared.command.TaskLine.{TaskLine}
 use Rattle.mk_world.specs.declared.history.History.{History}
 use Rattle.mk_world.specs.declared.step.Ended.{Ended}
-use Rattle.mk_driver.specs.Builds.{Work, Moment, Prints, command_of, is_removed, jobs_of, or_next, rules_of}
-use Rattle.mk_driver.specs.Calls.{Called, EndItem, GoneItem, NoItem, StartItem}
-use Rattle.mk_driver.specs.Items.{removes}
+use Rattle.mk_decision.specs.Decisions.{Work}
+use Rattle.mk_trace.specs.Builds.{Moment, Prints, command_of, is_removed, jobs_of, or_next, rules_of, moment}
+use Rattle.mk_trace.specs.Calls.{Called, EndItem, GoneItem, NoItem, StartItem}
+use Rattle.mk_trace.specs.Items.{removes}
 use Rattle.mk_driver.specs.Jobs.{FitsTogether, HasLine, HasToken, IsJobTaken}
-use Rattle.mk_driver.specs.Makers.{moment}
-use Rattle.mk_driver.specs.Output.{echo, last_behind, shown}
-use Rattle.mk_driver.specs.Progress.{Known, AreUnknown, SoFar, BehindAt, EndingAt, HaltedAt, IsEnding, IsFailing, IsGoing}
-use Rattle.mk_driver.specs.Runs as run
+use Rattle.mk_trace.specs.Output.{echo, last_behind, shown}
+use Rattle.mk_driver.specs.Progress.{AreUnknown, BehindAt, EndingAt, HaltedAt, IsEnding, IsFailing, IsGoing}
+use Rattle.mk_trace.specs.Growth.{Known, SoFar}
+use Rattle.mk_trace.specs.Runs as run
 use Rattle.mk_driver.specs.declared.course.Course.{Course}
-use Rattle.mk_driver.specs.declared.event.Event.{Event}
-use Rattle.mk_driver.specs.declared.event.Event.TheVariants as event
+use Rattle.mk_trace.specs.declared.event.Event.{Event}
+use Rattle.mk_trace.specs.declared.event.Event.TheVariants as event
 use Rattle.mk_driver.specs.declared.job.Job.{Job}
-use Rattle.mk_driver.specs.declared.result.Failure.{Failure}
-use Rattle.mk_driver.specs.declared.result.Failure.TheVariants.{JobFailed}
-use Rattle.mk_driver.specs.declared.result.Halt.{Halt}
+use Rattle.mk_trace.specs.declared.result.Failure.{Failure}
+use Rattle.mk_trace.specs.declared.result.Failure.TheVariants.{JobFailed}
+use Rattle.mk_driver.specs.declared.halt.Halt.{Halt}
 use Rattle.mk_driver.proofs.EndLemmas.{go_on-removes, going-failed}
-use Rattle.mk_driver.proofs.LineLemmas.{halted, so_far-ends, so_far-nothing, so_far-starts, so_far-waits, so_far-weaken}
-use Rattle.mk_driver.proofs.MakeLemmas.{silent, so_far-called}
+use Rattle.mk_driver.proofs.LineLemmas.{halted, so_far-ends, so_far-starts, so_far-waits}
+use Rattle.mk_trace.proofs.MakeLemmas.{so_far-nothing, so_far-weaken, silent, so_far-called}
 use Rattle.mk_driver.proofs.NodeLemmas.{length-predecessors, next-waits, unknown-set}
 
 -- a child was waited for and taken in, and what its line prints was written

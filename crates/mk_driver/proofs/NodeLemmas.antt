@@ -14,7 +14,8 @@ use Rattle.mk_plan.specs.declared.plan.PlanNode.{PlanNode}
 use Rattle.mk_sched.specs.Next.{next_by, next_of}
 use Rattle.mk_sched.specs.Schedule.{Schedule, predecessors}
 use Rattle.mk_sched.specs.declared.sched.Next.TheVariants.{Decide, Wait, Over}
-use Rattle.mk_driver.specs.Progress.{Known, AreFresh, AreFreshBut, AreUnknown, undecided}
+use Rattle.mk_driver.specs.Progress.{AreFresh, AreFreshBut, AreUnknown, undecided}
+use Rattle.mk_trace.specs.Growth.{Known}
 
 pub get-open : (nodes : List NodeState) (node : ℕ) → get_or nodes node Undecided ≡ Open
     → slice_get nodes node ≡ Some Open

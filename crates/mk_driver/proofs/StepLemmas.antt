@@ -1,10 +1,9 @@
 -- How each kind of item leaves a build.
 use Rattle.std.proofs.Common.{◌≡◌, ◌≢◌, ◌∙◌, ℕ, ◌<◌, ◌≤◌, ◌==◌, List, [], ◌∷◌, ◌++◌, length, get_or, set, Option, Some, None, true, false, if◌then◌else◌}
-use Rattle.std.proofs.Common.{inl, inr, refl, sym, ap, subst, append_assoc, arith}
+use Rattle.std.proofs.Common.{inl, inr, refl, sym, ap, subst, arith}
 use Rattle.std.proofs.lemmas.Grind.{common_steps}
 use Rattle.std.proofs.lemmas.Bool.Decides.{nat_tests}
 use Rattle.std.proofs.lemmas.Bool.{cases_eq}
-use Rattle.std.proofs.lemmas.List.{append-nil}
 use Rattle.mk_expand.specs.declared.fault.ExpandFault.{ExpandFault}
 use Rattle.mk_plan.specs.Asking.{Seen}
 use Rattle.mk_plan.specs.Deciding.{may_decide, open_jobs}
@@ -12,16 +11,17 @@ use Rattle.mk_plan.specs.declared.plan.NodeState.{NodeState}
 use Rattle.mk_plan.specs.declared.plan.NodeState.TheVariants.{Undecided, Open, Settled, Failed}
 use Rattle.mk_world.specs.declared.command.Cmd.{Cmd}
 use Rattle.mk_world.specs.declared.command.TaskLine.{TaskLine}
-use Rattle.mk_driver.specs.Builds.{Work, Build, rules_of, build_after, build_after_all, or_next, IsKept, IsBegun, IsRefused, IsCommandOf, command_of}
-use Rattle.mk_driver.specs.Calls.{AreLooks}
-use Rattle.mk_driver.specs.Items.{Item, looks, keeps, refuses, starts, passes, waits, steps, ends, removes, leaves}
+use Rattle.mk_decision.specs.Decisions.{Work, IsKept, IsBegun, IsRefused}
+use Rattle.mk_trace.specs.Builds.{Build, rules_of, build_after, or_next, IsCommandOf, command_of}
+use Rattle.mk_trace.specs.Items.{looks, keeps, refuses, starts, waits}
 use Rattle.mk_driver.specs.Jobs.{AreApart, HasLine}
-use Rattle.mk_driver.specs.Progress.{Known, HasTasks, AreRunning, IsGoing, IsSeen, IsPoised, IsBehind, IsRunning}
-use Rattle.mk_driver.specs.Runs as run
-use Rattle.mk_driver.specs.Steps.{GoesOn}
+use Rattle.mk_driver.specs.Progress.{AreRunning, IsGoing, IsSeen, IsPoised, IsBehind, IsRunning}
+use Rattle.mk_trace.specs.Growth.{Known, HasTasks}
+use Rattle.mk_trace.specs.Runs as run
+use Rattle.mk_trace.specs.Steps.{GoesOn}
 use Rattle.mk_driver.specs.declared.job.Job.{Job}
-use Rattle.mk_driver.specs.declared.result.Failure.{Failure}
-use Rattle.mk_driver.specs.declared.result.Failure.TheVariants.{Expand}
+use Rattle.mk_trace.specs.declared.result.Failure.{Failure}
+use Rattle.mk_trace.specs.declared.result.Failure.TheVariants.{Expand}
 use Rattle.mk_driver.proofs.NodeLemmas.{fresh-but, fresh-set}
 
 pub same_node : (n : ℕ) → (n == n) ≡ true
@@ -96,66 +96,15 @@ seen-one work known nodes jobs failure n tasks build seen one is = record {
 }
 
 pub go_on-looks : (work : Work) (known : Known) (nodes : List NodeState) (jobs : List Job)
-    (failure : Option Failure) (n : ℕ) (tasks : run.Tasks) (items : List Item) (more : List Seen)
-    → may_decide (rules_of work) nodes ≡ Some n
-    → AreLooks n more items → (build : Build) (seen : List Seen)
+    (failure : Option Failure) (n : ℕ) (tasks : run.Tasks) (one : Seen)
+    → may_decide (rules_of work) nodes ≡ Some n → (build : Build) (seen : List Seen)
     → IsSeen known nodes jobs failure n seen tasks build
-    → GoesOn work tasks build items (IsSeen known nodes jobs failure n (seen ++ more))
-go_on-looks work known nodes jobs failure n tasks [] more may are build seen is = record {
-  makes = tt;
-  stands = rw (are, append-nil seen) is;
+    → GoesOn work tasks build (looks n one.path one.when ∷ [])
+    (IsSeen known nodes jobs failure n (seen ++ one ∷ []))
+go_on-looks work known nodes jobs failure n tasks one may build seen is = record {
+  makes = (tt, is.none_doomed, (is.due_is, rw is.nodes_are may), tt);
+  stands = seen-one work known nodes jobs failure n tasks build seen one is;
 }
-go_on-looks work known nodes jobs failure n tasks (looks node path when ∷ items) more may are build
-    seen is =
-    let one : Seen = record { path = path; when = when } in
-    let now = seen-one work known nodes jobs failure n tasks build seen one is in
-    let here : build_after work tasks build (looks node path when)
-    ≡ build_after work tasks build (looks n path when) =
-    ap (λ k. build_after work tasks build (looks k path when)) are.2 in
-    let rest = go_on-looks work known nodes jobs failure n tasks items are.0 may are.3
-    (build_after work tasks build (looks node path when)) (seen ++ one ∷ [])
-    (subst (IsSeen known nodes jobs failure n (seen ++ one ∷ []) tasks) (sym here) now) in
-    record {
-      makes = (
-        tt,
-        is.none_doomed,
-        (is.due_is, rw (are.2, is.nodes_are) may),
-        rest.makes,
-      );
-      stands = subst (λ l. IsSeen known nodes jobs failure n l tasks
-          (build_after_all work tasks build (looks node path when ∷ items)))
-          (append_assoc seen (one ∷ []) are.0 ∙ ap (λ l. seen ++ l) (sym are.1)) rest.stands;
-    }
-go_on-looks work known nodes jobs failure n tasks (steps ticket owner deed time ∷ items) more may are
-    build seen is =
-    let rest = go_on-looks work known nodes jobs failure n tasks items more may are
-    (build_after work tasks build (steps ticket owner deed time)) seen
-    (record {
-      nodes_are = is.nodes_are;
-      due_is = is.due_is;
-      running = is.running;
-      failed = is.failed;
-      none_doomed = is.none_doomed;
-      now = is.now;
-      fresh = is.fresh;
-    }) in
-    record { makes = (tt, tt, tt, rest.makes); stands = rest.stands }
-go_on-looks work known nodes jobs failure n tasks (keeps node ∷ items) more may are build seen is =
-    absurd are
-go_on-looks work known nodes jobs failure n tasks (refuses node number what ∷ items) more may are
-    build seen is = absurd are
-go_on-looks work known nodes jobs failure n tasks (starts node number ticket owner cmd ∷ items) more
-    may are build seen is = absurd are
-go_on-looks work known nodes jobs failure n tasks (passes node number ∷ items) more may are build
-    seen is = absurd are
-go_on-looks work known nodes jobs failure n tasks (waits ∷ items) more may are build seen is =
-    absurd are
-go_on-looks work known nodes jobs failure n tasks (ends node number owner ended ∷ items) more may
-    are build seen is = absurd are
-go_on-looks work known nodes jobs failure n tasks (removes node path time ∷ items) more may are
-    build seen is = absurd are
-go_on-looks work known nodes jobs failure n tasks (leaves ticket owner ∷ items) more may are build
-    seen is = absurd are
 
 -- the task of one more node is known
 abbrev pub with_task : Known → ℕ → List TaskLine → Known

@@ -7,9 +7,9 @@ use Rattle.mk_sched.specs.Counts.{times}
 use Rattle.mk_sched.specs.Kept.{AreTold}
 use Rattle.mk_sched.specs.Schedule.{Schedule}
 use Rattle.mk_world.specs.declared.command.TaskLine.{TaskLine}
-use Rattle.mk_driver.specs.Runs.{line_of, is_empty}
+use Rattle.mk_trace.specs.Runs.{line_of, is_empty}
 use Rattle.mk_driver.specs.declared.job.Job.{Job}
-use Rattle.mk_driver.specs.declared.result.Failure.{Failure}
+use Rattle.mk_trace.specs.declared.result.Failure.{Failure}
 
 abbrev pub tickets_of : List Job → List ℕ
 tickets_of jobs = map (λ (job : Job). job.ticket) jobs

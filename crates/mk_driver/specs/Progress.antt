@@ -6,61 +6,23 @@ use Rattle.mk_plan.specs.declared.plan.NodeState.TheVariants.{Undecided, Open, S
 use Rattle.mk_plan.specs.declared.plan.PlanNode.{PlanNode}
 use Rattle.mk_sched.specs.Schedule.{none_decided, schedule_of}
 use Rattle.mk_world.specs.Talks.{Meaning}
-use Rattle.mk_world.specs.Told.{Told}
 use Rattle.mk_world.specs.declared.command.TaskLine.{TaskLine}
 use Rattle.mk_world.specs.declared.history.History.{History}
 use Rattle.mk_plan.specs.Asking.{Seen}
-use Rattle.mk_driver.specs.Builds.{Work, Build, Moment, Makes, Prints, first_build, build_after_all, job_of, rules_of, or_next, is_removed, IsKept, IsBegun, IsRefused}
-use Rattle.mk_driver.specs.Items.{Item, reported_all, outputs_of, Happened}
+use Rattle.mk_decision.specs.Decisions.{Work, IsBegun}
+use Rattle.mk_trace.specs.Builds.{Build, Moment, rules_of, or_next, is_removed, moment}
+use Rattle.mk_trace.specs.Ends.{StandsBy, is_cut}
+use Rattle.mk_trace.specs.Growth.{Known, SoFar, Standing}
+use Rattle.mk_driver.specs.Halts.{is_cut_by}
 use Rattle.mk_driver.specs.Jobs.{FitsTogether}
-use Rattle.mk_driver.specs.Makers.{moment}
-use Rattle.mk_driver.specs.Output.{Printed, printed_all, nothing_printed}
-use Rattle.mk_driver.specs.Runs as run
+use Rattle.mk_trace.specs.Runs as run
 use Rattle.mk_driver.specs.declared.course.Course.{Course}
-use Rattle.mk_driver.specs.declared.decision.Decision.{Decision}
-use Rattle.mk_driver.specs.declared.decision.Decision.TheVariants.{Keep, Refuse, Make}
-use Rattle.mk_driver.specs.declared.event.Event.{Event}
+use Rattle.mk_trace.specs.declared.event.Event.{Event}
 use Rattle.mk_driver.specs.declared.job.Job.{Job}
-use Rattle.mk_driver.specs.declared.result.BuildResult.{BuildResult}
-use Rattle.mk_driver.specs.declared.result.BuildResult.TheVariants as ended
-use Rattle.mk_driver.specs.declared.result.Failure.{Failure}
-use Rattle.mk_driver.specs.declared.result.Failure.TheVariants as failing
-use Rattle.mk_driver.specs.declared.result.Halt.{Halt}
-use Rattle.mk_driver.specs.declared.result.Halt.TheVariants as halt
-
--- the command lines of the nodes that are known so far
-abbrev pub Known : Type 0
-Known = ℕ → Option (List TaskLine)
-
-abbrev pub HasTasks : run.Tasks → Known → Type 0
-HasTasks tasks known =
-    (node : ℕ) (lines : List TaskLine) → known node ≡ Some lines → tasks node ≡ lines
-
-abbrev pub printed_by : Work → run.Tasks → List Item → Printed
-printed_by work tasks items =
-    printed_all (job_of work tasks) (outputs_of items) nothing_printed (reported_all items)
-
--- how a build stands, by the tasks
-abbrev pub Standing : Type 1
-Standing = run.Tasks → Build → Type 0
-
--- these items were made by the rules, were printed, and leave the build so
-pub record IsMade (work : Work) (tasks : run.Tasks) (cut : Bool) (first now : Moment)
-    (last : Option ℕ) (items : List Item) (Stands : Standing) : Type 0 where
-  pub makes : Makes work tasks (first_build work) items
-  pub printed : Prints cut first now (printed_by work tasks items).bytes
-  pub ended : (printed_by work tasks items).ended ≡ length (outputs_of items)
-  pub last_is : (printed_by work tasks items).last ≡ last
-  pub stands : Stands tasks (build_after_all work tasks (first_build work) items)
-
--- A build so far: its items, whatever the tasks of the nodes are that are not yet decided.
-pub record SoFar (meaning : Meaning) (work : Work) (cut : Bool) (first now : Moment)
-    (last : Option ℕ) (known : Known) (Stands : Standing) : Type 0 where
-  pub items : List Item
-  pub reported : now.events ≡ reported_all items
-  pub told : Told first.history now.history (Happened meaning items)
-  pub made : (tasks : run.Tasks) → HasTasks tasks known
-      → IsMade work tasks cut first now last items Stands
+use Rattle.mk_trace.specs.declared.result.BuildResult.{BuildResult}
+use Rattle.mk_trace.specs.declared.result.Failure.{Failure}
+use Rattle.mk_trace.specs.declared.result.Failure.TheVariants as failing
+use Rattle.mk_driver.specs.declared.halt.Halt.{Halt}
 
 -- the line of a job was started under its ticket
 pub record IsRunning (known : Known) (started ticket : ℕ → ℕ) (job : Job) : Type 0 where
@@ -155,37 +117,6 @@ IsEnding work known nodes jobs failure n lines number status false true =
 IsEnding work known nodes jobs failure n lines number status false false =
     IsPoised work known nodes jobs failure n lines (number + 1)
 
--- a build that is over: no event may follow, and the first failure is known
-pub record IsOver (work : Work) (failure : Option Failure) (build : Build) : Type 0 where
-  pub over : run.IsOver (rules_of work) build.run
-  pub failed : build.failure ≡ failure
-  pub none_doomed : build.doomed ≡ None
-
--- How a build stands at its end. It is over where the outside did not end it.
-abbrev pub StandsBy : Work → BuildResult → Build → Type 0
-StandsBy work ended.Done build = IsOver work None build
-StandsBy work (ended.JobFailed n number status) build =
-    IsOver work (Some (failing.JobFailed n number status)) build
-StandsBy work (ended.Expand n number what) build =
-    IsOver work (Some (failing.Expand n number what)) build
-StandsBy work ended.World build = Unit {0}
-StandsBy work ended.Sink build = Unit {0}
-StandsBy work ended.NoMemory build = Unit {0}
-
--- only a failed write cuts off what is printed
-abbrev pub is_cut : BuildResult → Bool
-is_cut ended.Sink = true
-is_cut ended.Done = false
-is_cut (ended.JobFailed n number status) = false
-is_cut (ended.Expand n number what) = false
-is_cut ended.World = false
-is_cut ended.NoMemory = false
-
-abbrev pub is_cut_by : Halt → Bool
-is_cut_by halt.World = false
-is_cut_by halt.Sink = true
-is_cut_by halt.NoMemory = false
-
 -- what the driver keeps fits together, with so many nodes that have a token and no child
 abbrev pub Fits : Work → Course → List ℕ → ℕ → ℕ → Type 0
 Fits work course tickets room others =
@@ -258,12 +189,6 @@ pub record IsFirstCourse (plan : List PlanNode) (jobs : ℕ) (keep_going : Bool)
 abbrev pub FromAny : (Moment → Option (List ℕ) → Type 0) → (Moment → Option (List ℕ) → Type 0)
     → Type 0
 FromAny Before Then = (first : Moment) (out : Option (List ℕ)) → Before first out → Then first out
-
--- how a node is decided, and why
-abbrev pub IsDecision : Work → ℕ → List Seen → Decision → Type 0
-IsDecision work node seen Keep = (lines : List TaskLine) × IsKept work node seen lines
-IsDecision work node seen (Refuse number what) = IsRefused work node seen number what
-IsDecision work node seen (Make task) = IsBegun work node seen task.lines × (0 < length task.lines)
 
 -- how many nodes are not decided
 abbrev pub undecided : List NodeState → ℕ

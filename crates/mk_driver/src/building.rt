@@ -1,26 +1,26 @@
 //! A whole build.
 ghost use Rattle.std.specs.Prelude.{◌≡◌, ◌<◌, ◌≤◌, ◌^◌, [], length, nat_lt, false, true, IfErr, IfOk, OnOk};
-ghost use Rattle.mk_driver.specs.Builds.{IsBuild, Moment, jobs_of};
-ghost use Rattle.mk_driver.specs.Ends.{EndsBy, result_of};
-ghost use Rattle.mk_driver.specs.Makers.{work_of, work_on, moment};
-ghost use Rattle.mk_driver.specs.Progress.{EndedAt, Fits, GoingAt, HaltedAt, IsFirstCourse, StandsBy, is_cut, undecided};
-ghost use Rattle.mk_driver.specs.declared.result.BuildResult.TheVariants as ended;
-ghost use Rattle.mk_driver.specs.declared.result.Halt.TheVariants as halts;
+ghost use Rattle.mk_trace.specs.Builds.{IsBuild, Moment, jobs_of, moment};
+ghost use Rattle.mk_trace.specs.Ends.{EndsBy, result_of, StandsBy, is_cut};
+ghost use Rattle.mk_decision.specs.Makers.{work_of, work_on};
+ghost use Rattle.mk_driver.specs.Progress.{EndedAt, Fits, GoingAt, HaltedAt, IsFirstCourse, undecided};
+ghost use Rattle.mk_trace.specs.declared.result.BuildResult.TheVariants as ended;
+ghost use Rattle.mk_driver.specs.declared.halt.Halt.TheVariants as halts;
 ghost use Rattle.mk_sched.specs.Next.{next_of};
 ghost use Rattle.mk_sched.specs.declared.sched.Next.TheVariants as next;
 ghost use Rattle.mk_world.specs.Causes.{HasCause};
 
 use crate::course::Course;
 use crate::ending::take_in;
-use crate::event::Events;
-use crate::maker::Maker;
+use crate::halt::Halt;
 use crate::node::decide;
-use crate::result::{BuildEnd, BuildResult, Failure, Halt};
 use mk_bytes::NoMemory;
+use mk_decision::Maker;
 use mk_flags::Flags;
 use mk_graph::Made;
 use mk_plan::Plan;
 use mk_sched::{Next, Sched};
+use mk_trace::{BuildEnd, BuildResult, Events, Failure};
 use mk_world::{Kids, Sink, World};
 use std::alloc::Global;
 

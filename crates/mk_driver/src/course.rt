@@ -1,7 +1,6 @@
-use crate::event::Events;
 use crate::job::Job;
-use crate::result::Failure;
 use mk_sched::Sched;
+use mk_trace::{Events, Failure};
 
 /// How far a build has come.
 #[derive(Drop)]

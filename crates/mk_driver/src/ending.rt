@@ -1,12 +1,12 @@
 //! The ends of lines.
 ghost use Rattle.std.specs.Prelude.{◌≡◌, ◌<◌, ◌≤◌, ◌+◌, ◌-◌, ◌&&◌, ◌||◌, ℕ, nat_le, nat_lt, not, length, Option, List, Some, None, OnOk, IfOk, IfErr, true};
-ghost use Rattle.mk_driver.specs.Builds.{Moment, is_removed, jobs_of};
-ghost use Rattle.mk_driver.specs.Ends.{of_world};
+ghost use Rattle.mk_trace.specs.Builds.{Moment, is_removed, jobs_of};
+ghost use Rattle.mk_driver.specs.Halts.{of_world};
 ghost use Rattle.mk_driver.specs.Jobs.{HasLine, HasToken, is_there, lines_left};
-ghost use Rattle.mk_driver.specs.Makers.{work_of};
+ghost use Rattle.mk_decision.specs.Makers.{work_of};
 ghost use Rattle.mk_driver.specs.Progress.{EndingAt, Fits, FromAny, GoingAt, HaltedAt, undecided};
-ghost use Rattle.mk_driver.specs.Runs as run;
-ghost use Rattle.mk_driver.specs.declared.result.Halt.TheVariants as halts;
+ghost use Rattle.mk_trace.specs.Runs as run;
+ghost use Rattle.mk_driver.specs.declared.halt.Halt.TheVariants as halts;
 ghost use Rattle.mk_plan.specs.Deciding.{is_stopped};
 ghost use Rattle.mk_sched.specs.Next.{next_of};
 ghost use Rattle.mk_sched.specs.declared.sched.Next.TheVariants.{Wait as waits};
@@ -16,12 +16,12 @@ ghost use Rattle.mk_world.specs.declared.command.TaskLine.{TaskLine as Line};
 
 use crate::child::{print_end, wait_child};
 use crate::course::Course;
-use crate::event::Event;
+use crate::halt::{Halt, note_failure};
 use crate::job::{Job, line_at, line_fails, take_job};
 use crate::line::run_on;
-use crate::maker::Maker;
-use crate::result::{Failure, Halt, note_failure};
+use mk_decision::Maker;
 use mk_graph::Attr;
+use mk_trace::{Event, Failure};
 use mk_world::{Kids, Sink, Task, World, WorldFault};
 
 // Whether there was a failure, and the build stops at the first one.

@@ -1,22 +1,22 @@
 //! The lines of a job: empty ones are passed over, and for others children are started.
 ghost use Rattle.std.specs.Prelude.{◌≡◌, ◌<◌, ◌≤◌, ◌+◌, ◌-◌, ◌^◌, ℕ, [], ◌∷◌, ◌++◌, Some, true, false, length, OnOk, OnErr, IfOk, IfErr};
-ghost use Rattle.mk_driver.specs.Ends.{of_world};
+ghost use Rattle.mk_driver.specs.Halts.{of_world};
 ghost use Rattle.mk_driver.specs.Jobs.{HasLine, HasToken, lines_left};
-ghost use Rattle.mk_driver.specs.Makers.{work_of};
+ghost use Rattle.mk_decision.specs.Makers.{work_of};
 ghost use Rattle.mk_driver.specs.Progress.{BehindAt, Fits, FromAny, GoingAt, HaltedAt, IsUnstopped, undecided};
-ghost use Rattle.mk_driver.specs.Runs.{is_empty, line_of};
+ghost use Rattle.mk_trace.specs.Runs.{is_empty, line_of};
 ghost use Rattle.mk_driver.specs.Scenes.{Scene, IsOpenScene, BehindIn, HaltedIn};
-ghost use Rattle.mk_driver.specs.declared.event.Event.TheVariants as event;
+ghost use Rattle.mk_trace.specs.declared.event.Event.TheVariants as event;
 ghost use Rattle.mk_world.specs.Causes.{HasCause};
 ghost use Rattle.mk_world.specs.declared.fault.WorldFault.TheVariants.{Failed as world_failed};
 ghost use Rattle.mk_world.specs.declared.command.TaskLine.{TaskLine as Line};
 
 use crate::child::{Place, command, start_child};
 use crate::course::Course;
-use crate::event::{Event, Events};
 use crate::job::{Job, add_job, line_at, next_ticket};
-use crate::maker::Maker;
 use mk_bytes::NoMemory;
+use mk_decision::Maker;
+use mk_trace::{Event, Events};
 use mk_world::{Kids, Task, TaskLine, World, WorldFault};
 
 // An empty line begins and ends without a child.

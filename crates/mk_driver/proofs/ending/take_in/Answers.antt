@@ -1,11 +1,13 @@
 use Rattle.std.proofs.Common.{◌∙◌, true, false, arith}
 use Rattle.std.proofs.lemmas.Result.{err_from_is_err_and}
 use Rattle.mk_sched.proofs.DecideLemmas.{open_within}
-use Rattle.mk_driver.specs.Makers.{work_of, moment}
-use Rattle.mk_driver.specs.declared.event.Event.TheVariants as event
+use Rattle.mk_decision.specs.Makers.{work_of}
+use Rattle.mk_trace.specs.Builds.{moment}
+use Rattle.mk_trace.specs.declared.event.Event.TheVariants as event
 use Rattle.mk_driver.proofs.EndingLemmas.{halted-waiting, so_far-taken, wait-facts, within-plan}
 use Rattle.mk_driver.proofs.EventLemmas.{set-last}
-use Rattle.mk_driver.proofs.LineLemmas.{found, so_far-weaken}
+use Rattle.mk_driver.proofs.LineLemmas.{found}
+use Rattle.mk_trace.proofs.MakeLemmas.{so_far-weaken}
 use Rattle.mk_driver.proofs.JobLemmas.{fits-taken, left-taken, some-taken}
 use Rattle.mk_driver.proofs.ending.take_in.Goals as goal
 

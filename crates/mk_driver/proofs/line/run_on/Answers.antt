@@ -1,11 +1,11 @@
 use Rattle.std.proofs.Common.{◌≡◌, ◌+◌, ◌-◌, ◌≤◌, ℕ, length, sym, subst, arith}
 use Rattle.std.proofs.lemmas.Grind.{common_steps}
 use Rattle.std.proofs.lemmas.Result.{err_from_is_err_and}
-use Rattle.mk_driver.specs.Makers.{work_of}
+use Rattle.mk_decision.specs.Makers.{work_of}
 use Rattle.mk_driver.specs.Progress.{BehindAt}
 use Rattle.mk_driver.proofs.EndingLemmas.{going-behind}
 use Rattle.mk_driver.proofs.JobLemmas.{fits-settled}
-use Rattle.mk_driver.proofs.PieceLemmas.{on_ok, if_err}
+use Rattle.mk_decision.proofs.PieceLemmas.{on_ok, if_err}
 use Rattle.mk_driver.proofs.line.run_on.Goals as goal
 
 back : (n : ℕ) → n + 1 - 1 ≡ n

@@ -1,12 +1,13 @@
 use Rattle.std.proofs.Common.{◌≡◌, ◌∷◌, ◌++◌, [], refl, arith}
 use Rattle.std.proofs.lemmas.Result.{err_from_is_err_and}
-use Rattle.mk_driver.specs.Builds.{command_of}
-use Rattle.mk_driver.specs.Ends.{of_world}
-use Rattle.mk_driver.specs.Makers.{work_of, moment}
+use Rattle.mk_trace.specs.Builds.{command_of, moment}
+use Rattle.mk_driver.specs.Halts.{of_world}
+use Rattle.mk_decision.specs.Makers.{work_of}
 use Rattle.mk_driver.specs.declared.job.Job.{Job}
 use Rattle.mk_driver.proofs.EndingLemmas.{going-started}
 use Rattle.mk_driver.proofs.JobLemmas.{fits-started, left-add}
-use Rattle.mk_driver.proofs.LineLemmas.{found, halted, so_far-nothing}
+use Rattle.mk_driver.proofs.LineLemmas.{found, halted}
+use Rattle.mk_trace.proofs.MakeLemmas.{so_far-nothing}
 use Rattle.mk_driver.proofs.line.start_line.Goals as goal
 
 pub next_ticket-ticket-requires : goal.next_ticket-ticket-requires
