@@ -107,10 +107,12 @@ going-first meaning work course jobs keep_going history out is = (
       stands = record {
         nodes_are = map-undecided work.plan ∙ ap (λ (s : Schedule). s.nodes) (sym is.sched);
         due_is = refl;
-        running = rw is.jobs_are tt;
-        failed = sym is.failure;
-        none_doomed = refl;
-        fresh = λ node undecided. refl;
+        stands = record {
+          running = rw is.jobs_are tt;
+          failed = sym is.failure;
+          doomed_is = refl;
+          fresh = λ node none undecided. refl;
+        };
       };
     };
   },
@@ -126,8 +128,8 @@ over-of work failure build tasks known nodes jobs none none_open is = record {
     none_open = rw is.nodes_are none_open;
     none_ready = rw is.nodes_are none;
   };
-  failed = is.failed;
-  none_doomed = is.none_doomed;
+  failed = is.stands.failed;
+  none_doomed = is.stands.doomed_is;
 }
 
 stands-result : (work : Work) (failure : Option Failure) (build : Build)

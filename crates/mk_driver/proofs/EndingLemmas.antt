@@ -31,7 +31,7 @@ use Rattle.mk_driver.specs.declared.job.Job.{Job}
 use Rattle.mk_trace.specs.declared.result.Failure.{Failure}
 use Rattle.mk_trace.specs.declared.result.Failure.TheVariants.{JobFailed}
 use Rattle.mk_driver.specs.declared.halt.Halt.{Halt}
-use Rattle.mk_driver.proofs.EndLemmas.{go_on-removes, going-failed}
+use Rattle.mk_driver.proofs.EndLemmas.{go_on-removes}
 use Rattle.mk_driver.proofs.LineLemmas.{halted, so_far-ends, so_far-starts, so_far-waits}
 use Rattle.mk_trace.proofs.MakeLemmas.{so_far-nothing, so_far-weaken, silent, so_far-called}
 use Rattle.mk_driver.proofs.NodeLemmas.{length-predecessors, next-waits, unknown-set}
@@ -128,18 +128,6 @@ so_far-removes meaning work known nodes jobs failure n last first now next so ca
     append-none [] = refl
     append-none (one ∷ events) = ap (λ l. one ∷ l) (append-none events)
 
--- or it is not to be removed
-pub so_far-failed : (meaning : Meaning) (work : Work) (known : Known) (nodes : List NodeState)
-    (jobs : List Job) (failure : Option Failure) (last : Option ℕ) (first now : Moment)
-    → SoFar meaning work false first now last known (IsFailing known nodes jobs failure None)
-    → SoFar meaning work false first now last known
-    (IsGoing known nodes run.anything jobs failure)
-so_far-failed meaning work known nodes jobs failure last first now so =
-    so_far-weaken meaning work false first now last known known
-    (IsFailing known nodes jobs failure None) (IsGoing known nodes run.anything jobs failure) so
-    (λ tasks has. has)
-    (λ tasks build has is. going-failed known nodes jobs failure tasks build is)
-
 -- a build whose job has failed
 abbrev pub FailingAt : Meaning → Work → Option History → Course → Job → ℕ → Moment
     → Option (List ℕ) → Type 0
@@ -215,9 +203,7 @@ going-failed_at meaning work history course schedule failure job status first ou
     rw (schedule_is, failure_is) (
       f.0,
       unknown-set f.0 course.sched.nodes job.node Failed within (λ is. cc) f.1,
-      so_far-failed meaning work f.0 (set course.sched.nodes job.node Failed) course.jobs.items
-          (or_next course.failure (Some (JobFailed job.node job.number status)))
-          course.last_shown first (moment history out course.events) (rw doomed at f.2),
+      rw doomed at f.2,
     )
 
 -- the removal was refused

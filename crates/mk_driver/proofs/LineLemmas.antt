@@ -208,7 +208,7 @@ so_far-ends meaning work cut known nodes front back failure job one ended last f
     (λ tasks build has is. rw call.is_own.1
     (prints-end work tasks cut now next last job.node job.number call.is_own.0 job.task.lines one ended
     (has job.node job.task.lines
-    (running-take known build.run.started build.ticket front back job is.running).0.task) has_line
+    (running-take known build.run.started build.own front back job is.stands.running).0.task) has_line
     (grows tasks)))
 
 -- or it could not be told

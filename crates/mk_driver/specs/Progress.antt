@@ -10,7 +10,7 @@ use Rattle.mk_world.specs.declared.command.TaskLine.{TaskLine}
 use Rattle.mk_world.specs.declared.history.History.{History}
 use Rattle.mk_plan.specs.Asking.{Seen}
 use Rattle.mk_decision.specs.Decisions.{Work, IsBegun}
-use Rattle.mk_trace.specs.Builds.{Build, Moment, rules_of, or_next, is_removed, moment}
+use Rattle.mk_trace.specs.Builds.{Build, Moment, Own, rules_of, or_next, is_removed, moment}
 use Rattle.mk_trace.specs.Ends.{StandsBy, is_cut}
 use Rattle.mk_trace.specs.Growth.{Known, SoFar, Standing}
 use Rattle.mk_driver.specs.Halts.{is_cut_by}
@@ -25,38 +25,51 @@ use Rattle.mk_trace.specs.declared.result.Failure.TheVariants as failing
 use Rattle.mk_driver.specs.declared.halt.Halt.{Halt}
 
 -- the line of a job was started under its ticket
-pub record IsRunning (known : Known) (started ticket : ℕ → ℕ) (job : Job) : Type 0 where
+pub record IsRunning (known : Known) (started : ℕ → ℕ) (own : ℕ → Own) (job : Job) : Type 0 where
   pub number_is : started job.node ≡ job.number
-  pub ticket_is : ticket job.node ≡ job.ticket
+  pub ticket_is : (own job.node).ticket ≡ job.ticket
   pub task : known job.node ≡ Some job.task.lines
 
-abbrev pub AreRunning : Known → (ℕ → ℕ) → (ℕ → ℕ) → List Job → Type 0
-AreRunning known started ticket [] = Unit {0}
-AreRunning known started ticket (job ∷ jobs) =
-    IsRunning known started ticket job × AreRunning known started ticket jobs
+abbrev pub AreRunning : Known → (ℕ → ℕ) → (ℕ → Own) → List Job → Type 0
+AreRunning known started own [] = Unit {0}
+AreRunning known started own (job ∷ jobs) =
+    IsRunning known started own job × AreRunning known started own jobs
 
 -- nothing was seen of undecided nodes, but perhaps of one
-abbrev pub AreFreshBut : ℕ → List NodeState → (ℕ → List Seen) → Type 0
+abbrev pub AreFreshBut : Option ℕ → List NodeState → (ℕ → List Seen) → Type 0
 AreFreshBut but nodes seen =
-    (node : ℕ) → node ≢ but → get_or nodes node Failed ≡ Undecided → seen node ≡ []
-
-abbrev pub AreFresh : List NodeState → (ℕ → List Seen) → Type 0
-AreFresh nodes seen = (node : ℕ) → get_or nodes node Failed ≡ Undecided → seen node ≡ []
+    (node : ℕ) → but ≢ Some node → get_or nodes node Failed ≡ Undecided → seen node ≡ []
 
 -- the tasks of undecided nodes are not known
 abbrev pub AreUnknown : Known → List NodeState → Type 0
 AreUnknown known nodes = (node : ℕ) → get_or nodes node Failed ≡ Undecided → known node ≡ None
 
--- how a build stands between two events: the nodes, what has to follow, the jobs, and the first failure
-pub record IsGoing (known : Known) (nodes : List NodeState) (due : run.Due) (jobs : List Job)
-    (failure : Option Failure) (tasks : run.Tasks) (build : Build) : Type 0
+-- What holds between two calls, whatever has to follow: the children of these jobs run, this is the
+-- first failure, and of this node the target is to be removed next. Nothing was seen of undecided nodes,
+-- but perhaps of one.
+pub record Stands (known : Known) (nodes : List NodeState) (jobs : List Job)
+    (failure : Option Failure) (doomed but : Option ℕ) (build : Build) : Type 0
+  where
+    pub running : AreRunning known build.run.started build.own jobs
+    pub failed : build.failure ≡ failure
+    pub doomed_is : build.doomed ≡ doomed
+    pub fresh : AreFreshBut but nodes build.seen
+
+-- a build with these nodes, where this has to follow
+pub record IsAt (known : Known) (nodes : List NodeState) (due : run.Due) (jobs : List Job)
+    (failure : Option Failure) (doomed : Option ℕ) (tasks : run.Tasks) (build : Build) : Type 0
   where
     pub nodes_are : build.run.nodes ≡ nodes
     pub due_is : build.run.due ≡ due
-    pub running : AreRunning known build.run.started build.ticket jobs
-    pub failed : build.failure ≡ failure
-    pub none_doomed : build.doomed ≡ None
-    pub fresh : AreFresh nodes build.seen
+    pub stands : Stands known nodes jobs failure doomed None build
+
+-- no target is to be removed
+abbrev pub IsGoing : Known → List NodeState → run.Due → List Job → Option Failure → Standing
+IsGoing known nodes due jobs failure = IsAt known nodes due jobs failure None
+
+-- The line of a job has failed: the node has failed, and its target is to be removed or not.
+abbrev pub IsFailing : Known → List NodeState → List Job → Option Failure → Option ℕ → Standing
+IsFailing known nodes jobs failure doomed = IsAt known nodes run.anything jobs failure doomed
 
 -- this was seen of a node that may be decided
 pub record IsSeen (known : Known) (nodes : List NodeState) (jobs : List Job)
@@ -65,11 +78,8 @@ pub record IsSeen (known : Known) (nodes : List NodeState) (jobs : List Job)
   where
     pub nodes_are : build.run.nodes ≡ nodes
     pub due_is : build.run.due ≡ run.anything
-    pub running : AreRunning known build.run.started build.ticket jobs
-    pub failed : build.failure ≡ failure
-    pub none_doomed : build.doomed ≡ None
+    pub stands : Stands known nodes jobs failure None (Some n) build
     pub now : build.seen n ≡ seen
-    pub fresh : AreFreshBut n nodes build.seen
 
 -- A line of a node is the next to be started; the node has its token already.
 pub record IsPoised (work : Work) (known : Known) (nodes : List NodeState) (jobs : List Job)
@@ -79,11 +89,8 @@ pub record IsPoised (work : Work) (known : Known) (nodes : List NodeState) (jobs
     pub nodes_are : set build.run.nodes n Open ≡ nodes
     pub may : run.MayStart (rules_of work) tasks build.run n number build.run.due
     pub reason : number ≡ 1 → IsBegun work n (build.seen n) lines
-    pub running : AreRunning known build.run.started build.ticket jobs
-    pub failed : build.failure ≡ failure
-    pub none_doomed : build.doomed ≡ None
     pub task : known n ≡ Some lines
-    pub fresh : AreFresh nodes build.seen
+    pub stands : Stands known nodes jobs failure None None build
 
 -- behind so many lines of a node: the next one is poised, or the node is settled
 abbrev pub IsBehind : Work → Known → List NodeState → List Job → Option Failure → ℕ
@@ -93,17 +100,6 @@ IsBehind work known nodes jobs failure n lines done tasks build =
     → IsPoised work known nodes jobs failure n lines (done + 1) tasks build)
     × (length lines ≤ done
     → IsGoing known (set nodes n Settled) run.anything jobs failure tasks build)
-
--- The line of a job has failed: the node has failed, and its target is to be removed or not.
-pub record IsFailing (known : Known) (nodes : List NodeState) (jobs : List Job)
-    (failure : Option Failure) (doomed : Option ℕ) (tasks : run.Tasks) (build : Build) : Type 0
-  where
-    pub nodes_are : build.run.nodes ≡ nodes
-    pub due_is : build.run.due ≡ run.anything
-    pub running : AreRunning known build.run.started build.ticket jobs
-    pub failed : build.failure ≡ failure
-    pub doomed_is : build.doomed ≡ doomed
-    pub fresh : AreFresh nodes build.seen
 
 -- the end of a line: it fails, or else the job ends with it, or else the next line is poised
 abbrev pub IsEnding : Work → Known → List NodeState → List Job → Option Failure → ℕ

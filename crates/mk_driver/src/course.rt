@@ -1,4 +1,9 @@
+ghost use Rattle.std.specs.Prelude.{◌≡◌, nat_lt};
+ghost use Rattle.mk_decision.specs.Makers.{work_of};
+ghost use Rattle.mk_trace.specs.Builds.{jobs_of};
+
 use crate::job::Job;
+use mk_decision::Maker;
 use mk_sched::Sched;
 use mk_trace::{Events, Failure};
 
@@ -15,4 +20,22 @@ pub struct Course<'p> {
     pub last_shown: Option<u32>,
     /// The first failure.
     pub failure: Option<Failure>,
+}
+
+/// How many jobs may be open at once.
+pub fn jobs_in(maker: &Maker) -> u32
+    ensures { result ≡ jobs_of (work_of maker.now) }
+{
+    if maker.made.mode.one_job {
+        1
+    } else {
+        maker.flags.jobs
+    }
+}
+
+/// Whether more jobs than one may be open at once.
+pub fn are_many(maker: &Maker) -> bool
+    ensures { result ≡ nat_lt 1 (jobs_of (work_of maker.now)) }
+{
+    jobs_in(maker) > 1
 }

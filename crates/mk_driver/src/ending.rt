@@ -1,6 +1,6 @@
 //! The ends of lines.
-ghost use Rattle.std.specs.Prelude.{◌≡◌, ◌<◌, ◌≤◌, ◌+◌, ◌-◌, ◌&&◌, ◌||◌, ℕ, nat_le, nat_lt, not, length, Option, List, Some, None, OnOk, IfOk, IfErr, true};
-ghost use Rattle.mk_trace.specs.Builds.{Moment, is_removed, jobs_of};
+ghost use Rattle.std.specs.Prelude.{◌≡◌, ◌<◌, ◌≤◌, ◌+◌, ◌-◌, ◌&&◌, ◌||◌, ℕ, nat_le, not, length, Option, List, Some, None, OnOk, IfOk, IfErr, true};
+ghost use Rattle.mk_trace.specs.Builds.{Moment, is_removed};
 ghost use Rattle.mk_driver.specs.Halts.{of_world};
 ghost use Rattle.mk_driver.specs.Jobs.{HasLine, HasToken, is_there, lines_left};
 ghost use Rattle.mk_decision.specs.Makers.{work_of};
@@ -15,7 +15,7 @@ ghost use Rattle.mk_world.specs.declared.fault.WorldFault.TheVariants.{Failed as
 ghost use Rattle.mk_world.specs.declared.command.TaskLine.{TaskLine as Line};
 
 use crate::child::{print_end, wait_child};
-use crate::course::Course;
+use crate::course::{Course, are_many};
 use crate::halt::{Halt, note_failure};
 use crate::job::{Job, line_at, line_fails, take_job};
 use crate::line::run_on;
@@ -133,12 +133,10 @@ pub fn take_in<W: World, S: Sink>(
     out: &mut S,
     kids: &mut Kids<W::Kid>,
     course: &mut Course,
-    many: bool,
 ) -> Result<(), Halt>
     requires exact { W.runs world.old kids.old.tickets }
     requires fits { Fits (work_of maker.now) course.old kids.old.tickets kids.old.room 0 }
     requires wait { next_of course.old.sched ≡ waits }
-    requires many { many ≡ nat_lt 1 (jobs_of (work_of maker.now)) }
     ensures goes { OnOk result ((first : Moment)
         → GoingAt W.meaning (work_of maker.now) (W.history world.old) course.old first (S.held out.old)
         → GoingAt W.meaning (work_of maker.now) (W.history world.new) course.new first
@@ -163,7 +161,7 @@ pub fn take_in<W: World, S: Sink>(
     print_end(
         out,
         maker.plan,
-        many,
+        are_many(maker),
         &mut course.last_shown,
         job.node,
         line_at(&job.task, job.number),

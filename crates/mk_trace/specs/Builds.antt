@@ -32,12 +32,16 @@ rules_of work = record {
   keep_going = work.flags.keep_going;
 }
 
--- How a build stands: its run, what was seen to decide each node, the ticket of each node's child, the
+-- what the open job of a node has: the ticket of its child
+pub record Own : Type 0 where
+  pub ticket : ℕ
+
+-- How a build stands: its run, what was seen to decide each node, what each node's open job has, the
 -- first failure, and the failed node whose target is to be removed next.
 pub record Build : Type 0 where
   pub run : run.State
   pub seen : ℕ → List Seen
-  pub ticket : ℕ → ℕ
+  pub own : ℕ → Own
   pub failure : Option Failure
   pub doomed : Option ℕ
 
@@ -45,7 +49,7 @@ abbrev pub first_build : Work → Build
 first_build work = record {
   run = run.first_state (rules_of work);
   seen = λ node. [];
-  ticket = λ node. 0;
+  own = λ node. record { ticket = 0 };
   failure = None;
   doomed = None;
 }
@@ -69,18 +73,18 @@ seen_after seen (ends node number owner ended) = seen
 seen_after seen (removes node path time) = seen
 seen_after seen (leaves ticket owner) = seen
 
-abbrev pub ticket_after : (ℕ → ℕ) → Item → ℕ → ℕ
-ticket_after tickets (looks node path when) = tickets
-ticket_after tickets (keeps node) = tickets
-ticket_after tickets (refuses node number what) = tickets
-ticket_after tickets (starts node number ticket owner cmd) =
-    λ one. if one == node then ticket else tickets one
-ticket_after tickets (passes node number) = tickets
-ticket_after tickets waits = tickets
-ticket_after tickets (steps ticket owner deed time) = tickets
-ticket_after tickets (ends node number owner ended) = tickets
-ticket_after tickets (removes node path time) = tickets
-ticket_after tickets (leaves ticket owner) = tickets
+abbrev pub own_after : (ℕ → Own) → Item → ℕ → Own
+own_after own (looks node path when) = own
+own_after own (keeps node) = own
+own_after own (refuses node number what) = own
+own_after own (starts node number ticket owner cmd) =
+    λ one. if one == node then record { ticket = ticket } else own one
+own_after own (passes node number) = own
+own_after own waits = own
+own_after own (steps ticket owner deed time) = own
+own_after own (ends node number owner ended) = own
+own_after own (removes node path time) = own
+own_after own (leaves ticket owner) = own
 
 -- the first of two, where it is there
 abbrev pub or_next : Option Failure → Option Failure → Option Failure
@@ -121,7 +125,7 @@ abbrev pub build_after : Work → run.Tasks → Build → Item → Build
 build_after work tasks build item = record {
   run = run.after_all (rules_of work) tasks build.run (reported item);
   seen = seen_after build.seen item;
-  ticket = ticket_after build.ticket item;
+  own = own_after build.own item;
   failure = failure_after tasks build.failure item;
   doomed = doomed_after work tasks build.doomed item;
 }
@@ -156,7 +160,8 @@ MayMake work tasks build (starts node number ticket owner cmd) =
 MayMake work tasks build (passes node number) = HasReason work tasks build node number
 MayMake work tasks build waits = Unit {0}
 MayMake work tasks build (steps ticket owner deed time) = Unit {0}
-MayMake work tasks build (ends node number owner ended) = build.ticket node ≡ ended.ticket.0
+MayMake work tasks build (ends node number owner ended) =
+    (build.own node).ticket ≡ ended.ticket.0
 MayMake work tasks build (removes node path time) = path ≡ (node_at work.plan node).name
 MayMake work tasks build (leaves ticket owner) = Unit {0}
 

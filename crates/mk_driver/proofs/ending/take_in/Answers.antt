@@ -86,7 +86,7 @@ returns-in_err-print_end-clause-halted g c =
           (moment (g.W.World.history c.wait_child.new.world) (g.S.Sink.held c.print_end.new.out)
           c.set_last.new.self) at.2 facts.0 facts.1 c.take_job-job.ensures out.token.open_now has
           (c.in_ok-ended.ensures.done job.node job.number) told
-          (rw (← c.requires.many, ← c.bytes.ensures.value) c.in_err-print_end.ensures.cut))
+          (rw (← c.are_many.ensures, ← c.bytes.ensures.value) c.in_err-print_end.ensures.cut))
           (λ tasks has_tasks. has_tasks) (λ tasks build has_tasks is. tt),
     ))
 
@@ -115,7 +115,7 @@ returns-in_err-end_line-clause-halted g c =
           (moment (g.W.World.history c.wait_child.new.world) (g.S.Sink.held c.print_end.new.out)
           c.set_last.new.self) at.2 facts.0 facts.1 c.take_job-job.ensures out.token.open_now has
           (c.in_ok-ended.ensures.done job.node job.number) told
-          (rw (← c.requires.many, ← c.bytes.ensures.value) c.in_ok-print_end.ensures.done)),
+          (rw (← c.are_many.ensures, ← c.bytes.ensures.value) c.in_ok-print_end.ensures.done)),
     ))
 
 pub returns-clause-goes : goal.returns-clause-goes
@@ -141,7 +141,7 @@ returns-clause-goes g c =
           (moment (g.W.World.history c.wait_child.new.world) (g.S.Sink.held c.print_end.new.out)
           c.set_last.new.self) at.2 facts.0 facts.1 c.take_job-job.ensures out.token.open_now has
           (c.in_ok-ended.ensures.done job.node job.number) told
-          (rw (← c.requires.many, ← c.bytes.ensures.value) c.in_ok-print_end.ensures.done)),
+          (rw (← c.are_many.ensures, ← c.bytes.ensures.value) c.in_ok-print_end.ensures.done)),
     )
 
 pub returns-clause-left : goal.returns-clause-left
