@@ -21,7 +21,7 @@ use Rattle.mk_trace.specs.Calls.{Called, EndItem, GoneItem, NoItem, StartItem}
 use Rattle.mk_trace.specs.Items.{removes}
 use Rattle.mk_driver.specs.Jobs.{FitsTogether, HasLine, HasToken, IsJobTaken}
 use Rattle.mk_trace.specs.Output.{echo, last_behind, shown}
-use Rattle.mk_driver.specs.Progress.{AreUnknown, BehindAt, EndingAt, HaltedAt, IsEnding, IsFailing, IsGoing}
+use Rattle.mk_driver.specs.Progress.{AreUnknown, BehindAt, BehindOn, EndingAt, HaltedAt, IsEnding, IsFailing, IsGoing}
 use Rattle.mk_trace.specs.Growth.{Known, SoFar}
 use Rattle.mk_trace.specs.Runs as run
 use Rattle.mk_driver.specs.declared.course.Course.{Course}
@@ -259,7 +259,7 @@ pub behind-ended : (meaning : Meaning) (work : Work) (history : Option History)
     → (nat_le (length job.task.lines) job.number || is_stopped (rules_of work) course.sched.nodes) ≡ false
     → job.number < length job.task.lines
     → EndingAt meaning work history course job status first out
-    → BehindAt meaning work history course course.events job.node job.task.lines job.number first out
+    → BehindAt meaning work history course course.events job first out
 behind-ended meaning work history course job status first out fails stops more at =
     let so : SoFar meaning work false first (moment history out course.events) course.last_shown at.0
     (IsEnding work at.0 course.sched.nodes course.jobs.items course.failure job.node job.task.lines
@@ -280,7 +280,7 @@ pub going-behind : (meaning : Meaning) (work : Work) (history : Option History)
     (done : ℕ) (first : Moment) (out : Option (List ℕ))
     → get_or course.sched.nodes n Undecided ≡ Open → length lines ≤ done
     → schedule ≡ with_node course.sched n Settled
-    → BehindAt meaning work history course events n lines done first out
+    → BehindOn meaning work history course events n lines done first out
     → GoingAs meaning work history course schedule events course.failure first out
 going-behind meaning work history course schedule events n lines done first out token none schedule_is
     at =
@@ -301,7 +301,7 @@ pub going-started : (meaning : Meaning) (work : Work) (history later : Option Hi
     → Called meaning history later (StartItem job.node job.number job.ticket 0 cmd)
     → events ≡ course.events ++ event.Start job.node job.number ∷ []
     → jobs ≡ course.jobs.items ++ job ∷ []
-    → BehindAt meaning work history course course.events job.node job.task.lines (job.number - 1) first
+    → BehindOn meaning work history course course.events job.node job.task.lines (job.number - 1) first
     out
     → (known : Known) × AreUnknown known course.sched.nodes
     × SoFar meaning work false first (moment later out events) course.last_shown known

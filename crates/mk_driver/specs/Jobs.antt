@@ -14,6 +14,10 @@ use Rattle.mk_trace.specs.declared.result.Failure.{Failure}
 abbrev pub tickets_of : List Job → List ℕ
 tickets_of jobs = map (λ (job : Job). job.ticket) jobs
 
+-- a job whose child runs under this ticket
+abbrev pub with_ticket : Job → ℕ → Job
+with_ticket job ticket = record job { ticket = ticket }
+
 -- the line with a child at this number of a task
 pub record HasLine (lines : List TaskLine) (number : ℕ) (one : TaskLine) : Type 0 where
   pub line : line_of lines number ≡ Some one

@@ -138,13 +138,19 @@ SeenAt meaning work history course n seen first out =
     × SoFar meaning work false first (moment history out course.events) course.last_shown known
     (IsSeen known course.sched.nodes course.jobs.items course.failure n seen)
 
--- so many lines of a job have ended, and it has no child; the report has these events
-abbrev pub BehindAt : Meaning → Work → Option History → Course → List Event → ℕ → List TaskLine → ℕ
+-- so many lines of a node have ended, and it has no child; the report has these events
+abbrev pub BehindOn : Meaning → Work → Option History → Course → List Event → ℕ → List TaskLine → ℕ
     → Moment → Option (List ℕ) → Type 0
-BehindAt meaning work history course events n lines done first out =
+BehindOn meaning work history course events n lines done first out =
     (known : Known) × AreUnknown known course.sched.nodes
     × SoFar meaning work false first (moment history out events) course.last_shown known
     (IsBehind work known course.sched.nodes course.jobs.items course.failure n lines done)
+
+-- the lines of a job have ended up to the one with its number, and it has no child
+abbrev pub BehindAt : Meaning → Work → Option History → Course → List Event → Job → Moment
+    → Option (List ℕ) → Type 0
+BehindAt meaning work history course events job =
+    BehindOn meaning work history course events job.node job.task.lines job.number
 
 -- the line of a job that was taken out has ended
 abbrev pub EndingAt : Meaning → Work → Option History → Course → Job → ℕ → Moment

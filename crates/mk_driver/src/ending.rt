@@ -113,17 +113,11 @@ fn end_line<W: World>(
     if line_fails(line_at(&job.task, job.number), status) {
         return fail_job(maker, world, course, &job, status);
     }
-    let Job {
-        ticket: _,
-        node,
-        number,
-        task,
-    } = job;
-    if ends_job(maker, &course.failure, number, &task) {
-        course.sched.ended(node, true);
+    if ends_job(maker, &course.failure, job.number, &job.task) {
+        course.sched.ended(job.node, true);
         return Ok(());
     }
-    run_on(maker, world, kids, course, node, task, number)
+    run_on(maker, world, kids, course, job)
 }
 
 /// Takes in the next child that ends, prints what its line has to print, and goes on with its job.

@@ -12,6 +12,7 @@ ghost use Rattle.mk_world.specs.declared.fault.WorldFault.TheVariants.{Failed as
 
 use crate::course::Course;
 use crate::halt::note_failure;
+use crate::job::Job;
 use crate::line::run_on;
 use mk_decision::{Decision, Maker, decide_on};
 use mk_trace::{Event, Failure};
@@ -57,7 +58,13 @@ fn carry_out<W: World>(
         }
         Decision::Make(task) => {
             course.sched.started(node);
-            run_on(maker, world, kids, course, node, task, 0)
+            let job = Job {
+                ticket: 0,
+                node,
+                number: 0,
+                task,
+            };
+            run_on(maker, world, kids, course, job)
         }
     }
 }
