@@ -1,5 +1,5 @@
 -- What a build goes by.
-use Rattle.std.specs.Prelude.{List}
+use Rattle.std.specs.Prelude.{ℕ, List, if◌then◌else◌}
 use Rattle.mk_flags.specs.declared.Flags.{Flags}
 use Rattle.mk_graph.specs.declared.Made.{Made}
 use Rattle.mk_plan.specs.declared.plan.PlanNode.{PlanNode}
@@ -28,3 +28,7 @@ work_of maker = record {
   one_job = maker.made.now.mode.one_job;
   delete_on_error = maker.made.now.mode.delete_on_error;
 }
+
+-- how many jobs may be open at once
+abbrev pub jobs_of : Work → ℕ
+jobs_of work = if work.one_job then 1 else work.flags.jobs

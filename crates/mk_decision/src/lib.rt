@@ -11,4 +11,4 @@ mod sight;
 mod test;
 
 pub use decision::{Decision, decide_on};
-pub use maker::Maker;
+pub use maker::{Maker, jobs_in};

@@ -15,7 +15,8 @@ use Rattle.mk_world.specs.declared.history.History.{History}
 use Rattle.mk_world.proofs.SinkLemmas.{Gains-nothing}
 use Rattle.mk_world.proofs.IdleLemmas.{IsIdle}
 use Rattle.mk_decision.specs.Decisions.{Work}
-use Rattle.mk_trace.specs.Builds.{Build, Moment, Prints, IsBuild, first_build, jobs_of, rules_of, job_of, moment}
+use Rattle.mk_trace.specs.Builds.{Build, Moment, Prints, IsBuild, first_build, rules_of, job_of, moment}
+use Rattle.mk_decision.specs.Makers.{jobs_of}
 use Rattle.mk_trace.specs.Calls.{AreLeaveItems, Called}
 use Rattle.mk_driver.specs.Halts.{of_halt}
 use Rattle.mk_trace.specs.Ends.{result_of, IsOver, StandsBy, is_cut}

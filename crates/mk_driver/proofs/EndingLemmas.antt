@@ -16,7 +16,8 @@ use Rattle.mk_world.specs.declared.command.TaskLine.{TaskLine}
 use Rattle.mk_world.specs.declared.history.History.{History}
 use Rattle.mk_world.specs.declared.step.Ended.{Ended}
 use Rattle.mk_decision.specs.Decisions.{Work}
-use Rattle.mk_trace.specs.Builds.{Moment, Prints, command_of, is_removed, jobs_of, or_next, rules_of, moment}
+use Rattle.mk_trace.specs.Builds.{Moment, Prints, command_of, is_removed, or_next, rules_of, moment}
+use Rattle.mk_decision.specs.Makers.{jobs_of}
 use Rattle.mk_trace.specs.Calls.{Called, EndItem, GoneItem, NoItem, StartItem}
 use Rattle.mk_trace.specs.Items.{removes}
 use Rattle.mk_driver.specs.Jobs.{FitsTogether, HasLine, HasToken, IsJobTaken}

@@ -10,12 +10,12 @@ ghost use Rattle.mk_sched.specs.Next.{next_of};
 ghost use Rattle.mk_sched.specs.declared.sched.Next.TheVariants as next;
 ghost use Rattle.mk_world.specs.Causes.{HasCause};
 
-use crate::course::{Course, jobs_in};
+use crate::course::Course;
 use crate::ending::take_in;
 use crate::halt::Halt;
 use crate::node::decide;
 use mk_bytes::NoMemory;
-use mk_decision::Maker;
+use mk_decision::{Maker, jobs_in};
 use mk_flags::Flags;
 use mk_graph::Made;
 use mk_plan::Plan;

@@ -1,9 +1,8 @@
 ghost use Rattle.std.specs.Prelude.{◌≡◌, nat_lt};
-ghost use Rattle.mk_decision.specs.Makers.{work_of};
-ghost use Rattle.mk_trace.specs.Builds.{jobs_of};
+ghost use Rattle.mk_decision.specs.Makers.{jobs_of, work_of};
 
 use crate::job::Job;
-use mk_decision::Maker;
+use mk_decision::{Maker, jobs_in};
 use mk_sched::Sched;
 use mk_trace::{Events, Failure};
 
@@ -20,17 +19,6 @@ pub struct Course<'p> {
     pub last_shown: Option<u32>,
     /// The first failure.
     pub failure: Option<Failure>,
-}
-
-/// How many jobs may be open at once.
-pub fn jobs_in(maker: &Maker) -> u32
-    ensures { result ≡ jobs_of (work_of maker.now) }
-{
-    if maker.made.mode.one_job {
-        1
-    } else {
-        maker.flags.jobs
-    }
 }
 
 /// Whether more jobs than one may be open at once.

@@ -11,6 +11,7 @@ use Rattle.mk_world.specs.declared.command.Cmd.{Cmd}
 use Rattle.mk_world.specs.declared.command.TaskLine.{TaskLine}
 use Rattle.mk_world.specs.declared.history.History.{History}
 use Rattle.mk_decision.specs.Decisions.{Work, IsKept, IsBegun, IsRefused}
+use Rattle.mk_decision.specs.Makers.{jobs_of}
 use Rattle.mk_trace.specs.Items.{Item, looks, keeps, refuses, starts, passes, waits, steps, ends, removes, leaves, reported, reported_all, happened_all, outputs_of, Happened}
 use Rattle.mk_trace.specs.Output.{Job, output}
 use Rattle.mk_trace.specs.Runs as run
@@ -19,10 +20,6 @@ use Rattle.mk_trace.specs.declared.event.Event.{Event}
 use Rattle.mk_trace.specs.declared.event.Event.TheVariants.{End, Refused}
 use Rattle.mk_trace.specs.declared.result.Failure.{Failure}
 use Rattle.mk_trace.specs.declared.result.Failure.TheVariants.{JobFailed, Expand}
-
--- how many jobs may be open at once
-abbrev pub jobs_of : Work → ℕ
-jobs_of work = if work.one_job then 1 else work.flags.jobs
 
 -- the rules of its runs
 abbrev pub rules_of : Work → Rules
