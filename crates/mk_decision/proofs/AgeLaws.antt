@@ -8,8 +8,8 @@ use Rattle.mk_plan.specs.declared.plan.PlanNode.{PlanNode}
 use Rattle.mk_world.specs.declared.time.When.{When}
 use Rattle.mk_world.specs.declared.time.When.TheVariants.{Missing, At, Unknown}
 use Rattle.mk_decision.specs.Ages.{newer, newest, age_by, age_of, age, counted, AreSeen}
-use Rattle.mk_decision.specs.declared.age.Age.{Age}
-use Rattle.mk_decision.specs.declared.age.Age.TheVariants as of
+use Rattle.mk_oodate.specs.declared.reason.Age.{Age}
+use Rattle.mk_oodate.specs.declared.reason.Age.TheVariants as of
 use Rattle.mk_decision.specs.declared.sight.Sighting.{Sighting}
 use Rattle.mk_decision.proofs.AgeLemmas.{are-before, before-at}
 

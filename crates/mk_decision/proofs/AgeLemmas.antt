@@ -5,13 +5,12 @@ use Rattle.std.proofs.lemmas.Bool.Decides.{eqb_tells}
 use Rattle.std.proofs.lemmas.List.{length-map}
 use Rattle.mk_plan.specs.Lists.{is_nil}
 use Rattle.mk_plan.specs.Plans.{node_at}
-use Rattle.mk_plan.specs.Tasks.{names_at}
 use Rattle.mk_plan.specs.declared.plan.PlanNode.{PlanNode}
 use Rattle.mk_world.specs.declared.time.When.{When}
 use Rattle.mk_world.specs.declared.time.When.TheVariants.{Missing, At, Unknown}
 use Rattle.mk_decision.specs.Ages.{newer, newest, age_of_missing, age_by, age_of, age, source_ages, counted, AreSeen, AreBefore}
-use Rattle.mk_decision.specs.declared.age.Age.{Age}
-use Rattle.mk_decision.specs.declared.age.Age.TheVariants as of
+use Rattle.mk_oodate.specs.declared.reason.Age.{Age}
+use Rattle.mk_oodate.specs.declared.reason.Age.TheVariants as of
 use Rattle.mk_decision.specs.declared.sight.Sighting.{Sighting}
 
 AreBefore-more : (place most : ℕ) (seen : List Sighting) → place ≤ most → AreBefore place seen
@@ -87,14 +86,7 @@ age-more nodes seen more one ages now given are before is here others place =
         ∙ ap (λ k. age_of (node_at nodes k) one.when (age nodes more)) same.1))))
     by (inr other) = rw other.0 (others place (λ same. other.1 (sym same)) ∙ before place)
 
-names-long : (nodes : List PlanNode) (places : List ℕ)
-    → length (names_at nodes places) ≡ length places
-names-long nodes [] = refl
-names-long nodes (place ∷ places) = ap suc (names-long nodes places)
-
--- as many ages as names
+-- as many ages as sources
 pub ages-long : (nodes : List PlanNode) (n : ℕ) (seen : List Sighting)
-    → length (source_ages nodes n seen) ≡ length (names_at nodes (node_at nodes n).sources)
-ages-long nodes n seen =
-    length-map (node_at nodes n).sources (age nodes seen)
-    ∙ sym (names-long nodes (node_at nodes n).sources)
+    → length (source_ages nodes n seen) ≡ length (node_at nodes n).sources
+ages-long nodes n seen = length-map (node_at nodes n).sources (age nodes seen)

@@ -7,7 +7,7 @@ use Rattle.mk_world.specs.declared.time.When.{When}
 use Rattle.mk_world.specs.declared.time.When.TheVariants.{Missing, At, Unknown}
 use Rattle.mk_decision.specs.Ages.{age, source_ages, AreSeen}
 use Rattle.mk_decision.specs.Tests.{is_stale, newer_names}
-use Rattle.mk_decision.specs.declared.age.Age.TheVariants as of
+use Rattle.mk_oodate.specs.declared.reason.Age.TheVariants as of
 use Rattle.mk_decision.specs.declared.sight.Sighting.{Sighting}
 
 abbrev node : List ℕ → List ℕ → List (List ℕ) → Marks → PlanNode

@@ -10,8 +10,8 @@ use Rattle.std.specs.BTreeSet.{BTreeSet, contains, IsUpperBound, Updates}
 use Rattle.std.specs.Ordering.{nat_cmp}
 use Rattle.mk_decision.specs.Known.{known}
 use Rattle.mk_decision.specs.Sights.{IsTaken}
-use Rattle.mk_decision.specs.declared.age.Age.{Age}
-use Rattle.mk_decision.specs.declared.age.Age.TheVariants.{Old}
+use Rattle.mk_oodate.specs.declared.reason.Age.{Age}
+use Rattle.mk_oodate.specs.declared.reason.Age.TheVariants.{Old}
 
 at-same : (k q : ℕ) → k ≡ q → is_at (nat_cmp k) q ≡ true
 at-same k q is = grind (arith, nat_tests)

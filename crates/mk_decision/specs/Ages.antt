@@ -4,16 +4,12 @@ use Rattle.std.specs.List.{list_any}
 use Rattle.mk_plan.specs.Lists.{is_nil}
 use Rattle.mk_plan.specs.Plans.{node_at}
 use Rattle.mk_plan.specs.declared.plan.PlanNode.{PlanNode}
+use Rattle.mk_oodate.specs.Stale.{is_missing}
 use Rattle.mk_world.specs.declared.time.When.{When}
 use Rattle.mk_world.specs.declared.time.When.TheVariants.{Missing, At, Unknown}
-use Rattle.mk_decision.specs.declared.age.Age.{Age}
-use Rattle.mk_decision.specs.declared.age.Age.TheVariants as aged
+use Rattle.mk_oodate.specs.declared.reason.Age.{Age}
+use Rattle.mk_oodate.specs.declared.reason.Age.TheVariants as aged
 use Rattle.mk_decision.specs.declared.sight.Sighting.{Sighting}
-
-abbrev pub is_missing : When → Bool
-is_missing Missing = true
-is_missing (At time) = false
-is_missing Unknown = false
 
 -- the newer of two ages
 abbrev pub newer : Age → Age → Age

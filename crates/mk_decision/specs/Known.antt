@@ -2,8 +2,8 @@
 use Rattle.std.specs.BTreeMap.{BTreeMap, get}
 use Rattle.std.specs.Ordering.{nat_cmp}
 use Rattle.std.specs.Prelude.{ℕ, unwrap_or}
-use Rattle.mk_decision.specs.declared.age.Age.{Age}
-use Rattle.mk_decision.specs.declared.age.Age.TheVariants.{Old}
+use Rattle.mk_oodate.specs.declared.reason.Age.{Age}
+use Rattle.mk_oodate.specs.declared.reason.Age.TheVariants.{Old}
 
 -- all others are old
 abbrev pub known : BTreeMap ℕ Age → ℕ → Age

@@ -2,29 +2,17 @@
 ghost use Rattle.std.specs.Prelude.{◌≡◌, ◌<◌, ℕ, length, IfOk};
 ghost use Rattle.mk_decision.specs.Ages as spec;
 ghost use Rattle.mk_decision.specs.Known.{known};
-ghost use Rattle.mk_decision.specs.declared.age.Age.TheVariants.{Old as old};
+ghost use Rattle.mk_oodate.specs.declared.reason.Age.TheVariants.{Old as old};
 ghost use Rattle.mk_plan.specs.Plans.{node_at};
 
 use crate::sight::{Sighting, Sightings};
 use mk_bytes::{Items, NoMemory};
 use mk_graph::Attr;
+use mk_oodate::{Age, Ages};
 use mk_plan::Plan;
-use mk_world::{Time, When};
+use mk_world::When;
 use std::alloc::Global;
 use std::collections::BTreeMap;
-
-/// The age of a source.
-#[derive(Clone, Copy, Debug)]
-pub enum Age {
-    /// Older than every target.
-    Old,
-    At(Time),
-    /// Newer than every target.
-    New,
-}
-
-/// The ages of sources, in order.
-pub type Ages = Items<Age>;
 
 // The newer of two ages.
 fn newer(one: Age, other: Age) -> Age

@@ -20,7 +20,7 @@ use crate::sight::{Times, look};
 use crate::test::{is_stale, newer_names};
 use mk_bytes::{NoMemory, Texts};
 use mk_expand::ExpandFault;
-use mk_plan::{MadeFacts, TaskFault, names_at, task};
+use mk_plan::{MadeFacts, TaskFault, task};
 use mk_world::{Task, World, WorldFault};
 
 /// What is to be done with a node.
@@ -80,12 +80,12 @@ fn judge(maker: &Maker, node: u32, times: &Times) -> Result<Verdict, NoMemory>
     ensures stale { IfOk result (λ verdict. verdict.stale
         ≡ is_outdated (work_of maker.now) node times.now.target times.now.sources) }
 {
-    let names = names_at(maker.alloc, maker.plan, maker.plan.sources(node))?;
     let sources = source_ages(maker.alloc, maker.plan, node, &times.sources)?;
     let ages = sources.as_slice();
+    let places = maker.plan.sources(node).as_slice();
     Ok(Verdict {
-        newer: newer_names(maker.alloc, &times.target, names.as_slice(), ages)?,
-        stale: is_stale(maker.plan, node, &times.target, ages),
+        newer: newer_names(maker.alloc, maker.plan, places, times.target, ages)?,
+        stale: is_stale(maker.plan, node, times.target, ages),
     })
 }
 

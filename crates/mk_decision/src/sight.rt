@@ -10,9 +10,9 @@ ghost use Rattle.mk_world.specs.Causes.{HasCause};
 ghost use Rattle.mk_world.specs.declared.fault.WorldFault.TheVariants.{Failed as failed};
 ghost use Rattle.mk_world.specs.declared.history.History.{History};
 
-use crate::test::is_missing;
 use mk_bytes::{Items, NoMemory};
 use mk_graph::Attr;
+use mk_oodate::is_missing;
 use mk_plan::Plan;
 use mk_world::{When, World, WorldFault};
 use std::alloc::Global;
@@ -66,7 +66,7 @@ fn is_by_sources(plan: &Plan, place: u32, when: When) -> bool
 {
     !plan.has(place, Attr::Phony)
         && !plan.has(place, Attr::Exec)
-        && is_missing(&when)
+        && is_missing(when)
         && plan.commands(place).is_empty()
 }
 
@@ -119,7 +119,7 @@ fn decisive(alloc: Global, plan: &Plan, node: u32, target: When) -> Result<BTree
         (spec.decisive (node_at plan.now node) target)) }
 {
     let mut wanted = BTreeSet::new(alloc);
-    if !is_missing(&target) {
+    if !is_missing(target) {
         want(&mut wanted, node, plan.sources(node).as_slice())?;
     }
     Ok(wanted)

@@ -1,58 +1,22 @@
 //! The test whether a node is out of date.
 ghost use Rattle.std.specs.Prelude.{◌≡◌, ◌<◌, [], ◌∷◌, ◌++◌, length, IfOk, OnOk};
 ghost use Rattle.std.specs.List.{list_any};
-ghost use Rattle.mk_decision.specs.Ages as ages;
 ghost use Rattle.mk_decision.specs.Tests as spec;
+ghost use Rattle.mk_oodate.specs.Stale as stale;
 ghost use Rattle.mk_plan.specs.Plans.{node_at};
+ghost use Rattle.mk_plan.specs.Tasks.{names_at};
 
-use crate::age::Age;
 use mk_bytes::{Items, NoMemory, Text, Texts};
 use mk_graph::Attr;
+use mk_oodate::{Age, is_missing, is_newer};
 use mk_plan::Plan;
 use mk_world::When;
 use std::alloc::Global;
 
-fn is_new(source: &Age) -> bool
-    ensures { result ≡ spec.is_new source.now }
+fn any_is_newer(target: When, sources: &[Age]) -> bool
+    ensures { result ≡ list_any (stale.is_newer target) sources.now }
 {
-    match source {
-        Age::Old => false,
-        Age::At(_) => false,
-        Age::New => true,
-    }
-}
-
-fn is_newer_than(target: u64, source: &Age) -> bool
-    ensures { result ≡ spec.is_newer_than (record { 0 = target }) source.now }
-{
-    match source {
-        Age::Old => false,
-        Age::At(time) => target < time.0,
-        Age::New => true,
-    }
-}
-
-fn is_newer(target: &When, source: &Age) -> bool
-    ensures { result ≡ spec.is_newer target.now source.now }
-{
-    match target {
-        When::Missing => true,
-        When::At(time) => is_newer_than(time.0, source),
-        When::Unknown => is_new(source),
-    }
-}
-
-/// Whether there is no file, by its time.
-pub fn is_missing(target: &When) -> bool
-    ensures { result ≡ ages.is_missing target.now }
-{
-    matches!(target, When::Missing)
-}
-
-fn any_is_newer(target: &When, sources: &[Age]) -> bool
-    ensures { result ≡ list_any (spec.is_newer target.now) sources.now }
-{
-    sources.iter().any(|source| is_newer(target, source))
+    sources.iter().any(|source| is_newer(target, *source))
 }
 
 // Whether a node is made whatever stands there.
@@ -64,42 +28,53 @@ fn is_always(plan: &Plan, node: u32) -> bool
 }
 
 /// Whether a node is out of date: it is always made, its file is missing, or a source is newer.
-pub fn is_stale(plan: &Plan, node: u32, target: &When, sources: &[Age]) -> bool
+pub fn is_stale(plan: &Plan, node: u32, target: When, sources: &[Age]) -> bool
     requires { node < length plan.now }
-    ensures { result ≡ spec.is_stale (node_at plan.now node).marks target.now sources.now }
+    ensures { result ≡ spec.is_stale (node_at plan.now node).marks target sources.now }
 {
     is_always(plan, node) || is_missing(target) || any_is_newer(target, sources)
 }
 
+fn counts_as_newer(target: When, source: Age) -> bool
+    ensures { result ≡ spec.counts_as_newer target source }
+{
+    is_missing(target) || is_newer(target, source)
+}
+
+// Adds the name of a source that counts as newer.
 fn add_newer(
     alloc: Global,
-    target: &When,
-    name: &Text,
-    age: &Age,
+    plan: &Plan,
+    place: u32,
+    target: When,
+    age: Age,
     newer: &mut Texts,
 ) -> Result<(), NoMemory>
-    ensures { OnOk result
-        (newer.new ≡ newer.old ++ spec.newer_names target.now (name.now ∷ []) (age.now ∷ [])) }
+    ensures { OnOk result (newer.new ≡ newer.old
+        ++ spec.newer_names target ((node_at plan.now place).name ∷ []) (age ∷ [])) }
 {
-    if is_newer(target, age) {
-        newer.push(name.copy(alloc)?)?;
+    if counts_as_newer(target, age) {
+        newer.push(Text::from_bytes(alloc, plan.name_at(place))?)?;
     }
     Ok(())
 }
 
-/// The names of the sources that are newer than the target, or of all where it is missing.
+/// The names of those nodes at these places that are newer than the target, by their ages, or of all
+/// where it is missing. No other name is copied.
 pub fn newer_names(
     alloc: Global,
-    target: &When,
-    names: &[Text],
+    plan: &Plan,
+    places: &[u32],
+    target: When,
     ages: &[Age],
 ) -> Result<Texts, NoMemory>
-    requires { length ages.now ≡ length names.now }
-    ensures { IfOk result (λ newer. newer ≡ spec.newer_names target.now names.now ages.now) }
+    requires { length ages.now ≡ length places.now }
+    ensures { IfOk result
+        (λ newer. newer ≡ spec.newer_names target (names_at plan.now places.now) ages.now) }
 {
-    let mut newer = Items::new(alloc, names.len())?;
-    for (place, name) in names.iter().enumerate() {
-        add_newer(alloc, target, name, &ages[place], &mut newer)?;
+    let mut newer = Items::new(alloc, 0)?;
+    for (at, place) in places.iter().enumerate() {
+        add_newer(alloc, plan, *place, target, ages[at], &mut newer)?;
     }
     Ok(newer)
 }
