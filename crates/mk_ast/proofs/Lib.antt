@@ -1,3 +1,5 @@
+pub mod Ends
+pub mod FaultPlaces
 pub mod PieceLemmas
 pub mod ReadAgain
 pub mod ReadParts
@@ -13,3 +15,4 @@ pub mod SpelledTexts
 pub mod Spells
 pub mod Turns
 pub mod Views
+pub mod WholeLemmas

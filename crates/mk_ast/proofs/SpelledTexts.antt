@@ -16,7 +16,8 @@ use Rattle.mk_ast.proofs.Spelled.{OnRead, OnRead-map, is_ended, is_ended-after, 
 use Rattle.mk_ast.specs.WellFormed.{after_all, after_part, is_lone, FitsTree, FitsPart}
 use Rattle.mk_ast.proofs.Spelled.{PartOf, TextOf, DollarOf, RefsSpell}
 
-dollar_at-spelled : (depth : ℕ) (refs : Refs) → RefsSpell depth refs
+-- what a `$` begins is spelled so
+pub dollar_at-spelled : (depth : ℕ) (refs : Refs) → RefsSpell depth refs
     → (place : Place) (bytes : List ℕ)
     → ends place dollar ≡ false → OnRead (DollarOf depth place bytes) (dollar_at refs place bytes)
 unfolding spell FitsTree

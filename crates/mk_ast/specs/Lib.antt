@@ -1,3 +1,5 @@
+pub mod FaultPlaces
+pub mod Forms
 pub mod Modifiers
 pub mod Pieces
 pub mod Places

@@ -1,8 +1,8 @@
 -- The table of modifiers: which row one begins.
 use Rattle.std.specs.Prelude.{ℕ, ◌==◌, ◌||◌, ◌&&◌, Bool, true, false, if◌then◌else◌, List, [], ◌∷◌}
-use Rattle.std.specs.Prelude.{length, drop, Option, Some, None, nat_eq, codes}
-use Rattle.std.specs.List.{starts_with}
+use Rattle.std.specs.Prelude.{length, drop, Option, Some, None, codes}
 use Rattle.mk_bytes.specs.Bytes.{equals_sign}
+unfoldable pub use Rattle.mk_bytes.specs.Texts.{begins}
 use Rattle.mk_ast.specs.Tree.{Mod}
 use Rattle.mk_ast.specs.Tree as tree
 use Rattle.mk_ast.specs.Places.{ends_modifier}
@@ -68,9 +68,6 @@ word_mod ManyWords = tree.many_words (word_text ManyWords)
 word_mod ManyWordsAt = tree.many_words (word_text ManyWordsAt)
 word_mod Range = tree.range
 word_mod NameOf = tree.name_of
-
-unfoldable pub begins : List ℕ → List ℕ → Bool
-begins start bytes = starts_with nat_eq bytes start
 
 -- a word with an end behind it
 unfoldable pub is_word : Bool → List ℕ → List ℕ → Bool

@@ -7,10 +7,10 @@ ghost use Rattle.mk_ast.specs.View.{mod_view};
 ghost use Rattle.mk_ast.specs.declared.fault.AstFault.TheVariants.{NoMemory as no_memory};
 
 use crate::fault::AstFault;
-use crate::row::{Word, is_end, skip, word_text};
+use crate::row::{Word, is_end, word_text};
 use crate::separator::separator_len;
 use crate::tree::ModTree;
-use mk_bytes::{NoMemory, Text};
+use mk_bytes::{NoMemory, Text, skip};
 use std::alloc::Global;
 
 /// A modifier that is one word.

@@ -11,10 +11,10 @@ use crate::fault::AstFault;
 use crate::literal::{flags_at, separator_at, word_tree};
 use crate::place::{Place, ends_modifier};
 use crate::read::{Level, text_at};
-use crate::row::{Argument, Row, is_end, row_of, skip, word_text};
+use crate::row::{Argument, Row, is_end, row_of, word_text};
 use crate::separator::name_len;
 use crate::tree::{ModTree, Tree};
-use mk_bytes::Text;
+use mk_bytes::{Text, skip};
 use std::alloc::Global;
 
 /// A modifier of the reference at `opened`, behind its `:`.

@@ -11,10 +11,9 @@ ghost use Rattle.mk_ast.specs.declared.fault.AstFault.TheVariants.{NoMemory as n
 use crate::fault::AstFault;
 use crate::modifier::modifier_at;
 use crate::place::{Place, after, is_anchor, is_escape, is_over};
-use crate::row::skip;
 use crate::run::{is_lone_before, plain_at};
 use crate::tree::{ModTrees, Part, Tree};
-use mk_bytes::Items;
+use mk_bytes::{Items, skip};
 use std::alloc::Global;
 
 /// How deep a reading is in a text of `total` bytes: `depth` more references may be open at once.

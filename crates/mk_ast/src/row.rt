@@ -1,8 +1,9 @@
 //! The rows of the table of modifiers, by what begins them (make(1), "Variable modifiers").
-ghost use Rattle.std.specs.Prelude.{◌≡◌, drop};
+ghost use Rattle.std.specs.Prelude.{◌≡◌};
 ghost use Rattle.mk_ast.specs.Rows as spec;
 
 use crate::place::ends_modifier;
+use mk_bytes::{begins, skip};
 
 /// A modifier that is one word.
 #[derive(Clone, Copy)]
@@ -100,16 +101,6 @@ pub fn word_text(word: Word) -> &'static [u8]
     }
 }
 
-/// A text without its first bytes.
-pub fn skip(text: &[u8], count: usize) -> &[u8]
-    ensures { result.now ≡ drop count text.now }
-{
-    if count > text.len() {
-        return b"";
-    }
-    &text[count..]
-}
-
 /// Whether a modifier ends where this text begins. The end of the text is no end of a modifier.
 pub fn is_end(round: bool, text: &[u8]) -> bool
     ensures { result ≡ spec.is_end round text.now }
@@ -117,18 +108,6 @@ pub fn is_end(round: bool, text: &[u8]) -> bool
     match text {
         [] => false,
         [first, ..] => ends_modifier(round, *first),
-    }
-}
-
-/// Whether a text begins so. The first byte is compared alone, since it decides most of the time.
-#[tactic(auto, unfolding(crate::specs::Rows::begins))]
-pub fn begins(start: &[u8], text: &[u8]) -> bool
-    ensures { result ≡ spec.begins start.now text.now }
-{
-    match (start, text) {
-        ([], _) => true,
-        ([_, ..], []) => false,
-        ([first, start @ ..], [byte, text @ ..]) => first == byte && text.starts_with(start),
     }
 }
 

@@ -9,9 +9,8 @@ ghost use Rattle.mk_ast.specs.declared.fault.AstFault.TheVariants.{NoMemory as n
 
 use crate::fault::AstFault;
 use crate::place::{Piece, Place, after, is_escape, is_over};
-use crate::row::skip;
 use crate::tree::Part;
-use mk_bytes::Text;
+use mk_bytes::{Text, skip};
 use std::alloc::Global;
 
 #[inline(always)]

@@ -4,7 +4,8 @@ ghost use Rattle.mk_ast.specs.Places.{ends_modifier as ends_modifier_at};
 ghost use Rattle.mk_ast.specs.Separators as spec;
 
 use crate::place::{closer, ends_modifier};
-use crate::row::{begins, is_end, skip};
+use crate::row::is_end;
+use mk_bytes::{begins, skip};
 
 fn is_octal(byte: u8) -> bool
     ensures { result ≡ spec.is_octal byte }

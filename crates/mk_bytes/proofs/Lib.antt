@@ -1,5 +1,7 @@
 pub mod AgreesLemmas
-mod NumberLemmas
+pub mod NumberLemmas
 mod NumberRows
 pub mod PathLemmas
 mod PathRows
+pub mod PieceLemmas
+pub mod WordLemmas

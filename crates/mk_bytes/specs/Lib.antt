@@ -2,5 +2,6 @@ pub mod Agrees
 pub mod Bytes
 pub mod Numbers
 pub mod Paths
+pub mod Texts
 pub mod Words
 pub mod formers

@@ -1,12 +1,13 @@
 -- Numbers, as conditions compare them (make(1), the directive `.if`): an optional sign, and then
 -- decimal digits with an optional point, or `0x` and hexadecimal digits. A number is seen as its
 -- value times 10^18, which is an integer.
-use Rattle.std.specs.Prelude.{ℕ, ◌+◌, ◌-◌, ◌*◌, ◌^◌, ℤ, pos, neg_ℤ, Bool, ◌==◌, ◌&&◌, nat_eq}
+use Rattle.std.specs.Prelude.{ℕ, ◌+◌, ◌-◌, ◌*◌, ◌^◌, ℤ, pos, neg_ℤ, Bool, not, ◌==◌, ◌&&◌, nat_eq}
 use Rattle.std.specs.Prelude.{nat_le, List, [], ◌∷◌, length, drop, Option, Some, None}
 use Rattle.std.specs.Prelude.{if◌then◌else◌, codes}
 use Rattle.std.specs.Char.{is_digit, digit_value}
 use Rattle.std.specs.List.{list_all, starts_with, before_first, after_first}
 use Rattle.std.specs.Option.{option_map}
+use Rattle.std.specs.Str.{bytes_eq}
 use Rattle.mk_bytes.specs.Bytes.{plus, minus, dot}
 
 -- how many digits may stand behind the point: numbers are counted in units of the last of them
@@ -20,6 +21,13 @@ value base (digit ∷ digits) = digit_value digit * base ^ length digits + value
 
 abbrev pub are_digits : ℕ → List ℕ → Bool
 are_digits base text = list_all (λ byte. is_digit byte base) text
+
+-- a number of decimal digits, with leading zeros if any, up to a greatest one
+abbrev pub number_up_to : ℕ → List ℕ → Option ℕ
+number_up_to most text =
+    if not (bytes_eq text []) && are_digits 10 text && nat_le (value 10 text) most
+    then Some (value 10 text)
+    else None
 
 abbrev pub has_length : ℕ → ℕ → List ℕ → Bool
 has_length least most text = nat_le least (length text) && nat_le (length text) most

@@ -9,6 +9,7 @@ mod items;
 mod kind;
 mod num;
 mod pair;
+mod part;
 mod path;
 mod text;
 mod word;
@@ -16,8 +17,11 @@ mod word;
 pub use fault::NoMemory;
 pub use items::Items;
 pub use kind::Kind;
-pub use num::{Num, number};
-pub use pair::{Pair, Pairs, Texts};
-pub use path::{clean_path, is_clean_directory};
+pub use num::{Num, number, number_up_to};
+pub use pair::{Pair, Pairs, Texts, copy_pairs, copy_texts, is_among};
+pub use part::{
+    begins, is_blank, skip, without_blanks, without_blanks_after, without_blanks_before,
+};
+pub use path::{clean_path, is_absolute, is_clean_directory};
 pub use text::Text;
-pub use word::{Span, next_word};
+pub use word::{Span, first_piece, is_white, next_word, next_word_is_first, words};

@@ -53,6 +53,27 @@ fn value(base: u32, digits: &[u8]) -> Option<u128>
     Some(value)
 }
 
+/// The number up to `most` that a text is in decimal digits, with leading zeros if any. `None` for
+/// every other text. Takes no memory.
+pub fn number_up_to(most: u64, text: &[u8]) -> Option<u64>
+    requires { most < 2 ^ 59 }
+    ensures value { result ≡ spec.number_up_to most text.now }
+    ensures most { IfSome result (λ number. number ≤ most) }
+{
+    if text.is_empty() {
+        return None;
+    }
+    let mut number = 0;
+    for byte in text {
+        let digit = char::from(*byte).to_digit(10)?;
+        number = number * 10 + u64::from(digit);
+        if number > most {
+            return None;
+        }
+    }
+    Some(number)
+}
+
 // The place of the point.
 fn first_point(text: &[u8]) -> Option<usize>
     ensures { result ≡ position spec.is_point text.now }

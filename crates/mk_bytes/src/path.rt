@@ -15,7 +15,8 @@ fn is_name(name: &[u8]) -> bool
     !(name == b"".as_slice() || name == b".".as_slice() || name == b"..".as_slice())
 }
 
-fn is_absolute(path: &[u8]) -> bool
+/// Whether a path is named from the root. Takes no memory.
+pub fn is_absolute(path: &[u8]) -> bool
     ensures { result ≡ spec.is_absolute path.now }
 {
     match path {

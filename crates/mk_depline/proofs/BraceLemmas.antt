@@ -10,7 +10,7 @@ use Rattle.mk_depline.specs.Braces.{Group, added, alternatives, alternatives_fro
 use Rattle.mk_depline.specs.Braces.{all_pending, all_steps, both_spelled, each_spelled, each_steps}
 use Rattle.mk_depline.specs.Braces.{group_of, pending_steps, pending_words, place_from, place_of}
 use Rattle.mk_depline.specs.Braces.{spelled_in, steps_left, stops, word_steps, words_left}
-use Rattle.mk_depline.specs.Words.{words_among}
+use Rattle.mk_bytes.specs.Words.{words_among}
 use Rattle.mk_depline.specs.declared.brace.Pending.{Pending}
 use Rattle.mk_depline.specs.declared.fault.DepFault.{DepFault}
 use Rattle.mk_depline.specs.declared.fault.DepFault.TheVariants.{NoMemory}

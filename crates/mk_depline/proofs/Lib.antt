@@ -1,3 +1,2 @@
 mod BraceLemmas
-mod PieceLemmas
 mod PlaceLemmas

@@ -6,7 +6,7 @@ use Rattle.std.specs.List.{onto_first}
 use Rattle.std.specs.Option.{option_map}
 use Rattle.mk_bytes.specs.Agrees.{◌>>=◌}
 use Rattle.mk_bytes.specs.Bytes.{curly_open, curly_close}
-use Rattle.mk_depline.specs.Words.{words_among}
+use Rattle.mk_bytes.specs.Words.{words_among}
 use Rattle.mk_depline.specs.declared.brace.Pending.{Pending}
 use Rattle.mk_depline.specs.declared.fault.DepFault.{DepFault}
 use Rattle.mk_depline.specs.declared.fault.DepFault.TheVariants.{Brace, NoMemory}

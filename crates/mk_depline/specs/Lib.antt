@@ -2,4 +2,3 @@ pub mod Braces
 pub mod Lines
 pub mod Names
 pub mod View
-pub mod Words

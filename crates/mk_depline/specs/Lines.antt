@@ -7,10 +7,9 @@ use Rattle.std.specs.List.{list_all, list_any, starts_with}
 use Rattle.mk_bytes.specs.Agrees.{◌>>=◌}
 use Rattle.mk_bytes.specs.Bytes.{colon, exclamation}
 use Rattle.mk_bytes.specs.Paths.{clean}
-use Rattle.mk_bytes.specs.Words.{is_white}
+use Rattle.mk_bytes.specs.Words.{is_white, words_of}
 use Rattle.mk_depline.specs.Braces.{all_spelled_out}
 use Rattle.mk_depline.specs.Names.{is_among, is_attribute, special_named}
-use Rattle.mk_depline.specs.Words.{words_of}
 use Rattle.mk_depline.specs.declared.fault.DepFault.{DepFault}
 use Rattle.mk_depline.specs.declared.fault.DepFault.TheVariants.{NoOperator, DoubleColon, NoTargets}
 use Rattle.mk_depline.specs.declared.fault.DepFault.TheVariants.{MixedSpecial, RuleSources}

@@ -1,14 +1,11 @@
 -- Names that mean something of their own: special targets and attributes.
 use Rattle.std.specs.Prelude.{ℕ, Bool, List, [], ◌∷◌, Option, Some, None, if◌then◌else◌, codes}
-use Rattle.std.specs.List.{list_any}
 use Rattle.std.specs.Str.{bytes_eq}
+pub use Rattle.mk_bytes.specs.Texts.{is_among}
 use Rattle.mk_depline.specs.declared.name.Special.{Special}
 use Rattle.mk_depline.specs.declared.name.Special.TheVariants.{Main, Begin, End, Default, Order}
 use Rattle.mk_depline.specs.declared.name.Special.TheVariants.{Suffixes, NotParallel, DeleteOnError}
 use Rattle.mk_depline.specs.declared.name.Special.TheVariants.{Phony, Precious, Silent, Ignore}
-
-abbrev pub is_among : List (List ℕ) → List ℕ → Bool
-is_among names name = list_any (λ one. bytes_eq name one) names
 
 -- the attributes of sources; `.WAIT`, which parts them, counts among these
 abbrev pub attributes : List (List ℕ)

@@ -3,12 +3,11 @@ ghost use Rattle.std.specs.Prelude.{◌≡◌, ◌+◌, ◌<◌, ◌≤◌, ◌�
 ghost use Rattle.mk_bytes.specs.Agrees.{Agrees, AgreesErr};
 ghost use Rattle.mk_depline.specs.Braces as spec;
 ghost use Rattle.mk_depline.specs.View.{group_seen};
-ghost use Rattle.mk_depline.specs.Words as words;
+ghost use Rattle.mk_bytes.specs.Words as words;
 ghost use Rattle.mk_depline.specs.declared.fault.DepFault.TheVariants.{NoMemory as no_memory};
 
 use crate::fault::DepFault;
-use crate::word::first_piece;
-use mk_bytes::{Items, NoMemory, Text, Texts};
+use mk_bytes::{Items, NoMemory, Text, Texts, first_piece};
 use std::alloc::Global;
 
 fn depth_behind(depth: usize, byte: u8) -> usize

@@ -8,7 +8,6 @@ mod brace;
 mod fault;
 mod line;
 mod name;
-mod word;
 
 pub use fault::DepFault;
 pub use line::{DepLine, parse_dep};

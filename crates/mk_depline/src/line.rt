@@ -12,8 +12,7 @@ ghost use Rattle.mk_depline.specs.declared.fault.DepFault.TheVariants.{NoMemory 
 use crate::brace::spelled_words;
 use crate::fault::DepFault;
 use crate::name::{Special, is_attribute, special_named};
-use crate::word::is_white;
-use mk_bytes::{Items, NoMemory, Text, Texts, clean_path};
+use mk_bytes::{Items, NoMemory, Text, Texts, clean_path, is_among, is_white};
 use std::alloc::Global;
 
 /// A dependency line. Its names are cleaned, but for attributes, special targets and rules.
@@ -86,12 +85,6 @@ fn all_cleaned(alloc: Global, cwd: &[u8], names: &Texts) -> Result<Texts, NoMemo
         texts.push(cleaned(alloc, cwd, name.bytes())?)?;
     }
     Ok(texts)
-}
-
-fn is_among(texts: &[Text], name: &[u8]) -> bool
-    ensures { result ≡ names.is_among texts.now name.now }
-{
-    texts.iter().any(|one| name == one.bytes())
 }
 
 // What follows a known suffix, where that is a known suffix too.

@@ -1,9 +1,9 @@
 -- A line without its comment, as make(1) cuts it.
-use Rattle.std.specs.Prelude.{ℕ, ◌-◌, ◌==◌, ◌||◌, ◌&&◌, Bool, List, [], ◌∷◌, ◌++◌, length, take}
+use Rattle.std.specs.Prelude.{ℕ, ◌==◌, ◌||◌, ◌&&◌, Bool, List, [], ◌∷◌, ◌++◌}
 use Rattle.std.specs.Prelude.{if◌then◌else◌}
-use Rattle.std.specs.List.{suffix_len}
 use Rattle.std.specs.Str.{bytes_eq}
-use Rattle.mk_bytes.specs.Bytes.{hash, square_open, backslash, is_blank}
+use Rattle.mk_bytes.specs.Bytes.{hash, square_open, backslash}
+use Rattle.mk_bytes.specs.Texts.{without_blanks_after}
 
 -- Two bytes that are read as one: a backslash with the backslash or `#` behind it, and `[#`.
 abbrev pub is_pair : ℕ → ℕ → Bool
@@ -26,10 +26,6 @@ before_comment (byte ∷ next ∷ rest) =
     else (if is_pair byte next then byte ∷ next ∷ before_comment rest
     else byte ∷ before_comment (next ∷ rest))
 
--- a line without its final blanks
-abbrev pub trimmed : List ℕ → List ℕ
-trimmed line = take (length line - suffix_len is_blank line) line
-
 -- of `\#` the `#` alone, and any other bytes as they are
 abbrev pub plain : List ℕ → List ℕ
 plain bytes = if bytes_eq bytes (backslash ∷ hash ∷ []) then hash ∷ [] else bytes
@@ -44,4 +40,4 @@ unescaped (byte ∷ next ∷ rest) =
 
 -- A line without its comment and final blanks, with `\#` as `#`.
 abbrev pub cut_comment : List ℕ → List ℕ
-cut_comment line = unescaped (trimmed (before_comment line))
+cut_comment line = unescaped (without_blanks_after (before_comment line))

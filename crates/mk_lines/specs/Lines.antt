@@ -1,8 +1,9 @@
 -- Physical lines, and the logical lines that make(1) joins them to.
-use Rattle.std.specs.Prelude.{ℕ, ◌+◌, ◌-◌, ◌%◌, ◌==◌, Bool, List, [], ◌∷◌, ◌++◌, length, take, drop}
+use Rattle.std.specs.Prelude.{ℕ, ◌+◌, ◌-◌, ◌%◌, ◌==◌, Bool, List, [], ◌∷◌, ◌++◌, length, take}
 use Rattle.std.specs.Prelude.{if◌then◌else◌}
-use Rattle.std.specs.List.{onto_first, prefix_len, suffix_len}
-use Rattle.mk_bytes.specs.Bytes.{newline, space, backslash, is_blank}
+use Rattle.std.specs.List.{onto_first, suffix_len}
+use Rattle.mk_bytes.specs.Bytes.{newline, space, backslash}
+pub use Rattle.mk_bytes.specs.Texts.{without_blanks_before as without_indent}
 use Rattle.mk_lines.specs.declared.line.LogLine.{LogLine}
 
 -- the byte that ends a physical line
@@ -34,10 +35,6 @@ line_groups (line ∷ rest) =
 -- a continued line without the backslash that continues it
 abbrev pub without_last : List ℕ → List ℕ
 without_last line = take (length line - 1) line
-
--- a line without the blanks that begin it
-abbrev pub without_indent : List ℕ → List ℕ
-without_indent line = drop (prefix_len is_blank line) line
 
 -- A line joined with those that continue it: the last backslash, the newline and the blanks that
 -- begin the next line become one space. The end of the text drops such a backslash.

@@ -1,12 +1,12 @@
 //! Comments: a `#` and what follows it, in lines that are no commands (make(1), "COMMENTS").
-ghost use Rattle.std.specs.Prelude.{◌≡◌, ◌+◌, ◌<◌, ◌≤◌, ◌++◌, length, reverse, take_while, Some, IfOk};
+ghost use Rattle.std.specs.Prelude.{◌≡◌, ◌+◌, ◌<◌, ◌≤◌, ◌++◌, length, Some, IfOk};
 ghost use Rattle.std.specs.Cow.{cow_slice_items};
 ghost use Rattle.memchr.specs.Find.{IsFirstByte, is_byte3};
-ghost use Rattle.mk_bytes.specs.Bytes.{is_blank, hash, backslash, square_open};
+ghost use Rattle.mk_bytes.specs.Bytes.{hash, backslash, square_open};
 ghost use Rattle.mk_lines.specs.Comment as spec;
 
 use memchr::{memchr, memchr3};
-use mk_bytes::NoMemory;
+use mk_bytes::{NoMemory, without_blanks_after};
 use std::alloc::Global;
 use std::borrow::CowSlice;
 
@@ -22,9 +22,9 @@ pub fn cut_comment<'t>(alloc: Global, line: &'t [u8]) -> Result<CowSlice<'t, u8>
 {
     // Most lines hold none of these bytes: nothing but their final blanks goes.
     let Some(place) = memchr3(b'#', b'\\', b'[', line) else {
-        return Ok(CowSlice::Borrowed(trim(line)));
+        return Ok(CowSlice::Borrowed(without_blanks_after(line)));
     };
-    let kept = trim(before_comment(line, place));
+    let kept = without_blanks_after(before_comment(line, place));
     match memchr(b'\\', kept) {
         None => Ok(CowSlice::Borrowed(kept)),
         Some(_) => Ok(CowSlice::Owned(unescape(alloc, kept)?)),
@@ -66,23 +66,6 @@ fn is_pair(byte: u8, next: u8) -> bool
     ensures { result ≡ spec.is_pair byte next }
 {
     matches!((byte, next), (b'\\', b'\\' | b'#') | (b'[', b'#'))
-}
-
-// A line without its final spaces and tabs.
-fn trim<'t>(line: &'t [u8]) -> &'t [u8]
-    ensures { result.now ≡ spec.trimmed line.now }
-{
-    &line[..line.len() - final_blanks(line)]
-}
-
-fn final_blanks(line: &[u8]) -> usize
-    ensures len { result ≡ length (take_while is_blank (reverse line.now)) }
-    ensures within { result ≤ length line.now }
-{
-    line.iter()
-        .rev()
-        .take_while(|byte| **byte == b' ' || **byte == b'\t')
-        .count()
 }
 
 // A line with `\#` as `#`.

@@ -4,9 +4,9 @@ ghost use Rattle.std.specs.Result.{result_and};
 ghost use Rattle.mk_lines.specs.Lines.{physical_lines, line_groups};
 ghost use Rattle.mk_lines.specs.Faults as spec;
 
-use crate::physical::{PhysicalLines, is_continued, without_indent};
+use crate::physical::{PhysicalLines, is_continued};
 use memchr::{memchr, memrchr};
-use mk_bytes::NoMemory;
+use mk_bytes::{NoMemory, without_blanks_before};
 
 const MAX_LEN: usize = 1_048_576;
 
@@ -113,7 +113,7 @@ fn check_line<'t>(
         };
         check_zero(zeros, lines.done, next)?;
         len += 1;
-        piece = without_indent(next);
+        piece = without_blanks_before(next);
     }
     check_len(number, len + piece.len())
 }

@@ -7,8 +7,8 @@ ghost use Rattle.mk_lines.specs.Faults.{logical_lines as logical_lines_of};
 ghost use Rattle.mk_lines.specs.declared.fault.LineFault.TheVariants.{NoMemory as no_memory};
 
 use crate::fault::{LineFault, check};
-use crate::physical::{PhysicalLines, is_continued, without_indent};
-use mk_bytes::{Items, NoMemory, Text};
+use crate::physical::{PhysicalLines, is_continued};
+use mk_bytes::{Items, NoMemory, Text, without_blanks_before};
 use std::alloc::Global;
 use std::borrow::CowSlice;
 use std::marker::Model;
@@ -187,7 +187,7 @@ fn join<'t>(
             return Ok(text);
         };
         text.extend_from_slice(b" ")?;
-        piece = without_indent(next);
+        piece = without_blanks_before(next);
     }
     text.extend_from_slice(piece)?;
     Ok(text)

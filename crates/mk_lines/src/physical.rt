@@ -2,7 +2,6 @@
 ghost use Rattle.std.specs.Prelude.{◌≡◌, ◌+◌, ◌^◌, ◌<◌, ◌≤◌, ◌∷◌, [], length, reverse, take_while};
 ghost use Rattle.std.specs.Prelude.{IfSome, IfNone, OnSome};
 ghost use Rattle.std.specs.List.{before_first, after_first};
-ghost use Rattle.mk_bytes.specs.Bytes.{is_blank};
 ghost use Rattle.mk_lines.specs.Lines as spec;
 
 use memchr::memchr;
@@ -60,20 +59,4 @@ fn final_backslashes(line: &[u8]) -> usize
     ensures { result ≡ length (take_while spec.is_backslash (reverse line.now)) }
 {
     line.iter().rev().take_while(|byte| **byte == b'\\').count()
-}
-
-/// A line without the spaces and tabs that begin it.
-pub fn without_indent<'t>(line: &'t [u8]) -> &'t [u8]
-    ensures { result.now ≡ spec.without_indent line.now }
-{
-    &line[indent_len(line)..]
-}
-
-fn indent_len(line: &[u8]) -> usize
-    ensures len { result ≡ length (take_while is_blank line.now) }
-    ensures within { result ≤ length line.now }
-{
-    line.iter()
-        .take_while(|byte| **byte == b' ' || **byte == b'\t')
-        .count()
 }

@@ -1,7 +1,6 @@
 pub mod ChainLemmas
 pub mod LimitLemmas
 pub mod LongLemmas
-pub mod NumberLemmas
 pub mod OrderLemmas
 pub mod PieceLemmas
 pub mod ReplaceLemmas
@@ -9,4 +8,3 @@ pub mod ResultLemmas
 mod Rows
 pub mod SearchLemmas
 pub mod TextLemmas
-pub mod WordLemmas

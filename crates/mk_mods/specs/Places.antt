@@ -5,19 +5,12 @@ use Rattle.std.specs.Prelude.{option_map, option_and_then, if◌then◌else◌, 
 use Rattle.std.specs.List.{range_with_len, starts_with}
 use Rattle.std.specs.Str.{bytes_eq}
 use Rattle.mk_bytes.specs.Bytes.{plus, minus, dot}
-use Rattle.mk_bytes.specs.Numbers.{value, are_digits}
-
--- a number of decimal digits, up to a greatest one
-abbrev pub number : ℕ → List ℕ → Option ℕ
-number most text =
-    if not (bytes_eq text []) && are_digits 10 text && nat_le (value 10 text) most
-    then Some (value 10 text)
-    else None
+use Rattle.mk_bytes.specs.Numbers.{value, number_up_to}
 
 -- A place is counted from 1 with at most 9 digits. There is no place 0.
 abbrev pub unsigned : List ℕ → Option ℕ
 unsigned text =
-    if nat_le (length text) 9 && not (value 10 text == 0) then number 999999999 text else None
+    if nat_le (length text) 9 && not (value 10 text == 0) then number_up_to 999999999 text else None
 
 -- With a `-` it is counted from the end. Places in front of the first word are 0.
 abbrev pub place : ℕ → List ℕ → Option ℕ
@@ -64,7 +57,7 @@ numbers count = map decimal (range_with_len 1 count)
 
 -- As many numbers as a text says, at most 1000000, or for 0 as many as there are words.
 abbrev pub how_many : ℕ → List ℕ → Option ℕ
-how_many count text = option_map (λ n. if n == 0 then count else n) (number 1000000 text)
+how_many count text = option_map (λ n. if n == 0 then count else n) (number_up_to 1000000 text)
 
 abbrev pub counted : List ℕ → List (List ℕ) → Option (List (List ℕ))
 counted text words = option_map numbers (how_many (length words) text)

@@ -1,10 +1,10 @@
 -- The state that a chain of modifiers works on (make(1), "VARIABLE ASSIGNMENTS", on modifiers).
-use Rattle.std.specs.Prelude.{ℕ, Bool, false, not, ◌||◌, nat_eq, List, [], ◌∷◌, ◌++◌}
+use Rattle.std.specs.Prelude.{ℕ, Bool, false, ◌||◌, nat_eq, List, [], ◌∷◌, ◌++◌}
 use Rattle.std.specs.Prelude.{if◌then◌else◌, codes}
-use Rattle.std.specs.List.{filter, flat_map, slice_split, starts_with, ends_with}
-use Rattle.std.specs.Str.{bytes_eq}
+use Rattle.std.specs.List.{flat_map, starts_with, ends_with}
 use Rattle.mk_bytes.specs.Bytes.{space}
-use Rattle.mk_bytes.specs.Words.{is_white}
+pub use Rattle.mk_bytes.specs.Words.{is_some_text as is_filled, words_among as filled}
+pub use Rattle.mk_bytes.specs.Words.{words_of as words_in}
 use Rattle.mk_mods.specs.declared.val.Separator.{Separator}
 use Rattle.mk_mods.specs.declared.val.Separator.TheVariants.{FirstSpace, Byte, Nothing}
 
@@ -13,17 +13,6 @@ pub record State : Type 0 where
   pub items : List (List ℕ)
   pub separator : Separator
   pub one_word : Bool
-
-abbrev pub is_filled : List ℕ → Bool
-is_filled text = not (bytes_eq text [])
-
--- the texts that are not empty
-abbrev pub filled : List (List ℕ) → List (List ℕ)
-filled texts = filter is_filled texts
-
--- the words of a text, which is cut at white space
-abbrev pub words_in : List ℕ → List (List ℕ)
-words_in text = filled (slice_split is_white text)
 
 -- What is printed between two items. The space that no modifier has set is left out beside a
 -- newline.

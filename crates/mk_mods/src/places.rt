@@ -6,29 +6,9 @@ ghost use Rattle.mk_mods.specs.Pieces.{bytes_of, texts_of, furthest, Shows, Begi
 
 use crate::piece::place;
 use itoa::Buffer;
-use mk_bytes::NoMemory;
+use mk_bytes::{NoMemory, number_up_to};
 use mk_pool::{Piece, Region};
 use std::alloc::Global;
-
-// A number of decimal digits, up to a greatest one.
-fn number(most: u64, text: &[u8]) -> Option<u64>
-    requires { most ≤ 999999999 }
-    ensures value { result ≡ spec.number most text.now }
-    ensures most { IfSome result (λ number. number ≤ most) }
-{
-    if text.is_empty() {
-        return None;
-    }
-    let mut number = 0;
-    for byte in text {
-        let digit = char::from(*byte).to_digit(10)?;
-        number = number * 10 + u64::from(digit);
-        if number > most {
-            return None;
-        }
-    }
-    Some(number)
-}
 
 fn unsigned(text: &[u8]) -> Option<u64>
     ensures value { result ≡ spec.unsigned text.now }
@@ -37,7 +17,7 @@ fn unsigned(text: &[u8]) -> Option<u64>
     if text.len() > 9 {
         return None;
     }
-    match number(999_999_999, text) {
+    match number_up_to(999_999_999, text) {
         None | Some(0) => None,
         some => some,
     }
@@ -132,7 +112,7 @@ fn place_number(region: &mut Region, number: usize) -> Result<Piece, NoMemory>
 pub fn how_many(count: usize, text: &[u8]) -> Option<usize>
     ensures { result ≡ spec.how_many count text.now }
 {
-    match number(1_000_000, text)? {
+    match number_up_to(1_000_000, text)? {
         0 => Some(count),
         some => Some(some as usize),
     }

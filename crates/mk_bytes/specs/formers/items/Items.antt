@@ -4,7 +4,7 @@ use mathlib.Core.List.{List, []}
 use mathlib.Core.Path.{◌≡◌, refl, sym, subst}
 use native.Mathlib.Bridge.{le_prop}
 use Prim.Native.Nat.{◌<◌, ◌^◌}
-use lib.ListN.{length, length-map}
+use lib.ListN.{length-map}
 use base.Stored.{code_map}
 use denote.RattleType.{RattleType}
 use denote.HoleLaws.{Alike}

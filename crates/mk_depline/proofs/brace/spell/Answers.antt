@@ -1,7 +1,7 @@
 use Rattle.std.proofs.Common.{◌<◌, [], ◌∷◌, Ok, sym, ap, arith}
 use Rattle.std.proofs.lemmas.Result.{err_from_is_err_and}
 use Rattle.mk_depline.specs.Braces.{added, all_pending, both_spelled}
-use Rattle.mk_depline.specs.Words.{words_among}
+use Rattle.mk_bytes.specs.Words.{words_among}
 use Rattle.mk_depline.proofs.BraceLemmas.{added-both, pending-push, spelled-fault, spelled-group}
 use Rattle.mk_depline.proofs.BraceLemmas.{spelled-none, steps-group, steps-push}
 use Rattle.mk_depline.proofs.brace.spell.Goals as goal

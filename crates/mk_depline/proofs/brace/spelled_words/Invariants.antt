@@ -1,6 +1,6 @@
 use Rattle.std.proofs.Common.{◌≡◌, length}
 use Rattle.mk_depline.specs.Braces.{added, all_spelled_out}
-use Rattle.mk_depline.specs.Words.{words_of}
+use Rattle.mk_bytes.specs.Words.{words_of}
 use Rattle.mk_depline.proofs.brace.spelled_words.Given as goal
 
 -- the names so far, and those of the words that are left

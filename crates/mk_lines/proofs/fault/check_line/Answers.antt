@@ -74,12 +74,12 @@ loop-piece-preserved c =
     let some = is_continued-some piece continues in
     let no_longer : length (without_indent next) ≤ length next = rw length-drop (omega arith) in
     record {
-      same = rw (c.without_indent-piece.ensures, c.in-Some.ensures.done)
+      same = rw (c.without_blanks_before-piece.ensures.value, c.in-Some.ensures.done)
           (sym (check.checking-continues number l.len piece next l.lines.done rest continues clean)
           ∙ ap (λ lines. check.checking number l.len piece l.lines.done lines)
           (sym c.in-Some.ensures.first)
           ∙ l.invariant.same);
-      room = rw c.without_indent-piece.ensures (omega (arith, c.in-Some.ensures.room));
+      room = rw c.without_blanks_before-piece.ensures.value (omega (arith, c.in-Some.ensures.room));
       shorter = omega (arith, c.in-Some.ensures.shorter);
       zeros = λ none. (or_parts _ _ (rw c.in-Some.ensures.first at l.invariant.zeros none)).1;
     }

@@ -19,7 +19,7 @@ loop-text-preserved c =
     ≡ l.text.items ++ without_last l.piece.now ++ space ∷ []
     = c.in_ok-extend_from_slice-2.ensures.items
     ∙ ap (λ kept. kept ++ space ∷ []) c.in_ok-extend_from_slice.ensures.items in
-    rw (text, c.without_indent-piece.ensures, c.in-Some.ensures.done)
+    rw (text, c.without_blanks_before-piece.ensures.value, c.in-Some.ensures.done)
     (sym (reading-continues number l.text.items l.piece.now c.in-Some.next.now l.lines.done
     (physical_lines c.take_line.new.self.rest.now) continues)
     ∙ ap (λ rest. reading number l.text.items l.piece.now l.lines.done rest) (sym c.in-Some.ensures.first)

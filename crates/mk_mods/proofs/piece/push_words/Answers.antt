@@ -4,7 +4,7 @@ use Rattle.std.proofs.lemmas.Grind.{common_steps}
 use Rattle.mk_pool.specs.declared.region.Piece.{Piece}
 use Rattle.mk_mods.specs.Pieces.{bytes_of}
 use Rattle.mk_mods.proofs.PieceLemmas.{bytes_of-inner, inner-within, texts_of-push, furthest-push}
-use Rattle.mk_mods.proofs.WordLemmas.{next_word-is, words_in-none}
+use Rattle.mk_bytes.proofs.WordLemmas.{next_word-is, words_of-none}
 use Rattle.mk_mods.proofs.piece.push_words.Goals as goal
 
 pub words-smaller : goal.words-smaller
@@ -46,7 +46,7 @@ words-preserved c =
 pub returns : goal.returns
 returns c =
     let text = c.shown-text.result.now in
-    let none = words_in-none text c.words.from (sym c.next_word.ensures ∙ c.in_default.is) in
+    let none = words_of-none text c.words.from (sym c.next_word.ensures ∙ c.in_default.is) in
     record {
       within = c.words.invariant.within;
       shown = grind (arith, common_steps, c.words.invariant.words, none, c.shown-text.ensures.value);

@@ -5,9 +5,15 @@ use Rattle.std.specs.List.{position_or_len, onto_first, slice_split}
 use Rattle.std.proofs.lemmas.List.Splits.{slice_split_first}
 use Rattle.std.proofs.lemmas.Bool.Decides.{nat_tests}
 
-cond_cases : {P : Type 0} (t : Bool) → (t ≡ true → P) → (t ≡ false → P) → P
+-- a test is true or false
+pub cond_cases : {P : Type 0} (t : Bool) → (t ≡ true → P) → (t ≡ false → P) → P
 cond_cases true here there = here refl
 cond_cases false here there = there refl
+
+-- nothing is found where the test says so
+pub none_found : {A : Type 0} (found : Bool) (at : A) → cond found (Some at) None ≡ None → found ≡ false
+none_found true at is = cc
+none_found false at is = refl
 
 module _ (p : ℕ → Bool) where
   found_at : (text : List ℕ) (at : ℕ) (found : Bool)
@@ -44,10 +50,6 @@ module _ (p : ℕ → Bool) where
       (λ is. rw is
       (ap (λ parts. onto_first byte parts) (none_passes bytes (past_more byte bytes is past))))
 
-  some_found : (found : Bool) (at : ℕ) → cond found (Some at) None ≡ None → found ≡ false
-  some_found true at is = cc
-  some_found false at is = refl
-
   -- a text without such a byte is one piece
   pub slice_split-none : (text : List ℕ) → position p text ≡ None → slice_split p text ≡ text ∷ []
-  slice_split-none text is = none_passes text (some_found _ _ is)
+  slice_split-none text is = none_passes text (none_found _ _ is)

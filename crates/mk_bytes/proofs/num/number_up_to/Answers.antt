@@ -5,8 +5,8 @@ use Rattle.std.proofs.lemmas.List.Folds.{list_all-append}
 use Rattle.std.proofs.lemmas.Bool.Decides.{nat_tests}
 use Rattle.std.specs.Char.{is_digit}
 use Rattle.mk_bytes.specs.Numbers.{value}
-use Rattle.mk_mods.proofs.NumberLemmas.{value-append, value-take}
-use Rattle.mk_mods.proofs.places.number.Goals as goal
+use Rattle.mk_bytes.proofs.NumberLemmas.{value-append, value-take}
+use Rattle.mk_bytes.proofs.num.number_up_to.Goals as goal
 
 and_true : (a b : Bool) → a ≡ true → b ≡ true → (a && (b && true)) ≡ true
 and_true a b here there = rw (here, there) refl

@@ -1,8 +1,8 @@
 use Rattle.std.proofs.Common.{◌≡◌, ◌+◌, ◌-◌, length, take, drop, sym, ◌∙◌, arith}
 use Rattle.std.proofs.lemmas.Grind.{common_steps}
 use Rattle.mk_bytes.specs.Words.{is_white}
-use Rattle.mk_directive.proofs.PieceLemmas.{slice_split-found, slice_split-none}
-use Rattle.mk_directive.proofs.word.first_piece.Goals as goal
+use Rattle.mk_bytes.proofs.PieceLemmas.{slice_split-found, slice_split-none}
+use Rattle.mk_bytes.proofs.word.first_piece.Goals as goal
 
 pub returns-in-Some-clause-pieces : goal.returns-in-Some-clause-pieces
 returns-in-Some-clause-pieces c =

@@ -1,6 +1,6 @@
 use Rattle.std.proofs.Common.{◌≡◌, ◌≤◌, take, IsTrue}
 use Rattle.mk_bytes.specs.Numbers.{are_digits, value}
-use Rattle.mk_mods.proofs.places.number.Given as goal
+use Rattle.mk_bytes.proofs.num.number_up_to.Given as goal
 
 -- the bytes so far are digits, and this is their value, which is not too large
 abbrev pub invariant-loop-byte : goal.invariant-loop-byte
