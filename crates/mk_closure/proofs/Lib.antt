@@ -3,3 +3,4 @@ pub mod MeansLemmas
 pub mod MemberLemmas
 pub mod PartLemmas
 pub mod WalkLemmas
+pub mod NamedLemmas

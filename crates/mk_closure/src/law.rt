@@ -1,0 +1,8 @@
+//! What holds of closures.
+ghost use Rattle.mk_closure.specs.ClosureLaws.{ClosuresAreNamed};
+
+/// The nodes of a closure are those of its graph and of the names that were added, each name once, and
+/// the targets around a build were not met.
+pub fn closures_are_named()
+    ensures { ClosuresAreNamed }
+{}
