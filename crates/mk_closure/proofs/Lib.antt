@@ -4,3 +4,4 @@ pub mod MemberLemmas
 pub mod PartLemmas
 pub mod WalkLemmas
 pub mod NamedLemmas
+pub mod NeededLemmas

@@ -49,7 +49,7 @@ none-found : (b : Bool) (place : ℕ) → cond b (Some place) None ≡ None → 
 none-found true place is = cc
 none-found false place is = refl
 
-none-passes : (name : List ℕ) (names : List (List ℕ)) → position (bytes_eq name) names ≡ None
+pub none-passes : (name : List ℕ) (names : List (List ℕ)) → position (bytes_eq name) names ≡ None
     → is_held names name ≡ false
 none-passes name names is =
     let first = position_or_len (bytes_eq name) names in
@@ -57,13 +57,13 @@ none-passes name names is =
     none-held names name
     (λ k less. fails_before_first (bytes_eq name) names k [] (omega (arith, past, less)))
 
-number-none : (count : ℕ) (first second : Option ℕ) → or_behind count first second ≡ None
+pub number-none : (count : ℕ) (first second : Option ℕ) → or_behind count first second ≡ None
     → (first ≡ None) × (second ≡ None)
 number-none count (Some n) second is = cc
 number-none count None None is = (refl, refl)
 number-none count None (Some n) is = cc
 
-neither : (a b : Bool) → a ≡ false → b ≡ false → (a || b) ≡ false
+pub neither : (a b : Bool) → a ≡ false → b ≡ false → (a || b) ≡ false
 neither true b first second = cc
 neither false b first second = second
 
@@ -73,19 +73,19 @@ held-append first second name one other =
     list_any-append (bytes_eq name) first second ∙ neither _ _ one other
 
 -- what a state has of a node
-part-below : (parts : List Part) (n : ℕ) → (get_or parts n open_part).met ≡ true → n < length parts
+pub part-below : (parts : List Part) (n : ℕ) → (get_or parts n open_part).met ≡ true → n < length parts
 part-below [] n is = cc
 part-below (part ∷ parts) zero is = omega arith
 part-below (part ∷ parts) (suc n) is = let less = part-below parts n is in omega (arith, less)
 
-part-pushed : (parts : List Part) (n : ℕ) → (get_or (parts ++ open_part ∷ []) n open_part).met ≡ true
+pub part-pushed : (parts : List Part) (n : ℕ) → (get_or (parts ++ open_part ∷ []) n open_part).met ≡ true
     → (get_or parts n open_part).met ≡ true
 part-pushed [] zero is = is
 part-pushed [] (suc n) is = is
 part-pushed (part ∷ parts) zero is = is
 part-pushed (part ∷ parts) (suc n) is = part-pushed parts n is
 
-get-front : (first second : List (List ℕ)) (n : ℕ) → n < length first
+pub get-front : (first second : List (List ℕ)) (n : ℕ) → n < length first
     → get_or (first ++ second) n [] ≡ get_or first n []
 get-front [] second n less = absurd (omega (arith, less))
 get-front (text ∷ first) second zero less = refl
@@ -246,7 +246,7 @@ Enters nodes enter =
     (s : State) (n : ℕ) (later : State) → enter s n ≡ Ok later → is_frame (name_in s n) ≡ false
     → IsNamed nodes s → IsNamed nodes later
 
-or-right-false : (a b : Bool) → (a || b) ≡ false → b ≡ false
+pub or-right-false : (a b : Bool) → (a || b) ≡ false → b ≡ false
 or-right-false true b is = cc
 or-right-false false b is = is
 
@@ -300,7 +300,7 @@ named-all nodes enter s (name ∷ more) later enters is named =
     (λ one here rest. named-all nodes enter one more later enters rest
     (named-wanted nodes enter s name one enters here named))
 
-none-met : (count n : ℕ) → (get_or (replicate count open_part) n open_part).met ≡ true → ⊥
+pub none-met : (count n : ℕ) → (get_or (replicate count open_part) n open_part).met ≡ true → ⊥
 none-met zero n is = cc
 none-met (suc count) zero is = cc
 none-met (suc count) (suc n) is = none-met count n is
