@@ -3,3 +3,5 @@ pub mod MeansLemmas
 pub mod MemberLemmas
 pub mod PartLemmas
 pub mod WalkLemmas
+pub mod NamedLemmas
+pub mod NeededLemmas

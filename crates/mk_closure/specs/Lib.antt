@@ -1,3 +1,4 @@
+pub mod ClosureLaws
 pub mod Deciding
 pub mod Faults
 pub mod Made

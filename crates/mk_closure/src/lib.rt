@@ -5,6 +5,7 @@
 mod closure;
 mod decide;
 mod fault;
+mod law;
 mod means;
 mod members;
 mod part;
@@ -12,5 +13,6 @@ mod visit;
 
 pub use closure::Closure;
 pub use fault::CloseFault;
+pub use law::{closures_are_named, closures_are_what_is_needed};
 pub use part::{Part, Way};
 pub use visit::close;

@@ -15,14 +15,14 @@ use Rattle.mk_graph.proofs.AmongLemmas.{head_among, tail_among, AreAmong-at, IsP
 use Rattle.mk_graph.proofs.AmongLemmas.{IsPath-none, IsPath-append, path_length, preds-below}
 
 -- nodes are done where both steps are
-after_done : (first : Walked) (next : List ℕ → Walked) (later : List ℕ) (P : Type 0)
+pub after_done : (first : Walked) (next : List ℕ → Walked) (later : List ℕ) (P : Type 0)
     → (first >>= next) ≡ Ok later
     → ((done : List ℕ) → first ≡ Ok done → next done ≡ Ok later → P) → P
 after_done (Ok done) next later P is goes = goes done refl is
 after_done (Err met) next later P is goes = absurd cc
 
 -- nodes alone are done, the predecessors of each before it
-abbrev AreSettled : List (List ℕ) → List ℕ → Type 0
+abbrev pub AreSettled : List (List ℕ) → List ℕ → Type 0
 AreSettled preds [] = Unit {0}
 AreSettled preds (n ∷ done) =
     (n < length preds) × AreAmong done (preds_of preds n) × AreSettled preds done
@@ -146,7 +146,7 @@ settled-open preds (one ∷ done) n inner settled among walks =
     ]
 
 -- all that are reached are done
-reached-done : (preds : List (List ℕ)) (from done : List ℕ) (n : ℕ) → AreSettled preds done
+pub reached-done : (preds : List (List ℕ)) (from done : List ℕ) (n : ℕ) → AreSettled preds done
     → AreAmong done from → Reaches preds from n → is_among done n ≡ true
 reached-done preds from done n settled all (given among) = AreAmong-at done from n all among
 reached-done preds from done n settled all (behind {n = last} reached step) =
@@ -159,7 +159,7 @@ none_met (Ok done) is = (done, refl)
 none_met (Err met) is = absurd cc
 
 -- so is a whole walk that went to its end
-walked-done : (preds : List (List ℕ)) (from done : List ℕ) → EachBelow (length preds) preds
+pub walked-done : (preds : List (List ℕ)) (from done : List ℕ) → EachBelow (length preds) preds
     → AreBelow (length preds) from → walked preds from ≡ Ok done
     → AreSettled preds done × AreAmong done from
 walked-done preds from done below within is =

@@ -1,14 +1,14 @@
+mod CycleRows
+mod MacroRows
+mod NodeRows
 pub mod AmongLemmas
 pub mod BelowLemmas
 pub mod ClosedLemmas
-mod CycleRows
 pub mod DoneLemmas
 pub mod MacroLemmas
-mod MacroRows
 pub mod MacroViewLemmas
 pub mod MarkLemmas
 pub mod NodeLemmas
-mod NodeRows
 pub mod NumberLemmas
 pub mod PartFitLemmas
 pub mod PartLemmas
@@ -19,3 +19,4 @@ pub mod StepViewLemmas
 pub mod UseLemmas
 pub mod ViewLemmas
 pub mod WhereLemmas
+pub mod WholeLemmas

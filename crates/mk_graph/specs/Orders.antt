@@ -1,7 +1,8 @@
 -- Orders of nodes in which each stands behind its predecessors.
-use Rattle.std.specs.Prelude.{◌≡◌, ℕ, true, List, [], ◌∷◌, length}
-use Rattle.mk_graph.specs.Numbers.{AreBelow}
-use Rattle.mk_graph.specs.Walks.{is_among, preds_of}
+use Rattle.std.specs.Prelude.{◌≡◌, ◌↔◌, ℕ, true, false, List, [], ◌∷◌, length, IsTrue}
+use Rattle.mk_graph.specs.Closed.{Reaches}
+use Rattle.mk_graph.specs.Numbers.{AreBelow, EachBelow}
+use Rattle.mk_graph.specs.Walks.{is_among, preds_of, depth_first}
 use Rattle.mk_graph.specs.declared.walk.Ordered.{Ordered}
 use Rattle.mk_graph.specs.declared.walk.Ordered.TheVariants.{Order, Cycle}
 
@@ -24,3 +25,20 @@ pub record IsOrder (preds : List (List ℕ)) (order : List ℕ) : Type 0 where
 abbrev pub IsOrdered : List (List ℕ) → Ordered → Type 0
 IsOrdered preds (Order order) = IsOrder preds order
 IsOrdered preds (Cycle walk) = Unit {0}
+
+-- no node stands twice
+abbrev pub AreOnce : List ℕ → Type 0
+AreOnce [] = Unit {0}
+AreOnce (n ∷ more) = (is_among more n ≡ false) × AreOnce more
+
+-- exactly the nodes that are reached, each once and behind its predecessors
+pub record IsWhole (preds : List (List ℕ)) (from order : List ℕ) : Type 0 where
+  pub order_is : IsOrder preds order
+  pub once : AreOnce order
+  pub reached : (n : ℕ) → IsTrue (is_among order n) ↔ Reaches preds from n
+
+-- A depth-first order has each node that is reached once, and no other.
+abbrev pub OrdersAreWhole : Type 0
+OrdersAreWhole =
+    (preds : List (List ℕ)) (from order : List ℕ) → EachBelow (length preds) preds
+    → AreBelow (length preds) from → depth_first preds from ≡ Order order → IsWhole preds from order

@@ -6,6 +6,7 @@
 
 mod attr;
 mod graph;
+mod law;
 mod links;
 mod lists;
 mod macros;
@@ -14,6 +15,7 @@ mod walk;
 
 pub use attr::{Attr, Marks};
 pub use graph::Graph;
+pub use law::orders_are_whole;
 pub use lists::{Nodes, Preds};
 use mk_bytes::Texts;
 use mk_scopes::Scopes;
