@@ -1,8 +1,11 @@
+pub mod BegunLemmas
 pub mod CallLemmas
 pub mod ItemLemmas
 pub mod MakeLemmas
 pub mod OutputLemmas
 pub mod QuietLemmas
+pub mod RunLemmas
 pub mod RunRows
 pub mod SettledLemmas
+pub mod TogetherLemmas
 pub mod WorldLemmas

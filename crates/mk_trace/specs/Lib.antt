@@ -4,6 +4,8 @@ pub mod Ends
 pub mod Growth
 pub mod Items
 pub mod Output
+pub mod RunLaws
 pub mod Runs
 pub mod Settled
 pub mod Steps
+pub mod Together

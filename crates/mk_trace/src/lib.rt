@@ -6,7 +6,12 @@
 #![tactic(auto)]
 
 mod event;
+mod law;
 mod result;
 
 pub use event::{Event, Events};
+pub use law::{
+    children_belong_to_nodes, cut_runs_are_begun_runs, decided_nodes_depend_on_settled_ones,
+    runs_that_are_over_are_settled, the_first_ready_node_is_decided,
+};
 pub use result::{BuildEnd, BuildResult, Failure};
