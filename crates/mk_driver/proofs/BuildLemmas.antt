@@ -14,105 +14,31 @@ use Rattle.mk_world.specs.Talks.{Meaning}
 use Rattle.mk_world.specs.declared.history.History.{History}
 use Rattle.mk_world.proofs.SinkLemmas.{Gains-nothing}
 use Rattle.mk_world.proofs.IdleLemmas.{IsIdle}
-use Rattle.mk_driver.specs.Builds.{Work, Build, Moment, Prints, Makes, IsBuild, build_after_all, first_build, jobs_of, rules_of, job_of}
-use Rattle.mk_driver.specs.Calls.{AreStepItems, AreLeaveItems, Called}
-use Rattle.mk_driver.specs.Ends.{of_halt, result_of}
-use Rattle.mk_driver.specs.Items.{Item, looks, keeps, refuses, starts, passes, waits, steps, ends, removes, leaves, reported_all, outputs_of}
-use Rattle.mk_driver.specs.Makers.{moment}
-use Rattle.mk_driver.specs.Output.{output}
-use Rattle.mk_driver.specs.Progress.{Known, IsMade, SoFar, Standing, IsGoing, IsOver, EndedAt, Fits, GoingAt, HaltedAt, IsFirstCourse, StandsBy, is_cut, printed_by}
-use Rattle.mk_driver.specs.Runs as run
+use Rattle.mk_decision.specs.Decisions.{Work}
+use Rattle.mk_trace.specs.Builds.{Build, Moment, Prints, IsBuild, first_build, rules_of, job_of, moment}
+use Rattle.mk_decision.specs.Makers.{jobs_of}
+use Rattle.mk_trace.specs.Calls.{AreLeaveItems, Called}
+use Rattle.mk_driver.specs.Halts.{of_halt}
+use Rattle.mk_trace.specs.Ends.{result_of, IsOver, StandsBy, is_cut}
+use Rattle.mk_trace.specs.Items.{reported_all, outputs_of}
+use Rattle.mk_trace.specs.Output.{output}
+use Rattle.mk_driver.specs.Progress.{IsGoing, EndedAt, Fits, GoingAt, HaltedAt, IsFirstCourse}
+use Rattle.mk_trace.specs.Growth.{Known, SoFar}
+use Rattle.mk_trace.specs.Runs as run
 use Rattle.mk_driver.specs.declared.course.Course.{Course}
-use Rattle.mk_driver.specs.declared.event.Event.{Event}
+use Rattle.mk_trace.specs.declared.event.Event.{Event}
 use Rattle.mk_driver.specs.declared.job.Job.{Job}
-use Rattle.mk_driver.specs.declared.result.BuildResult.{BuildResult}
-use Rattle.mk_driver.specs.declared.result.BuildResult.TheVariants as ended
-use Rattle.mk_driver.specs.declared.result.Failure.{Failure}
-use Rattle.mk_driver.specs.declared.result.Failure.TheVariants.{JobFailed, Expand}
-use Rattle.mk_driver.specs.declared.result.Halt.{Halt}
-use Rattle.mk_driver.specs.declared.result.Halt.TheVariants as halts
-use Rattle.mk_driver.proofs.ItemLemmas.{reported_all-append, outputs_of-append, build_after_all-append, Makes-append, failure-events, told-none, told-then, run-legal}
-use Rattle.mk_driver.proofs.LineLemmas.{so_far-weaken}
-use Rattle.mk_driver.proofs.MakeLemmas.{reported-steps, outputs-steps, after-steps, makes-steps}
+use Rattle.mk_trace.specs.declared.result.BuildResult.{BuildResult}
+use Rattle.mk_trace.specs.declared.result.BuildResult.TheVariants as ended
+use Rattle.mk_trace.specs.declared.result.Failure.{Failure}
+use Rattle.mk_trace.specs.declared.result.Failure.TheVariants.{JobFailed, Expand}
+use Rattle.mk_driver.specs.declared.halt.Halt.{Halt}
+use Rattle.mk_driver.specs.declared.halt.Halt.TheVariants as halts
+use Rattle.mk_trace.proofs.ItemLemmas.{reported_all-append, failure-events, told-none, told-then, run-legal}
+use Rattle.mk_trace.proofs.MakeLemmas.{so_far-weaken}
+use Rattle.mk_trace.proofs.QuietLemmas.{made-quiet, quiet-append, quiet-leaves, quiet-steps}
 use Rattle.mk_driver.proofs.NodeLemmas.{length-predecessors, next-over}
-use Rattle.mk_driver.proofs.SettledLemmas.{told-settled}
-
--- items that change nothing of a build: steps of children, and children that were given up
-pub record AreQuiet (work : Work) (items : List Item) : Type 0 where
-  pub reported : reported_all items ≡ []
-  pub outputs : outputs_of items ≡ []
-  pub after : (tasks : run.Tasks) (build : Build)
-      → build_after_all work tasks build items ≡ build
-  pub makes : (tasks : run.Tasks) (build : Build) → Makes work tasks build items
-
-quiet-steps : (work : Work) (items : List Item) → AreStepItems items → AreQuiet work items
-quiet-steps work items are = record {
-  reported = reported-steps items are;
-  outputs = outputs-steps items are;
-  after = λ tasks build. after-steps work tasks build items are;
-  makes = λ tasks build. makes-steps work tasks build items are;
-}
-
-quiet-leaves : (work : Work) (items : List Item) → AreLeaveItems items → AreQuiet work items
-quiet-leaves work [] are =
-    record { reported = refl; outputs = refl; after = λ tasks build. refl; makes = λ tasks build. tt }
-quiet-leaves work (leaves ticket owner ∷ items) are =
-    let more = quiet-leaves work items are in
-    record {
-      reported = more.reported;
-      outputs = more.outputs;
-      after = more.after;
-      makes = λ tasks build. (tt, tt, tt, more.makes tasks build);
-    }
-quiet-leaves work (looks node path when ∷ items) are = absurd are
-quiet-leaves work (keeps node ∷ items) are = absurd are
-quiet-leaves work (refuses node number what ∷ items) are = absurd are
-quiet-leaves work (starts node number ticket owner cmd ∷ items) are = absurd are
-quiet-leaves work (passes node number ∷ items) are = absurd are
-quiet-leaves work (waits ∷ items) are = absurd are
-quiet-leaves work (steps ticket owner deed time ∷ items) are = absurd are
-quiet-leaves work (ends node number owner ended ∷ items) are = absurd are
-quiet-leaves work (removes node path time ∷ items) are = absurd are
-
-quiet-append : (work : Work) (items more : List Item) → AreQuiet work items → AreQuiet work more
-    → AreQuiet work (items ++ more)
-quiet-append work items more first second = record {
-  reported = reported_all-append items more ∙ rw (first.reported, second.reported) refl;
-  outputs = outputs_of-append items more ∙ rw (first.outputs, second.outputs) refl;
-  after = λ tasks build. build_after_all-append work tasks build items more
-      ∙ (ap (λ b. build_after_all work tasks b more) (first.after tasks build)
-      ∙ second.after tasks build);
-  makes = λ tasks build. Makes-append work tasks build items more (first.makes tasks build)
-      (second.makes tasks (build_after_all work tasks build items));
-}
-
-prints-out : (cut : Bool) (first now next : Moment) (bytes : List ℕ) → next.out ≡ now.out
-    → Prints cut first now bytes → Prints cut first next bytes
-prints-out true first now next bytes same prints = rw same prints
-prints-out false first now next bytes same prints = rw same prints
-
-made-quiet : (work : Work) (tasks : run.Tasks) (cut : Bool) (first now next : Moment)
-    (last : Option ℕ) (items quiet : List Item) (P : Standing) → AreQuiet work quiet
-    → next.out ≡ now.out → IsMade work tasks cut first now last items P
-    → IsMade work tasks cut first next last (items ++ quiet) P
-made-quiet work tasks cut first now next last items quiet P are same made =
-    let reported : reported_all (items ++ quiet) ≡ reported_all items =
-    reported_all-append items quiet ∙ rw are.reported (append-nil (reported_all items)) in
-    let outputs : outputs_of (items ++ quiet) ≡ outputs_of items =
-    outputs_of-append items quiet ∙ rw are.outputs (append-nil (outputs_of items)) in
-    let printed : printed_by work tasks (items ++ quiet) ≡ printed_by work tasks items =
-    rw (reported, outputs) refl in
-    let build = build_after_all work tasks (first_build work) items in
-    let after : build_after_all work tasks (first_build work) (items ++ quiet) ≡ build =
-    build_after_all-append work tasks (first_build work) items quiet ∙ are.after tasks build in
-    record {
-      makes = Makes-append work tasks (first_build work) items quiet made.makes
-          (are.makes tasks build);
-      printed = rw printed (prints-out cut first now next _ same made.printed);
-      ended = rw (printed, outputs) made.ended;
-      last_is = rw printed made.last_is;
-      stands = rw after made.stands;
-    }
+use Rattle.mk_trace.proofs.SettledLemmas.{told-settled}
 
 -- a build at its end, behind which the children that still ran were given up
 pub ended-build : (meaning : Meaning) (work : Work) (result : BuildResult)
@@ -182,10 +108,12 @@ going-first meaning work course jobs keep_going history out is = (
       stands = record {
         nodes_are = map-undecided work.plan ∙ ap (λ (s : Schedule). s.nodes) (sym is.sched);
         due_is = refl;
-        running = rw is.jobs_are tt;
-        failed = sym is.failure;
-        none_doomed = refl;
-        fresh = λ node undecided. refl;
+        stands = record {
+          running = rw is.jobs_are tt;
+          failed = sym is.failure;
+          doomed_is = refl;
+          fresh = λ node none undecided. refl;
+        };
       };
     };
   },
@@ -201,8 +129,8 @@ over-of work failure build tasks known nodes jobs none none_open is = record {
     none_open = rw is.nodes_are none_open;
     none_ready = rw is.nodes_are none;
   };
-  failed = is.failed;
-  none_doomed = is.none_doomed;
+  failed = is.stands.failed;
+  none_doomed = is.stands.doomed_is;
 }
 
 stands-result : (work : Work) (failure : Option Failure) (build : Build)

@@ -9,14 +9,16 @@ use Rattle.mk_plan.specs.declared.plan.NodeState.{NodeState}
 use Rattle.mk_plan.specs.declared.plan.NodeState.TheVariants.{Undecided, Open, Settled, Failed}
 use Rattle.mk_world.specs.declared.command.TaskLine.{TaskLine}
 use Rattle.mk_world.specs.declared.step.Ended.{Ended}
-use Rattle.mk_driver.specs.Builds.{Work, Build, rules_of, or_next, is_removed, IsBegun}
-use Rattle.mk_driver.specs.Items.{passes, ends, removes}
-use Rattle.mk_driver.specs.Progress.{Known, HasTasks, AreRunning, AreFresh, IsGoing, IsPoised, IsBehind, IsFailing, IsEnding}
-use Rattle.mk_driver.specs.Runs as run
-use Rattle.mk_driver.specs.Steps.{GoesOn}
+use Rattle.mk_decision.specs.Decisions.{Work, IsBegun}
+use Rattle.mk_trace.specs.Builds.{Build, rules_of, or_next, is_removed}
+use Rattle.mk_trace.specs.Items.{passes, ends, removes}
+use Rattle.mk_driver.specs.Progress.{AreRunning, IsGoing, IsPoised, IsBehind, IsFailing, IsEnding, Stands}
+use Rattle.mk_trace.specs.Growth.{Known, HasTasks}
+use Rattle.mk_trace.specs.Runs as run
+use Rattle.mk_trace.specs.Steps.{GoesOn}
 use Rattle.mk_driver.specs.declared.job.Job.{Job}
-use Rattle.mk_driver.specs.declared.result.Failure.{Failure}
-use Rattle.mk_driver.specs.declared.result.Failure.TheVariants.{JobFailed}
+use Rattle.mk_trace.specs.declared.result.Failure.{Failure}
+use Rattle.mk_trace.specs.declared.result.Failure.TheVariants.{JobFailed}
 use Rattle.mk_sched.proofs.DecideLemmas.{open_within}
 use Rattle.mk_driver.proofs.NodeLemmas.{fresh-but, fresh-set, get-open}
 use Rattle.mk_driver.proofs.StepLemmas.{running-take, running-apart, other_node}
@@ -42,12 +44,11 @@ next-poised : (work : Work) (known : Known) (nodes : List NodeState) (jobs : Lis
     → tasks n ≡ lines → known n ≡ Some lines → state.nodes ≡ nodes → 0 < number
     → run.fails (run.line_of (tasks n) number) status ≡ false
     → (nat_le (length lines) number || is_stopped (rules_of work) nodes) ≡ false
-    → AreRunning known state.started build.ticket jobs → build.failure ≡ failure
-    → build.doomed ≡ None → AreFresh nodes build.seen
+    → Stands known nodes jobs failure None None (with_run build state)
     → IsPoised work known nodes jobs failure n lines (number + 1) tasks
     (with_run build (run.end_line (rules_of work) tasks state n number status))
 next-poised work known nodes jobs failure n lines number status tasks build state token task knows are
-    some fine goes running failed doomed fresh =
+    some fine goes stands =
     let goes_now : (nat_le (length (tasks n)) number || is_stopped (rules_of work) state.nodes) ≡ false =
     rw (task, are) goes in
     let now : run.end_line (rules_of work) tasks state n number status
@@ -59,11 +60,13 @@ next-poised work known nodes jobs failure n lines number status tasks build stat
       nodes_are = ap (λ l. set l n Open) are ∙ set-open nodes n token;
       may = (refl, refl);
       reason = λ first. absurd (some_line number some first);
-      running = running;
-      failed = failed;
-      none_doomed = doomed;
       task = knows;
-      fresh = fresh;
+      stands = record {
+        running = stands.running;
+        failed = stands.failed;
+        doomed_is = stands.doomed_is;
+        fresh = stands.fresh;
+      };
     })
 
 -- behind the last line of a job, or where the job is cut off
@@ -73,12 +76,11 @@ next-settled : (work : Work) (known : Known) (nodes : List NodeState) (jobs : Li
     → tasks n ≡ lines → state.nodes ≡ nodes
     → run.fails (run.line_of (tasks n) number) status ≡ false
     → (nat_le (length lines) number || is_stopped (rules_of work) nodes) ≡ true
-    → AreRunning known state.started build.ticket jobs → build.failure ≡ failure
-    → build.doomed ≡ None → AreFresh nodes build.seen
+    → Stands known nodes jobs failure None None (with_run build state)
     → IsGoing known (set nodes n Settled) run.anything jobs failure tasks
     (with_run build (run.end_line (rules_of work) tasks state n number status))
 next-settled work known nodes jobs failure n lines number status tasks build state token task are fine
-    stops running failed doomed fresh =
+    stops stands =
     let stops_now : (nat_le (length (tasks n)) number || is_stopped (rules_of work) state.nodes) ≡ true =
     rw (task, are) stops in
     let now : run.end_line (rules_of work) tasks state n number status ≡ run.settle state n Settled =
@@ -88,11 +90,13 @@ next-settled work known nodes jobs failure n lines number status tasks build sta
     (record {
       nodes_are = ap (λ l. set l n Settled) are;
       due_is = refl;
-      running = running;
-      failed = failed;
-      none_doomed = doomed;
-      fresh = fresh-set nodes build.seen n Settled (open_within nodes n token) (λ is. cc)
-          (fresh-but nodes build.seen n fresh);
+      stands = record {
+        running = stands.running;
+        failed = stands.failed;
+        doomed_is = stands.doomed_is;
+        fresh = fresh-set nodes build.seen n Settled (open_within nodes n token) (λ is. cc)
+            (fresh-but nodes build.seen n stands.fresh);
+      };
     })
 
 -- an empty line began and ended
@@ -113,16 +117,20 @@ go_on-passes work known nodes jobs failure n lines number one tasks build has ap
     let state = run.start_line tasks build.run n number in
     let closes : state.due ≡ run.close n number = rw childless refl in
     let fine : run.fails (run.line_of (tasks n) number) 0 ≡ false = refl in
-    let running = running-apart known known build.run.started state.started build.ticket build.ticket n
-    jobs apart (λ k other. rw (other_node n k other) refl) (λ k other. refl) (λ k other. refl)
-    is.running in
+    let stands : Stands known nodes jobs failure None None (with_run build state) = record {
+      running = running-apart known known build.run.started state.started build.own build.own n jobs
+          apart (λ k other. (rw (other_node n k other) refl, refl, refl)) is.stands.running;
+      failed = is.stands.failed;
+      doomed_is = is.stands.doomed_is;
+      fresh = is.stands.fresh;
+    } in
     record {
       makes = (
         (
           is.may,
           (subst (run.MayEnd state n number 0) (sym closes) (refl, refl, refl), tt),
         ),
-        is.none_doomed,
+        is.stands.doomed_is,
         (λ first. subst (IsBegun work n (build.seen n)) (sym task) (is.reason first)),
         tt,
       );
@@ -132,14 +140,13 @@ go_on-passes work known nodes jobs failure n lines number one tasks build has ap
             grind (arith, nat_tests, common_steps) in
             next-poised work known nodes jobs failure n lines number 0 tasks
             build state token task is.task
-            is.nodes_are some fine (rw (last, goes) refl) running is.failed is.none_doomed
-            is.fresh),
+            is.nodes_are some fine (rw (last, goes) refl) stands),
         (λ none.
             let last : nat_le (length lines) number ≡ true =
             grind (arith, nat_tests, common_steps) in
             next-settled work known nodes jobs failure n lines number 0 tasks
             build state token task is.nodes_are fine
-            (rw last refl) running is.failed is.none_doomed is.fresh),
+            (rw last refl) stands),
       );
     }
 
@@ -157,7 +164,7 @@ pub go_on-ends : (work : Work) (known : Known) (nodes : List NodeState) (front b
 go_on-ends work known nodes front back failure job owner ended tasks build failed stops has token some
     same fails_is stops_is is =
     let n = job.node in
-    let run_of = running-take known build.run.started build.ticket front back job is.running in
+    let run_of = running-take known build.run.started build.own front back job is.stands.running in
     let task : tasks n ≡ job.task.lines = has n job.task.lines run_of.0.task in
     let fails_now : run.fails (run.line_of (tasks n) job.number) ended.status ≡ failed =
     rw task fails_is in
@@ -165,7 +172,7 @@ go_on-ends work known nodes front back failure job owner ended tasks build faile
     subst (run.MayEnd build.run n job.number ended.status) (sym is.due_is)
     (rw is.nodes_are (get-open nodes n token), run_of.0.number_is) in
     record {
-      makes = ((may, tt), is.none_doomed, run_of.0.ticket_is ∙ same, tt);
+      makes = ((may, tt), is.stands.doomed_is, run_of.0.ticket_is ∙ same, tt);
       stands = by failed stops fails_now stops_is;
     }
   where
@@ -173,7 +180,7 @@ go_on-ends work known nodes front back failure job owner ended tasks build faile
     after = record {
       run = run.end_line (rules_of work) tasks build.run job.node job.number ended.status;
       seen = build.seen;
-      ticket = build.ticket;
+      own = build.own;
       failure = if run.fails (run.line_of (tasks job.node) job.number) ended.status
           then or_next build.failure (Some (JobFailed job.node job.number ended.status))
           else build.failure;
@@ -181,8 +188,18 @@ go_on-ends work known nodes front back failure job owner ended tasks build faile
           && is_removed work job.node then Some job.node else None;
     }
 
-    runs : AreRunning known build.run.started build.ticket (front ++ back)
-    runs = (running-take known build.run.started build.ticket front back job is.running).1
+    runs : AreRunning known build.run.started build.own (front ++ back)
+    runs = (running-take known build.run.started build.own front back job is.stands.running).1
+
+    -- where the line does not fail
+    still : run.fails (run.line_of (tasks job.node) job.number) ended.status ≡ false
+        → Stands known nodes (front ++ back) failure None None (with_run after build.run)
+    still fails_now = record {
+      running = runs;
+      failed = rw fails_now is.stands.failed;
+      doomed_is = rw fails_now refl;
+      fresh = is.stands.fresh;
+    }
 
     by : (failed stops : Bool)
         → run.fails (run.line_of (tasks job.node) job.number) ended.status ≡ failed
@@ -196,28 +213,30 @@ go_on-ends work known nodes front back failure job owner ended tasks build faile
         record {
           nodes_are = ap (λ r. r.nodes) now ∙ ap (λ l. set l job.node Failed) is.nodes_are;
           due_is = ap (λ r. r.due) now;
-          running = subst (λ (r : run.State). AreRunning known r.started build.ticket (front ++ back))
-              (sym now) runs;
-          failed = rw fails_now (ap (λ f. or_next f (Some (JobFailed job.node job.number ended.status)))
-              is.failed);
-          doomed_is = rw fails_now refl;
-          fresh = fresh-set nodes build.seen job.node Failed
-              (open_within nodes job.node token) (λ is. cc)
-              (fresh-but nodes build.seen job.node is.fresh);
+          stands = record {
+            running = subst (λ (r : run.State). AreRunning known r.started build.own (front ++ back))
+                (sym now) runs;
+            failed = rw fails_now (ap (λ f. or_next f (Some (JobFailed job.node job.number ended.status)))
+                is.stands.failed);
+            doomed_is = rw fails_now refl;
+            fresh = fresh-set nodes build.seen job.node Failed
+                (open_within nodes job.node token) (λ is. cc)
+                (fresh-but nodes build.seen job.node is.stands.fresh);
+          };
         }
     by false true fails_now stops_now =
         let task : tasks job.node ≡ job.task.lines =
         has job.node job.task.lines
-        (running-take known build.run.started build.ticket front back job is.running).0.task in
+        (running-take known build.run.started build.own front back job is.stands.running).0.task in
         let settled = next-settled work known nodes (front ++ back) failure job.node job.task.lines
-        job.number ended.status tasks after build.run token task is.nodes_are fails_now stops_now runs
-        (rw fails_now is.failed) (rw fails_now refl) is.fresh in settled
+        job.number ended.status tasks after build.run token task is.nodes_are fails_now stops_now
+        (still fails_now) in settled
     by false false fails_now stops_now =
-        let mine = (running-take known build.run.started build.ticket front back job is.running).0 in
+        let mine = (running-take known build.run.started build.own front back job is.stands.running).0 in
         let task : tasks job.node ≡ job.task.lines = has job.node job.task.lines mine.task in
         next-poised work known nodes (front ++ back) failure job.node job.task.lines job.number
         ended.status tasks after build.run token task mine.task is.nodes_are some fails_now stops_now
-        runs (rw fails_now is.failed) (rw fails_now refl) is.fresh
+        (still fails_now)
 
 -- the target of a failed job was removed
 pub go_on-removes : (work : Work) (known : Known) (nodes : List NodeState) (jobs : List Job)
@@ -226,27 +245,15 @@ pub go_on-removes : (work : Work) (known : Known) (nodes : List NodeState) (jobs
     → GoesOn work tasks build (removes n (node_at work.plan n).name time ∷ [])
     (IsGoing known nodes run.anything jobs failure)
 go_on-removes work known nodes jobs failure n time tasks build is = record {
-  makes = (tt, is.doomed_is, refl, tt);
+  makes = (tt, is.stands.doomed_is, refl, tt);
   stands = record {
     nodes_are = is.nodes_are;
     due_is = is.due_is;
-    running = is.running;
-    failed = is.failed;
-    none_doomed = refl;
-    fresh = is.fresh;
+    stands = record {
+      running = is.stands.running;
+      failed = is.stands.failed;
+      doomed_is = refl;
+      fresh = is.stands.fresh;
+    };
   };
-}
-
--- or it is not to be removed
-pub going-failed : (known : Known) (nodes : List NodeState) (jobs : List Job)
-    (failure : Option Failure) (tasks : run.Tasks) (build : Build)
-    → IsFailing known nodes jobs failure None tasks build
-    → IsGoing known nodes run.anything jobs failure tasks build
-going-failed known nodes jobs failure tasks build is = record {
-  nodes_are = is.nodes_are;
-  due_is = is.due_is;
-  running = is.running;
-  failed = is.failed;
-  none_doomed = is.doomed_is;
-  fresh = is.fresh;
 }

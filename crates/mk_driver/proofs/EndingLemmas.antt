@@ -15,24 +15,26 @@ use Rattle.mk_world.specs.declared.command.Cmd.{Cmd}
 use Rattle.mk_world.specs.declared.command.TaskLine.{TaskLine}
 use Rattle.mk_world.specs.declared.history.History.{History}
 use Rattle.mk_world.specs.declared.step.Ended.{Ended}
-use Rattle.mk_driver.specs.Builds.{Work, Moment, Prints, command_of, is_removed, jobs_of, or_next, rules_of}
-use Rattle.mk_driver.specs.Calls.{Called, EndItem, GoneItem, NoItem, StartItem}
-use Rattle.mk_driver.specs.Items.{removes}
+use Rattle.mk_decision.specs.Decisions.{Work}
+use Rattle.mk_trace.specs.Builds.{Moment, Prints, command_of, is_removed, or_next, rules_of, moment}
+use Rattle.mk_decision.specs.Makers.{jobs_of}
+use Rattle.mk_trace.specs.Calls.{Called, EndItem, GoneItem, NoItem, StartItem}
+use Rattle.mk_trace.specs.Items.{removes}
 use Rattle.mk_driver.specs.Jobs.{FitsTogether, HasLine, HasToken, IsJobTaken}
-use Rattle.mk_driver.specs.Makers.{moment}
-use Rattle.mk_driver.specs.Output.{echo, last_behind, shown}
-use Rattle.mk_driver.specs.Progress.{Known, AreUnknown, SoFar, BehindAt, EndingAt, HaltedAt, IsEnding, IsFailing, IsGoing}
-use Rattle.mk_driver.specs.Runs as run
+use Rattle.mk_trace.specs.Output.{echo, last_behind, shown}
+use Rattle.mk_driver.specs.Progress.{AreUnknown, BehindAt, BehindOn, EndingAt, HaltedAt, IsEnding, IsFailing, IsGoing}
+use Rattle.mk_trace.specs.Growth.{Known, SoFar}
+use Rattle.mk_trace.specs.Runs as run
 use Rattle.mk_driver.specs.declared.course.Course.{Course}
-use Rattle.mk_driver.specs.declared.event.Event.{Event}
-use Rattle.mk_driver.specs.declared.event.Event.TheVariants as event
+use Rattle.mk_trace.specs.declared.event.Event.{Event}
+use Rattle.mk_trace.specs.declared.event.Event.TheVariants as event
 use Rattle.mk_driver.specs.declared.job.Job.{Job}
-use Rattle.mk_driver.specs.declared.result.Failure.{Failure}
-use Rattle.mk_driver.specs.declared.result.Failure.TheVariants.{JobFailed}
-use Rattle.mk_driver.specs.declared.result.Halt.{Halt}
-use Rattle.mk_driver.proofs.EndLemmas.{go_on-removes, going-failed}
-use Rattle.mk_driver.proofs.LineLemmas.{halted, so_far-ends, so_far-nothing, so_far-starts, so_far-waits, so_far-weaken}
-use Rattle.mk_driver.proofs.MakeLemmas.{silent, so_far-called}
+use Rattle.mk_trace.specs.declared.result.Failure.{Failure}
+use Rattle.mk_trace.specs.declared.result.Failure.TheVariants.{JobFailed}
+use Rattle.mk_driver.specs.declared.halt.Halt.{Halt}
+use Rattle.mk_driver.proofs.EndLemmas.{go_on-removes}
+use Rattle.mk_driver.proofs.LineLemmas.{halted, so_far-ends, so_far-starts, so_far-waits}
+use Rattle.mk_trace.proofs.MakeLemmas.{so_far-nothing, so_far-weaken, silent, so_far-called}
 use Rattle.mk_driver.proofs.NodeLemmas.{length-predecessors, next-waits, unknown-set}
 
 -- a child was waited for and taken in, and what its line prints was written
@@ -127,18 +129,6 @@ so_far-removes meaning work known nodes jobs failure n last first now next so ca
     append-none [] = refl
     append-none (one ∷ events) = ap (λ l. one ∷ l) (append-none events)
 
--- or it is not to be removed
-pub so_far-failed : (meaning : Meaning) (work : Work) (known : Known) (nodes : List NodeState)
-    (jobs : List Job) (failure : Option Failure) (last : Option ℕ) (first now : Moment)
-    → SoFar meaning work false first now last known (IsFailing known nodes jobs failure None)
-    → SoFar meaning work false first now last known
-    (IsGoing known nodes run.anything jobs failure)
-so_far-failed meaning work known nodes jobs failure last first now so =
-    so_far-weaken meaning work false first now last known known
-    (IsFailing known nodes jobs failure None) (IsGoing known nodes run.anything jobs failure) so
-    (λ tasks has. has)
-    (λ tasks build has is. going-failed known nodes jobs failure tasks build is)
-
 -- a build whose job has failed
 abbrev pub FailingAt : Meaning → Work → Option History → Course → Job → ℕ → Moment
     → Option (List ℕ) → Type 0
@@ -214,9 +204,7 @@ going-failed_at meaning work history course schedule failure job status first ou
     rw (schedule_is, failure_is) (
       f.0,
       unknown-set f.0 course.sched.nodes job.node Failed within (λ is. cc) f.1,
-      so_far-failed meaning work f.0 (set course.sched.nodes job.node Failed) course.jobs.items
-          (or_next course.failure (Some (JobFailed job.node job.number status)))
-          course.last_shown first (moment history out course.events) (rw doomed at f.2),
+      rw doomed at f.2,
     )
 
 -- the removal was refused
@@ -272,7 +260,7 @@ pub behind-ended : (meaning : Meaning) (work : Work) (history : Option History)
     → (nat_le (length job.task.lines) job.number || is_stopped (rules_of work) course.sched.nodes) ≡ false
     → job.number < length job.task.lines
     → EndingAt meaning work history course job status first out
-    → BehindAt meaning work history course course.events job.node job.task.lines job.number first out
+    → BehindAt meaning work history course course.events job first out
 behind-ended meaning work history course job status first out fails stops more at =
     let so : SoFar meaning work false first (moment history out course.events) course.last_shown at.0
     (IsEnding work at.0 course.sched.nodes course.jobs.items course.failure job.node job.task.lines
@@ -293,7 +281,7 @@ pub going-behind : (meaning : Meaning) (work : Work) (history : Option History)
     (done : ℕ) (first : Moment) (out : Option (List ℕ))
     → get_or course.sched.nodes n Undecided ≡ Open → length lines ≤ done
     → schedule ≡ with_node course.sched n Settled
-    → BehindAt meaning work history course events n lines done first out
+    → BehindOn meaning work history course events n lines done first out
     → GoingAs meaning work history course schedule events course.failure first out
 going-behind meaning work history course schedule events n lines done first out token none schedule_is
     at =
@@ -314,7 +302,7 @@ pub going-started : (meaning : Meaning) (work : Work) (history later : Option Hi
     → Called meaning history later (StartItem job.node job.number job.ticket 0 cmd)
     → events ≡ course.events ++ event.Start job.node job.number ∷ []
     → jobs ≡ course.jobs.items ++ job ∷ []
-    → BehindAt meaning work history course course.events job.node job.task.lines (job.number - 1) first
+    → BehindOn meaning work history course course.events job.node job.task.lines (job.number - 1) first
     out
     → (known : Known) × AreUnknown known course.sched.nodes
     × SoFar meaning work false first (moment later out events) course.last_shown known

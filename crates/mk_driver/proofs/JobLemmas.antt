@@ -15,10 +15,10 @@ use Rattle.mk_sched.specs.declared.sched.Next.TheVariants.{Decide}
 use Rattle.mk_sched.proofs.DecideLemmas.{decided, told_undecided, told_refused, told_settled, told_failed}
 use Rattle.mk_world.specs.Calls.{TakenOut}
 use Rattle.mk_world.specs.declared.command.TaskLine.{TaskLine}
-use Rattle.mk_driver.specs.Builds.{or_next}
+use Rattle.mk_trace.specs.Builds.{or_next}
 use Rattle.mk_driver.specs.Jobs.{AreApart, AreOpenJobs, FitsTogether, HasLine, HasToken, IsJobTaken, IsOpenJob, is_there, lines_left, tickets_of}
 use Rattle.mk_driver.specs.declared.job.Job.{Job}
-use Rattle.mk_driver.specs.declared.result.Failure.{Failure}
+use Rattle.mk_trace.specs.declared.result.Failure.{Failure}
 
 apart-take : (node : ℕ) (front back : List Job) (job : Job) → AreApart node (front ++ job ∷ back)
     → (job.node ≢ node) × AreApart node (front ++ back)

@@ -6,55 +6,33 @@ use Rattle.std.proofs.lemmas.List.{append-nil}
 use Rattle.mk_plan.specs.Deciding.{is_stopped, may_decide, open_jobs}
 use Rattle.mk_plan.specs.declared.plan.NodeState.{NodeState}
 use Rattle.mk_plan.specs.declared.plan.NodeState.TheVariants.{Undecided, Open}
-use Rattle.mk_world.specs.History.{State as Stand}
 use Rattle.mk_world.specs.Sinks.{Gains, GainsPart}
 use Rattle.mk_world.specs.Talks.{Meaning}
 use Rattle.mk_world.specs.declared.command.Cmd.{Cmd}
 use Rattle.mk_world.specs.declared.command.TaskLine.{TaskLine}
 use Rattle.mk_world.specs.declared.history.History.{History}
 use Rattle.mk_world.specs.declared.step.Ended.{Ended}
-use Rattle.mk_driver.specs.Builds.{Work, Build, Moment, Prints, command_of, job_of, rules_of}
-use Rattle.mk_driver.specs.Calls.{Called, NoItem, StartItem, EndItem}
-use Rattle.mk_driver.specs.Items.{Item, happened_all, FitsAll, starts, passes, waits, ends, reported_all, outputs_of}
+use Rattle.mk_decision.specs.Decisions.{Work}
+use Rattle.mk_trace.specs.Builds.{Moment, Prints, command_of, job_of, rules_of, moment}
+use Rattle.mk_trace.specs.Calls.{Called, StartItem, EndItem}
+use Rattle.mk_trace.specs.Items.{starts, passes, waits, ends}
 use Rattle.mk_driver.specs.Jobs.{HasLine, HasToken}
-use Rattle.mk_driver.specs.Makers.{moment}
-use Rattle.mk_driver.specs.Output.{Printed, printed_all, echo, shown, last_behind}
-use Rattle.mk_driver.specs.Progress.{Known, HasTasks, SoFar, Standing, IsGoing, IsPoised, IsBehind, IsEnding, HaltedAt, is_cut_by}
-use Rattle.mk_driver.specs.Runs as run
+use Rattle.mk_trace.specs.Output.{Printed, echo, shown, last_behind}
+use Rattle.mk_driver.specs.Progress.{IsGoing, IsPoised, IsBehind, IsEnding, HaltedAt}
+use Rattle.mk_driver.specs.Halts.{is_cut_by}
+use Rattle.mk_trace.specs.Growth.{Known, SoFar, Standing}
+use Rattle.mk_trace.specs.Runs as run
 use Rattle.mk_driver.specs.Scenes.{Scene, IsOpenScene, BehindIn, HaltedIn}
-use Rattle.mk_driver.specs.Steps.{GoesOn, PrintsOwn}
-use Rattle.mk_driver.specs.declared.event.Event.{Event}
-use Rattle.mk_driver.specs.declared.event.Event.TheVariants as event
+use Rattle.mk_trace.specs.Steps.{PrintsOwn}
+use Rattle.mk_trace.specs.declared.event.Event.{Event}
+use Rattle.mk_trace.specs.declared.event.Event.TheVariants as event
 use Rattle.mk_driver.specs.declared.job.Job.{Job}
-use Rattle.mk_driver.specs.declared.result.Failure.{Failure}
-use Rattle.mk_driver.specs.declared.result.Halt.{Halt}
-use Rattle.mk_driver.specs.declared.result.Halt.TheVariants as halts
+use Rattle.mk_trace.specs.declared.result.Failure.{Failure}
+use Rattle.mk_driver.specs.declared.halt.Halt.{Halt}
+use Rattle.mk_driver.specs.declared.halt.Halt.TheVariants as halts
 use Rattle.mk_driver.proofs.EndLemmas.{go_on-passes, go_on-ends}
-use Rattle.mk_driver.proofs.EventLemmas.{called-own}
-use Rattle.mk_driver.proofs.MakeLemmas.{silent, so_far-called}
+use Rattle.mk_trace.proofs.MakeLemmas.{silent, so_far-called, so_far-own}
 use Rattle.mk_driver.proofs.StepLemmas.{go_on-starts, go_on-waits, running-take}
-
--- what is so of a build, may be said less strongly
-pub so_far-weaken : (meaning : Meaning) (work : Work) (cut : Bool) (first now : Moment)
-    (last : Option ℕ) (known more : Known) (P Q : Standing)
-    → SoFar meaning work cut first now last known P
-    → ((tasks : run.Tasks) → HasTasks tasks more → HasTasks tasks known)
-    → ((tasks : run.Tasks) (build : Build) → HasTasks tasks more → P tasks build → Q tasks build)
-    → SoFar meaning work cut first now last more Q
-so_far-weaken meaning work cut first now last known more P Q so grow weaken = record {
-  items = so.items;
-  reported = so.reported;
-  told = so.told;
-  made = λ tasks has.
-      let made = so.made tasks (grow tasks has) in
-      record {
-        makes = made.makes;
-        printed = made.printed;
-        ended = made.ended;
-        last_is = made.last_is;
-        stands = weaken tasks _ has made.stands;
-      };
-}
 
 -- what was printed is a part of itself
 part-whole : (before after : Option (List ℕ)) (bytes : List ℕ) → Gains before after bytes
@@ -93,43 +71,6 @@ halted meaning work halt first history out events last known P so = (
         };
   },
 )
-
--- a call that added steps of children alone
-pub so_far-nothing : (meaning : Meaning) (work : Work) (first now next : Moment)
-    (last : Option ℕ) (known : Known) (P : Standing)
-    → SoFar meaning work false first now last known P
-    → Called meaning now.history next.history NoItem → next.events ≡ now.events
-    → next.out ≡ now.out → SoFar meaning work false first next last known P
-so_far-nothing meaning work first now next last known P so call events out =
-    so_far-called meaning work false first now next last last known known P P NoItem so call
-    (events ∙ rw call.is_own (sym (append-nil now.events))) (λ tasks has. has)
-    (λ tasks build has is. rw call.is_own (record { makes = tt; stands = is }))
-    (λ tasks build has is. rw call.is_own
-    (silent work tasks now next last [] out refl (λ outputs p. refl)))
-
--- items of the report alone, which print nothing
-pub so_far-own : (meaning : Meaning) (work : Work) (first now next : Moment)
-    (last : Option ℕ) (known more : Known) (P Q : Standing) (own : List Item)
-    → SoFar meaning work false first now last known P
-    → happened_all own ≡ [] → ((stand : Stand) → FitsAll meaning stand own) → outputs_of own ≡ []
-    → next.history ≡ now.history → next.events ≡ now.events ++ reported_all own
-    → next.out ≡ now.out → ((tasks : run.Tasks) → HasTasks tasks more → HasTasks tasks known)
-    → ((tasks : run.Tasks) (build : Build) → HasTasks tasks more
-    → P tasks build → GoesOn work tasks build own Q)
-    → ((tasks : run.Tasks) (build : Build) → HasTasks tasks more → P tasks build
-    → (outputs : List (List ℕ)) (p : Printed)
-    → printed_all (job_of work tasks) outputs p (reported_all own) ≡ p)
-    → SoFar meaning work false first next last more Q
-so_far-own meaning work first now next last known more P Q own so nothing fits none history events out
-    grow goes prints =
-    let call : Called meaning now.history next.history (λ items. items ≡ own) =
-    subst (λ h. Called meaning now.history h (λ items. items ≡ own)) (sym history)
-    (called-own meaning now.history own nothing fits) in
-    so_far-called meaning work false first now next last last known more P Q (λ items. items ≡ own) so
-    call (rw call.is_own events) grow
-    (λ tasks build has is. rw call.is_own (goes tasks build has is))
-    (λ tasks build has is. rw call.is_own
-    (silent work tasks now next last own out none (prints tasks build has is)))
 
 -- an empty line has no child
 no_child : (lines : List TaskLine) (number : ℕ) (one : TaskLine)
@@ -267,7 +208,7 @@ so_far-ends meaning work cut known nodes front back failure job one ended last f
     (λ tasks build has is. rw call.is_own.1
     (prints-end work tasks cut now next last job.node job.number call.is_own.0 job.task.lines one ended
     (has job.node job.task.lines
-    (running-take known build.run.started build.ticket front back job is.running).0.task) has_line
+    (running-take known build.run.started build.own front back job is.stands.running).0.task) has_line
     (grows tasks)))
 
 -- or it could not be told

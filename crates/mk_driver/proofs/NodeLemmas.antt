@@ -14,7 +14,8 @@ use Rattle.mk_plan.specs.declared.plan.PlanNode.{PlanNode}
 use Rattle.mk_sched.specs.Next.{next_by, next_of}
 use Rattle.mk_sched.specs.Schedule.{Schedule, predecessors}
 use Rattle.mk_sched.specs.declared.sched.Next.TheVariants.{Decide, Wait, Over}
-use Rattle.mk_driver.specs.Progress.{Known, AreFresh, AreFreshBut, AreUnknown, undecided}
+use Rattle.mk_driver.specs.Progress.{AreFreshBut, AreUnknown, undecided}
+use Rattle.mk_trace.specs.Growth.{Known}
 
 pub get-open : (nodes : List NodeState) (node : ℕ) → get_or nodes node Undecided ≡ Open
     → slice_get nodes node ≡ Some Open
@@ -50,13 +51,17 @@ other-undecided nodes n node stands within decided is = elim (cases_eq node n) [
 
 pub fresh-set : (nodes : List NodeState) (seen : ℕ → List Seen) (n : ℕ)
     (stands : NodeState) → n < length nodes → (stands ≡ Undecided → ⊥)
-    → AreFreshBut n nodes seen → AreFresh (set nodes n stands) seen
-fresh-set nodes seen n stands within decided fresh node is =
-    let parts = other-undecided nodes n node stands within decided is in fresh node parts.0 parts.1
+    → AreFreshBut (Some n) nodes seen → AreFreshBut None (set nodes n stands) seen
+fresh-set nodes seen n stands within decided fresh node none is =
+    let parts = other-undecided nodes n node stands within decided is in
+    fresh node (λ same. parts.0 (sym (same-node n node same))) parts.1
+  where
+    same-node : (a b : ℕ) → Some a ≡ Some b → a ≡ b
+    same-node a b is = cc
 
 pub fresh-but : (nodes : List NodeState) (seen : ℕ → List Seen) (n : ℕ)
-    → AreFresh nodes seen → AreFreshBut n nodes seen
-fresh-but nodes seen n fresh node other is = fresh node is
+    → AreFreshBut None nodes seen → AreFreshBut (Some n) nodes seen
+fresh-but nodes seen n fresh node other is = fresh node (λ none. cc) is
 
 pub unknown-set : (known : Known) (nodes : List NodeState) (n : ℕ) (stands : NodeState)
     → n < length nodes → (stands ≡ Undecided → ⊥) → AreUnknown known nodes

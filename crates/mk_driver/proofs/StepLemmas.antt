@@ -1,10 +1,9 @@
 -- How each kind of item leaves a build.
 use Rattle.std.proofs.Common.{◌≡◌, ◌≢◌, ◌∙◌, ℕ, ◌<◌, ◌≤◌, ◌==◌, List, [], ◌∷◌, ◌++◌, length, get_or, set, Option, Some, None, true, false, if◌then◌else◌}
-use Rattle.std.proofs.Common.{inl, inr, refl, sym, ap, subst, append_assoc, arith}
+use Rattle.std.proofs.Common.{inl, inr, refl, sym, ap, subst, arith}
 use Rattle.std.proofs.lemmas.Grind.{common_steps}
 use Rattle.std.proofs.lemmas.Bool.Decides.{nat_tests}
 use Rattle.std.proofs.lemmas.Bool.{cases_eq}
-use Rattle.std.proofs.lemmas.List.{append-nil}
 use Rattle.mk_expand.specs.declared.fault.ExpandFault.{ExpandFault}
 use Rattle.mk_plan.specs.Asking.{Seen}
 use Rattle.mk_plan.specs.Deciding.{may_decide, open_jobs}
@@ -12,16 +11,17 @@ use Rattle.mk_plan.specs.declared.plan.NodeState.{NodeState}
 use Rattle.mk_plan.specs.declared.plan.NodeState.TheVariants.{Undecided, Open, Settled, Failed}
 use Rattle.mk_world.specs.declared.command.Cmd.{Cmd}
 use Rattle.mk_world.specs.declared.command.TaskLine.{TaskLine}
-use Rattle.mk_driver.specs.Builds.{Work, Build, rules_of, build_after, build_after_all, or_next, IsKept, IsBegun, IsRefused, IsCommandOf, command_of}
-use Rattle.mk_driver.specs.Calls.{AreLooks}
-use Rattle.mk_driver.specs.Items.{Item, looks, keeps, refuses, starts, passes, waits, steps, ends, removes, leaves}
+use Rattle.mk_decision.specs.Decisions.{Work, IsKept, IsBegun, IsRefused}
+use Rattle.mk_trace.specs.Builds.{Build, Own, rules_of, build_after, or_next, IsCommandOf, command_of}
+use Rattle.mk_trace.specs.Items.{looks, keeps, refuses, starts, waits}
 use Rattle.mk_driver.specs.Jobs.{AreApart, HasLine}
-use Rattle.mk_driver.specs.Progress.{Known, HasTasks, AreRunning, IsGoing, IsSeen, IsPoised, IsBehind, IsRunning}
-use Rattle.mk_driver.specs.Runs as run
-use Rattle.mk_driver.specs.Steps.{GoesOn}
+use Rattle.mk_driver.specs.Progress.{AreRunning, IsGoing, IsSeen, IsPoised, IsBehind, IsRunning}
+use Rattle.mk_trace.specs.Growth.{Known, HasTasks}
+use Rattle.mk_trace.specs.Runs as run
+use Rattle.mk_trace.specs.Steps.{GoesOn}
 use Rattle.mk_driver.specs.declared.job.Job.{Job}
-use Rattle.mk_driver.specs.declared.result.Failure.{Failure}
-use Rattle.mk_driver.specs.declared.result.Failure.TheVariants.{Expand}
+use Rattle.mk_trace.specs.declared.result.Failure.{Failure}
+use Rattle.mk_trace.specs.declared.result.Failure.TheVariants.{Expand}
 use Rattle.mk_driver.proofs.NodeLemmas.{fresh-but, fresh-set}
 
 pub same_node : (n : ℕ) → (n == n) ≡ true
@@ -30,38 +30,40 @@ same_node n = grind (arith, nat_tests, common_steps)
 pub other_node : (n node : ℕ) → node ≢ n → (node == n) ≡ false
 other_node n node other = grind (arith, nat_tests, common_steps)
 
+-- the same is kept of the jobs of all nodes but one
+abbrev pub AgreeBut : ℕ → Known → Known → (ℕ → ℕ) → (ℕ → ℕ) → (ℕ → Own) → (ℕ → Own) → Type 0
+AgreeBut n known more started now_started own now_own = (one : ℕ) → one ≢ n
+    → (now_started one ≡ started one) × (now_own one ≡ own one) × (more one ≡ known one)
+
 -- jobs of other nodes run as before
-pub running-apart : (known more : Known) (started now_started ticket now_ticket : ℕ → ℕ)
+pub running-apart : (known more : Known) (started now_started : ℕ → ℕ) (own now_own : ℕ → Own)
     (n : ℕ) (jobs : List Job) → AreApart n jobs
-    → ((one : ℕ) → one ≢ n → now_started one ≡ started one)
-    → ((one : ℕ) → one ≢ n → now_ticket one ≡ ticket one)
-    → ((one : ℕ) → one ≢ n → more one ≡ known one)
-    → AreRunning known started ticket jobs → AreRunning more now_started now_ticket jobs
-running-apart known more started now_started ticket now_ticket n [] apart begins tickets tasks are = tt
-running-apart known more started now_started ticket now_ticket n (job ∷ jobs) apart begins tickets tasks
-    are = (
+    → AgreeBut n known more started now_started own now_own
+    → AreRunning known started own jobs → AreRunning more now_started now_own jobs
+running-apart known more started now_started own now_own n [] apart agree are = tt
+running-apart known more started now_started own now_own n (job ∷ jobs) apart agree are =
+    let same = agree job.node apart.0 in (
       record {
-        number_is = begins job.node apart.0 ∙ are.0.number_is;
-        ticket_is = tickets job.node apart.0 ∙ are.0.ticket_is;
-        task = tasks job.node apart.0 ∙ are.0.task;
+        number_is = same.0 ∙ are.0.number_is;
+        ticket_is = ap (λ (o : Own). o.ticket) same.1 ∙ are.0.ticket_is;
+        task = same.2 ∙ are.0.task;
       },
-      running-apart known more started now_started ticket now_ticket n jobs apart.1 begins tickets tasks
-          are.1,
+      running-apart known more started now_started own now_own n jobs apart.1 agree are.1,
     )
 
-pub running-take : (known : Known) (started ticket : ℕ → ℕ) (front back : List Job) (job : Job)
-    → AreRunning known started ticket (front ++ job ∷ back)
-    → IsRunning known started ticket job × AreRunning known started ticket (front ++ back)
-running-take known started ticket [] back job are = are
-running-take known started ticket (first ∷ front) back job are =
-    let more = running-take known started ticket front back job are.1 in (more.0, (are.0, more.1))
+pub running-take : (known : Known) (started : ℕ → ℕ) (own : ℕ → Own) (front back : List Job) (job : Job)
+    → AreRunning known started own (front ++ job ∷ back)
+    → IsRunning known started own job × AreRunning known started own (front ++ back)
+running-take known started own [] back job are = are
+running-take known started own (first ∷ front) back job are =
+    let more = running-take known started own front back job are.1 in (more.0, (are.0, more.1))
 
-pub running-add : (known : Known) (started ticket : ℕ → ℕ) (jobs : List Job) (job : Job)
-    → AreRunning known started ticket jobs → IsRunning known started ticket job
-    → AreRunning known started ticket (jobs ++ job ∷ [])
-running-add known started ticket [] job are is = (is, tt)
-running-add known started ticket (first ∷ jobs) job are is =
-    (are.0, running-add known started ticket jobs job are.1 is)
+pub running-add : (known : Known) (started : ℕ → ℕ) (own : ℕ → Own) (jobs : List Job) (job : Job)
+    → AreRunning known started own jobs → IsRunning known started own job
+    → AreRunning known started own (jobs ++ job ∷ [])
+running-add known started own [] job are is = (is, tt)
+running-add known started own (first ∷ jobs) job are is =
+    (are.0, running-add known started own jobs job are.1 is)
 
 -- nothing is seen of a node that is undecided
 pub seen-nothing : (known : Known) (nodes : List NodeState) (jobs : List Job)
@@ -72,11 +74,13 @@ pub seen-nothing : (known : Known) (nodes : List NodeState) (jobs : List Job)
 seen-nothing known nodes jobs failure n tasks build undecided is = record {
   nodes_are = is.nodes_are;
   due_is = is.due_is;
-  running = is.running;
-  failed = is.failed;
-  none_doomed = is.none_doomed;
-  now = is.fresh n undecided;
-  fresh = fresh-but nodes build.seen n is.fresh;
+  stands = record {
+    running = is.stands.running;
+    failed = is.stands.failed;
+    doomed_is = is.stands.doomed_is;
+    fresh = fresh-but nodes build.seen n is.stands.fresh;
+  };
+  now = is.stands.fresh n (λ none. cc) undecided;
 }
 
 -- one look more
@@ -88,74 +92,27 @@ seen-one : (work : Work) (known : Known) (nodes : List NodeState) (jobs : List J
 seen-one work known nodes jobs failure n tasks build seen one is = record {
   nodes_are = is.nodes_are;
   due_is = is.due_is;
-  running = is.running;
-  failed = is.failed;
-  none_doomed = is.none_doomed;
+  stands = record {
+    running = is.stands.running;
+    failed = is.stands.failed;
+    doomed_is = is.stands.doomed_is;
+    fresh = λ node other undecided.
+        rw (other_node n node (λ same. other (ap (λ k. Some k) (sym same))))
+        (is.stands.fresh node other undecided);
+  };
   now = rw (same_node n, is.now) refl;
-  fresh = λ node other undecided. rw (other_node n node other) (is.fresh node other undecided);
 }
 
 pub go_on-looks : (work : Work) (known : Known) (nodes : List NodeState) (jobs : List Job)
-    (failure : Option Failure) (n : ℕ) (tasks : run.Tasks) (items : List Item) (more : List Seen)
-    → may_decide (rules_of work) nodes ≡ Some n
-    → AreLooks n more items → (build : Build) (seen : List Seen)
+    (failure : Option Failure) (n : ℕ) (tasks : run.Tasks) (one : Seen)
+    → may_decide (rules_of work) nodes ≡ Some n → (build : Build) (seen : List Seen)
     → IsSeen known nodes jobs failure n seen tasks build
-    → GoesOn work tasks build items (IsSeen known nodes jobs failure n (seen ++ more))
-go_on-looks work known nodes jobs failure n tasks [] more may are build seen is = record {
-  makes = tt;
-  stands = rw (are, append-nil seen) is;
+    → GoesOn work tasks build (looks n one.path one.when ∷ [])
+    (IsSeen known nodes jobs failure n (seen ++ one ∷ []))
+go_on-looks work known nodes jobs failure n tasks one may build seen is = record {
+  makes = (tt, is.stands.doomed_is, (is.due_is, rw is.nodes_are may), tt);
+  stands = seen-one work known nodes jobs failure n tasks build seen one is;
 }
-go_on-looks work known nodes jobs failure n tasks (looks node path when ∷ items) more may are build
-    seen is =
-    let one : Seen = record { path = path; when = when } in
-    let now = seen-one work known nodes jobs failure n tasks build seen one is in
-    let here : build_after work tasks build (looks node path when)
-    ≡ build_after work tasks build (looks n path when) =
-    ap (λ k. build_after work tasks build (looks k path when)) are.2 in
-    let rest = go_on-looks work known nodes jobs failure n tasks items are.0 may are.3
-    (build_after work tasks build (looks node path when)) (seen ++ one ∷ [])
-    (subst (IsSeen known nodes jobs failure n (seen ++ one ∷ []) tasks) (sym here) now) in
-    record {
-      makes = (
-        tt,
-        is.none_doomed,
-        (is.due_is, rw (are.2, is.nodes_are) may),
-        rest.makes,
-      );
-      stands = subst (λ l. IsSeen known nodes jobs failure n l tasks
-          (build_after_all work tasks build (looks node path when ∷ items)))
-          (append_assoc seen (one ∷ []) are.0 ∙ ap (λ l. seen ++ l) (sym are.1)) rest.stands;
-    }
-go_on-looks work known nodes jobs failure n tasks (steps ticket owner deed time ∷ items) more may are
-    build seen is =
-    let rest = go_on-looks work known nodes jobs failure n tasks items more may are
-    (build_after work tasks build (steps ticket owner deed time)) seen
-    (record {
-      nodes_are = is.nodes_are;
-      due_is = is.due_is;
-      running = is.running;
-      failed = is.failed;
-      none_doomed = is.none_doomed;
-      now = is.now;
-      fresh = is.fresh;
-    }) in
-    record { makes = (tt, tt, tt, rest.makes); stands = rest.stands }
-go_on-looks work known nodes jobs failure n tasks (keeps node ∷ items) more may are build seen is =
-    absurd are
-go_on-looks work known nodes jobs failure n tasks (refuses node number what ∷ items) more may are
-    build seen is = absurd are
-go_on-looks work known nodes jobs failure n tasks (starts node number ticket owner cmd ∷ items) more
-    may are build seen is = absurd are
-go_on-looks work known nodes jobs failure n tasks (passes node number ∷ items) more may are build
-    seen is = absurd are
-go_on-looks work known nodes jobs failure n tasks (waits ∷ items) more may are build seen is =
-    absurd are
-go_on-looks work known nodes jobs failure n tasks (ends node number owner ended ∷ items) more may
-    are build seen is = absurd are
-go_on-looks work known nodes jobs failure n tasks (removes node path time ∷ items) more may are
-    build seen is = absurd are
-go_on-looks work known nodes jobs failure n tasks (leaves ticket owner ∷ items) more may are build
-    seen is = absurd are
 
 -- the task of one more node is known
 abbrev pub with_task : Known → ℕ → List TaskLine → Known
@@ -185,7 +142,7 @@ go_on-keeps work known nodes jobs failure n lines tasks seen build within may ap
     let task : tasks n ≡ lines = has n lines mine in record {
       makes = (
         ((is.due_is, rw is.nodes_are may), tt),
-        is.none_doomed,
+        is.stands.doomed_is,
         subst (λ l. IsKept work n l (tasks n)) (sym is.now)
             (subst (IsKept work n seen) (sym task) kept),
         tt,
@@ -193,12 +150,14 @@ go_on-keeps work known nodes jobs failure n lines tasks seen build within may ap
       stands = record {
         nodes_are = ap (λ l. set l n Settled) is.nodes_are;
         due_is = refl;
-        running = running-apart known (with_task known n lines) build.run.started
-            build.run.started build.ticket build.ticket n jobs apart (λ one other. refl)
-            (λ one other. refl) (λ one other. rw (other_node n one other) refl) is.running;
-        failed = is.failed;
-        none_doomed = is.none_doomed;
-        fresh = fresh-set nodes build.seen n Settled within (λ is. cc) is.fresh;
+        stands = record {
+          running = running-apart known (with_task known n lines) build.run.started
+              build.run.started build.own build.own n jobs apart
+              (λ one other. (refl, refl, rw (other_node n one other) refl)) is.stands.running;
+          failed = is.stands.failed;
+          doomed_is = is.stands.doomed_is;
+          fresh = fresh-set nodes build.seen n Settled within (λ is. cc) is.stands.fresh;
+        };
       };
     }
 
@@ -215,17 +174,19 @@ go_on-refuses work known nodes jobs failure n number what tasks seen build withi
     record {
       makes = (
         ((is.due_is, rw is.nodes_are may), tt),
-        is.none_doomed,
+        is.stands.doomed_is,
         subst (λ l. IsRefused work n l number what) (sym is.now) refused,
         tt,
       );
       stands = record {
         nodes_are = ap (λ l. set l n Failed) is.nodes_are;
         due_is = refl;
-        running = is.running;
-        failed = ap (λ f. or_next f (Some (Expand n number what))) is.failed;
-        none_doomed = is.none_doomed;
-        fresh = fresh-set nodes build.seen n Failed within (λ is. cc) is.fresh;
+        stands = record {
+          running = is.stands.running;
+          failed = ap (λ f. or_next f (Some (Expand n number what))) is.stands.failed;
+          doomed_is = is.stands.doomed_is;
+          fresh = fresh-set nodes build.seen n Failed within (λ is. cc) is.stands.fresh;
+        };
       };
     }
 
@@ -246,13 +207,15 @@ behind-begun work known nodes jobs failure n lines tasks seen build within may a
         may = subst (run.MayStart (rules_of work) tasks build.run n 1) (sym is.due_is)
             (rw is.nodes_are may, refl, rw task some);
         reason = λ first. subst (λ l. IsBegun work n l lines) (sym is.now) begun;
-        running = running-apart known (with_task known n lines) build.run.started
-            build.run.started build.ticket build.ticket n jobs apart (λ one other. refl)
-            (λ one other. refl) (λ one other. rw (other_node n one other) refl) is.running;
-        failed = is.failed;
-        none_doomed = is.none_doomed;
         task = mine;
-        fresh = fresh-set nodes build.seen n Open within (λ is. cc) is.fresh;
+        stands = record {
+          running = running-apart known (with_task known n lines) build.run.started
+              build.run.started build.own build.own n jobs apart
+              (λ one other. (refl, refl, rw (other_node n one other) refl)) is.stands.running;
+          failed = is.stands.failed;
+          doomed_is = is.stands.doomed_is;
+          fresh = fresh-set nodes build.seen n Open within (λ is. cc) is.stands.fresh;
+        };
       }),
       (λ none. absurd (none_left (length lines) some none)),
     )
@@ -275,11 +238,11 @@ go_on-starts work known nodes jobs failure job one cmd tasks build has apart is 
     let child : run.has_child (run.line_of (tasks n) job.number) ≡ true =
     rw (line_is, line.child) refl in
     let begun_now : ℕ → ℕ = λ k. if k == n then job.number else build.run.started k in
-    let tickets_now : ℕ → ℕ = λ k. if k == n then job.ticket else build.ticket k in
+    let own_now : ℕ → Own = λ k. if k == n then record { ticket = job.ticket } else build.own k in
     record {
       makes = (
         (is.may, tt),
-        is.none_doomed,
+        is.stands.doomed_is,
         (
           (λ first. subst (IsBegun work n (build.seen n)) (sym task) (is.reason first)),
           subst (λ l. IsCommandOf work l cmd) (sym line_is) (line.child, command),
@@ -290,18 +253,23 @@ go_on-starts work known nodes jobs failure job one cmd tasks build has apart is 
       stands = record {
         nodes_are = is.nodes_are;
         due_is = rw child refl;
-        running = running-add known begun_now tickets_now jobs job
-            (running-apart known known build.run.started begun_now build.ticket tickets_now n jobs
-            apart (λ k other. rw (other_node n k other) refl)
-            (λ k other. rw (other_node n k other) refl) (λ k other. refl) is.running)
-            (record {
-              number_is = rw (same_node n) refl;
-              ticket_is = rw (same_node n) refl;
-              task = is.task;
-            });
-        failed = is.failed;
-        none_doomed = is.none_doomed;
-        fresh = is.fresh;
+        stands = record {
+          running = running-add known begun_now own_now jobs job
+              (running-apart known known build.run.started begun_now build.own own_now n jobs apart
+              (λ k other. (
+                rw (other_node n k other) refl,
+                rw (other_node n k other) refl,
+                refl,
+              )) is.stands.running)
+              (record {
+                number_is = rw (same_node n) refl;
+                ticket_is = rw (same_node n) refl;
+                task = is.task;
+              });
+          failed = is.stands.failed;
+          doomed_is = is.stands.doomed_is;
+          fresh = is.stands.fresh;
+        };
       };
     }
 
@@ -314,16 +282,18 @@ pub go_on-waits : (work : Work) (known : Known) (nodes : List NodeState) (jobs :
 go_on-waits work known nodes jobs failure tasks build none some is = record {
   makes = (
     ((is.due_is, rw is.nodes_are none, rw is.nodes_are some), tt),
-    is.none_doomed,
+    is.stands.doomed_is,
     tt,
     tt,
   );
   stands = record {
     nodes_are = is.nodes_are;
     due_is = refl;
-    running = is.running;
-    failed = is.failed;
-    none_doomed = is.none_doomed;
-    fresh = is.fresh;
+    stands = record {
+      running = is.stands.running;
+      failed = is.stands.failed;
+      doomed_is = is.stands.doomed_is;
+      fresh = is.stands.fresh;
+    };
   };
 }

@@ -7,12 +7,16 @@ use Rattle.mk_sched.specs.Counts.{times}
 use Rattle.mk_sched.specs.Kept.{AreTold}
 use Rattle.mk_sched.specs.Schedule.{Schedule}
 use Rattle.mk_world.specs.declared.command.TaskLine.{TaskLine}
-use Rattle.mk_driver.specs.Runs.{line_of, is_empty}
+use Rattle.mk_trace.specs.Runs.{line_of, is_empty}
 use Rattle.mk_driver.specs.declared.job.Job.{Job}
-use Rattle.mk_driver.specs.declared.result.Failure.{Failure}
+use Rattle.mk_trace.specs.declared.result.Failure.{Failure}
 
 abbrev pub tickets_of : List Job → List ℕ
 tickets_of jobs = map (λ (job : Job). job.ticket) jobs
+
+-- a job whose child runs under this ticket
+abbrev pub with_ticket : Job → ℕ → Job
+with_ticket job ticket = record job { ticket = ticket }
 
 -- the line with a child at this number of a task
 pub record HasLine (lines : List TaskLine) (number : ℕ) (one : TaskLine) : Type 0 where

@@ -6,95 +6,70 @@ use Rattle.mk_plan.specs.declared.plan.NodeState.TheVariants.{Undecided, Open, S
 use Rattle.mk_plan.specs.declared.plan.PlanNode.{PlanNode}
 use Rattle.mk_sched.specs.Schedule.{none_decided, schedule_of}
 use Rattle.mk_world.specs.Talks.{Meaning}
-use Rattle.mk_world.specs.Told.{Told}
 use Rattle.mk_world.specs.declared.command.TaskLine.{TaskLine}
 use Rattle.mk_world.specs.declared.history.History.{History}
 use Rattle.mk_plan.specs.Asking.{Seen}
-use Rattle.mk_driver.specs.Builds.{Work, Build, Moment, Makes, Prints, first_build, build_after_all, job_of, rules_of, or_next, is_removed, IsKept, IsBegun, IsRefused}
-use Rattle.mk_driver.specs.Items.{Item, reported_all, outputs_of, Happened}
+use Rattle.mk_decision.specs.Decisions.{Work, IsBegun}
+use Rattle.mk_trace.specs.Builds.{Build, Moment, Own, rules_of, or_next, is_removed, moment}
+use Rattle.mk_trace.specs.Ends.{StandsBy, is_cut}
+use Rattle.mk_trace.specs.Growth.{Known, SoFar, Standing}
+use Rattle.mk_driver.specs.Halts.{is_cut_by}
 use Rattle.mk_driver.specs.Jobs.{FitsTogether}
-use Rattle.mk_driver.specs.Makers.{moment}
-use Rattle.mk_driver.specs.Output.{Printed, printed_all, nothing_printed}
-use Rattle.mk_driver.specs.Runs as run
+use Rattle.mk_trace.specs.Runs as run
 use Rattle.mk_driver.specs.declared.course.Course.{Course}
-use Rattle.mk_driver.specs.declared.decision.Decision.{Decision}
-use Rattle.mk_driver.specs.declared.decision.Decision.TheVariants.{Keep, Refuse, Make}
-use Rattle.mk_driver.specs.declared.event.Event.{Event}
+use Rattle.mk_trace.specs.declared.event.Event.{Event}
 use Rattle.mk_driver.specs.declared.job.Job.{Job}
-use Rattle.mk_driver.specs.declared.result.BuildResult.{BuildResult}
-use Rattle.mk_driver.specs.declared.result.BuildResult.TheVariants as ended
-use Rattle.mk_driver.specs.declared.result.Failure.{Failure}
-use Rattle.mk_driver.specs.declared.result.Failure.TheVariants as failing
-use Rattle.mk_driver.specs.declared.result.Halt.{Halt}
-use Rattle.mk_driver.specs.declared.result.Halt.TheVariants as halt
-
--- the command lines of the nodes that are known so far
-abbrev pub Known : Type 0
-Known = ℕ → Option (List TaskLine)
-
-abbrev pub HasTasks : run.Tasks → Known → Type 0
-HasTasks tasks known =
-    (node : ℕ) (lines : List TaskLine) → known node ≡ Some lines → tasks node ≡ lines
-
-abbrev pub printed_by : Work → run.Tasks → List Item → Printed
-printed_by work tasks items =
-    printed_all (job_of work tasks) (outputs_of items) nothing_printed (reported_all items)
-
--- how a build stands, by the tasks
-abbrev pub Standing : Type 1
-Standing = run.Tasks → Build → Type 0
-
--- these items were made by the rules, were printed, and leave the build so
-pub record IsMade (work : Work) (tasks : run.Tasks) (cut : Bool) (first now : Moment)
-    (last : Option ℕ) (items : List Item) (Stands : Standing) : Type 0 where
-  pub makes : Makes work tasks (first_build work) items
-  pub printed : Prints cut first now (printed_by work tasks items).bytes
-  pub ended : (printed_by work tasks items).ended ≡ length (outputs_of items)
-  pub last_is : (printed_by work tasks items).last ≡ last
-  pub stands : Stands tasks (build_after_all work tasks (first_build work) items)
-
--- A build so far: its items, whatever the tasks of the nodes are that are not yet decided.
-pub record SoFar (meaning : Meaning) (work : Work) (cut : Bool) (first now : Moment)
-    (last : Option ℕ) (known : Known) (Stands : Standing) : Type 0 where
-  pub items : List Item
-  pub reported : now.events ≡ reported_all items
-  pub told : Told first.history now.history (Happened meaning items)
-  pub made : (tasks : run.Tasks) → HasTasks tasks known
-      → IsMade work tasks cut first now last items Stands
+use Rattle.mk_trace.specs.declared.result.BuildResult.{BuildResult}
+use Rattle.mk_trace.specs.declared.result.Failure.{Failure}
+use Rattle.mk_trace.specs.declared.result.Failure.TheVariants as failing
+use Rattle.mk_driver.specs.declared.halt.Halt.{Halt}
 
 -- the line of a job was started under its ticket
-pub record IsRunning (known : Known) (started ticket : ℕ → ℕ) (job : Job) : Type 0 where
+pub record IsRunning (known : Known) (started : ℕ → ℕ) (own : ℕ → Own) (job : Job) : Type 0 where
   pub number_is : started job.node ≡ job.number
-  pub ticket_is : ticket job.node ≡ job.ticket
+  pub ticket_is : (own job.node).ticket ≡ job.ticket
   pub task : known job.node ≡ Some job.task.lines
 
-abbrev pub AreRunning : Known → (ℕ → ℕ) → (ℕ → ℕ) → List Job → Type 0
-AreRunning known started ticket [] = Unit {0}
-AreRunning known started ticket (job ∷ jobs) =
-    IsRunning known started ticket job × AreRunning known started ticket jobs
+abbrev pub AreRunning : Known → (ℕ → ℕ) → (ℕ → Own) → List Job → Type 0
+AreRunning known started own [] = Unit {0}
+AreRunning known started own (job ∷ jobs) =
+    IsRunning known started own job × AreRunning known started own jobs
 
 -- nothing was seen of undecided nodes, but perhaps of one
-abbrev pub AreFreshBut : ℕ → List NodeState → (ℕ → List Seen) → Type 0
+abbrev pub AreFreshBut : Option ℕ → List NodeState → (ℕ → List Seen) → Type 0
 AreFreshBut but nodes seen =
-    (node : ℕ) → node ≢ but → get_or nodes node Failed ≡ Undecided → seen node ≡ []
-
-abbrev pub AreFresh : List NodeState → (ℕ → List Seen) → Type 0
-AreFresh nodes seen = (node : ℕ) → get_or nodes node Failed ≡ Undecided → seen node ≡ []
+    (node : ℕ) → but ≢ Some node → get_or nodes node Failed ≡ Undecided → seen node ≡ []
 
 -- the tasks of undecided nodes are not known
 abbrev pub AreUnknown : Known → List NodeState → Type 0
 AreUnknown known nodes = (node : ℕ) → get_or nodes node Failed ≡ Undecided → known node ≡ None
 
--- how a build stands between two events: the nodes, what has to follow, the jobs, and the first failure
-pub record IsGoing (known : Known) (nodes : List NodeState) (due : run.Due) (jobs : List Job)
-    (failure : Option Failure) (tasks : run.Tasks) (build : Build) : Type 0
+-- What holds between two calls, whatever has to follow: the children of these jobs run, this is the
+-- first failure, and of this node the target is to be removed next. Nothing was seen of undecided nodes,
+-- but perhaps of one.
+pub record Stands (known : Known) (nodes : List NodeState) (jobs : List Job)
+    (failure : Option Failure) (doomed but : Option ℕ) (build : Build) : Type 0
+  where
+    pub running : AreRunning known build.run.started build.own jobs
+    pub failed : build.failure ≡ failure
+    pub doomed_is : build.doomed ≡ doomed
+    pub fresh : AreFreshBut but nodes build.seen
+
+-- a build with these nodes, where this has to follow
+pub record IsAt (known : Known) (nodes : List NodeState) (due : run.Due) (jobs : List Job)
+    (failure : Option Failure) (doomed : Option ℕ) (tasks : run.Tasks) (build : Build) : Type 0
   where
     pub nodes_are : build.run.nodes ≡ nodes
     pub due_is : build.run.due ≡ due
-    pub running : AreRunning known build.run.started build.ticket jobs
-    pub failed : build.failure ≡ failure
-    pub none_doomed : build.doomed ≡ None
-    pub fresh : AreFresh nodes build.seen
+    pub stands : Stands known nodes jobs failure doomed None build
+
+-- no target is to be removed
+abbrev pub IsGoing : Known → List NodeState → run.Due → List Job → Option Failure → Standing
+IsGoing known nodes due jobs failure = IsAt known nodes due jobs failure None
+
+-- The line of a job has failed: the node has failed, and its target is to be removed or not.
+abbrev pub IsFailing : Known → List NodeState → List Job → Option Failure → Option ℕ → Standing
+IsFailing known nodes jobs failure doomed = IsAt known nodes run.anything jobs failure doomed
 
 -- this was seen of a node that may be decided
 pub record IsSeen (known : Known) (nodes : List NodeState) (jobs : List Job)
@@ -103,11 +78,8 @@ pub record IsSeen (known : Known) (nodes : List NodeState) (jobs : List Job)
   where
     pub nodes_are : build.run.nodes ≡ nodes
     pub due_is : build.run.due ≡ run.anything
-    pub running : AreRunning known build.run.started build.ticket jobs
-    pub failed : build.failure ≡ failure
-    pub none_doomed : build.doomed ≡ None
+    pub stands : Stands known nodes jobs failure None (Some n) build
     pub now : build.seen n ≡ seen
-    pub fresh : AreFreshBut n nodes build.seen
 
 -- A line of a node is the next to be started; the node has its token already.
 pub record IsPoised (work : Work) (known : Known) (nodes : List NodeState) (jobs : List Job)
@@ -117,11 +89,8 @@ pub record IsPoised (work : Work) (known : Known) (nodes : List NodeState) (jobs
     pub nodes_are : set build.run.nodes n Open ≡ nodes
     pub may : run.MayStart (rules_of work) tasks build.run n number build.run.due
     pub reason : number ≡ 1 → IsBegun work n (build.seen n) lines
-    pub running : AreRunning known build.run.started build.ticket jobs
-    pub failed : build.failure ≡ failure
-    pub none_doomed : build.doomed ≡ None
     pub task : known n ≡ Some lines
-    pub fresh : AreFresh nodes build.seen
+    pub stands : Stands known nodes jobs failure None None build
 
 -- behind so many lines of a node: the next one is poised, or the node is settled
 abbrev pub IsBehind : Work → Known → List NodeState → List Job → Option Failure → ℕ
@@ -131,17 +100,6 @@ IsBehind work known nodes jobs failure n lines done tasks build =
     → IsPoised work known nodes jobs failure n lines (done + 1) tasks build)
     × (length lines ≤ done
     → IsGoing known (set nodes n Settled) run.anything jobs failure tasks build)
-
--- The line of a job has failed: the node has failed, and its target is to be removed or not.
-pub record IsFailing (known : Known) (nodes : List NodeState) (jobs : List Job)
-    (failure : Option Failure) (doomed : Option ℕ) (tasks : run.Tasks) (build : Build) : Type 0
-  where
-    pub nodes_are : build.run.nodes ≡ nodes
-    pub due_is : build.run.due ≡ run.anything
-    pub running : AreRunning known build.run.started build.ticket jobs
-    pub failed : build.failure ≡ failure
-    pub doomed_is : build.doomed ≡ doomed
-    pub fresh : AreFresh nodes build.seen
 
 -- the end of a line: it fails, or else the job ends with it, or else the next line is poised
 abbrev pub IsEnding : Work → Known → List NodeState → List Job → Option Failure → ℕ
@@ -154,37 +112,6 @@ IsEnding work known nodes jobs failure n lines number status false true =
     IsGoing known (set nodes n Settled) run.anything jobs failure
 IsEnding work known nodes jobs failure n lines number status false false =
     IsPoised work known nodes jobs failure n lines (number + 1)
-
--- a build that is over: no event may follow, and the first failure is known
-pub record IsOver (work : Work) (failure : Option Failure) (build : Build) : Type 0 where
-  pub over : run.IsOver (rules_of work) build.run
-  pub failed : build.failure ≡ failure
-  pub none_doomed : build.doomed ≡ None
-
--- How a build stands at its end. It is over where the outside did not end it.
-abbrev pub StandsBy : Work → BuildResult → Build → Type 0
-StandsBy work ended.Done build = IsOver work None build
-StandsBy work (ended.JobFailed n number status) build =
-    IsOver work (Some (failing.JobFailed n number status)) build
-StandsBy work (ended.Expand n number what) build =
-    IsOver work (Some (failing.Expand n number what)) build
-StandsBy work ended.World build = Unit {0}
-StandsBy work ended.Sink build = Unit {0}
-StandsBy work ended.NoMemory build = Unit {0}
-
--- only a failed write cuts off what is printed
-abbrev pub is_cut : BuildResult → Bool
-is_cut ended.Sink = true
-is_cut ended.Done = false
-is_cut (ended.JobFailed n number status) = false
-is_cut (ended.Expand n number what) = false
-is_cut ended.World = false
-is_cut ended.NoMemory = false
-
-abbrev pub is_cut_by : Halt → Bool
-is_cut_by halt.World = false
-is_cut_by halt.Sink = true
-is_cut_by halt.NoMemory = false
 
 -- what the driver keeps fits together, with so many nodes that have a token and no child
 abbrev pub Fits : Work → Course → List ℕ → ℕ → ℕ → Type 0
@@ -211,13 +138,19 @@ SeenAt meaning work history course n seen first out =
     × SoFar meaning work false first (moment history out course.events) course.last_shown known
     (IsSeen known course.sched.nodes course.jobs.items course.failure n seen)
 
--- so many lines of a job have ended, and it has no child; the report has these events
-abbrev pub BehindAt : Meaning → Work → Option History → Course → List Event → ℕ → List TaskLine → ℕ
+-- so many lines of a node have ended, and it has no child; the report has these events
+abbrev pub BehindOn : Meaning → Work → Option History → Course → List Event → ℕ → List TaskLine → ℕ
     → Moment → Option (List ℕ) → Type 0
-BehindAt meaning work history course events n lines done first out =
+BehindOn meaning work history course events n lines done first out =
     (known : Known) × AreUnknown known course.sched.nodes
     × SoFar meaning work false first (moment history out events) course.last_shown known
     (IsBehind work known course.sched.nodes course.jobs.items course.failure n lines done)
+
+-- the lines of a job have ended up to the one with its number, and it has no child
+abbrev pub BehindAt : Meaning → Work → Option History → Course → List Event → Job → Moment
+    → Option (List ℕ) → Type 0
+BehindAt meaning work history course events job =
+    BehindOn meaning work history course events job.node job.task.lines job.number
 
 -- the line of a job that was taken out has ended
 abbrev pub EndingAt : Meaning → Work → Option History → Course → Job → ℕ → Moment
@@ -258,12 +191,6 @@ pub record IsFirstCourse (plan : List PlanNode) (jobs : ℕ) (keep_going : Bool)
 abbrev pub FromAny : (Moment → Option (List ℕ) → Type 0) → (Moment → Option (List ℕ) → Type 0)
     → Type 0
 FromAny Before Then = (first : Moment) (out : Option (List ℕ)) → Before first out → Then first out
-
--- how a node is decided, and why
-abbrev pub IsDecision : Work → ℕ → List Seen → Decision → Type 0
-IsDecision work node seen Keep = (lines : List TaskLine) × IsKept work node seen lines
-IsDecision work node seen (Refuse number what) = IsRefused work node seen number what
-IsDecision work node seen (Make task) = IsBegun work node seen task.lines × (0 < length task.lines)
 
 -- how many nodes are not decided
 abbrev pub undecided : List NodeState → ℕ

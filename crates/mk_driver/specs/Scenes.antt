@@ -3,12 +3,13 @@ use Rattle.std.specs.Prelude.{ℕ, List, Option}
 use Rattle.mk_world.specs.Talks.{Meaning}
 use Rattle.mk_world.specs.declared.command.TaskLine.{TaskLine}
 use Rattle.mk_world.specs.declared.history.History.{History}
-use Rattle.mk_driver.specs.Builds.{Work, Moment}
+use Rattle.mk_decision.specs.Decisions.{Work}
+use Rattle.mk_trace.specs.Builds.{Moment}
 use Rattle.mk_driver.specs.Jobs.{HasToken}
-use Rattle.mk_driver.specs.Progress.{BehindAt, HaltedAt, IsUnstopped}
+use Rattle.mk_driver.specs.Progress.{BehindOn, HaltedAt, IsUnstopped}
 use Rattle.mk_driver.specs.declared.course.Course.{Course}
-use Rattle.mk_driver.specs.declared.event.Event.{Event}
-use Rattle.mk_driver.specs.declared.result.Halt.TheVariants.{NoMemory}
+use Rattle.mk_trace.specs.declared.event.Event.{Event}
+use Rattle.mk_driver.specs.declared.halt.Halt.TheVariants.{NoMemory}
 
 -- what is built in which world, what the driver keeps beside its report, and what was printed
 pub record Scene : Type 0 where
@@ -26,7 +27,7 @@ pub record IsOpenScene (scene : Scene) (node : ℕ) : Type 0 where
 
 abbrev pub BehindIn : Scene → List Event → ℕ → List TaskLine → ℕ → Type 0
 BehindIn scene events node lines done =
-    BehindAt scene.meaning scene.work scene.history scene.course events node lines done scene.first
+    BehindOn scene.meaning scene.work scene.history scene.course events node lines done scene.first
     scene.out
 
 abbrev pub HaltedIn : Scene → List Event → Type 0

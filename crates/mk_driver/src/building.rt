@@ -1,39 +1,28 @@
 //! A whole build.
-ghost use Rattle.std.specs.Prelude.{◌≡◌, ◌<◌, ◌≤◌, ◌^◌, [], length, nat_lt, false, true, IfErr, IfOk, OnOk};
-ghost use Rattle.mk_driver.specs.Builds.{IsBuild, Moment, jobs_of};
-ghost use Rattle.mk_driver.specs.Ends.{EndsBy, result_of};
-ghost use Rattle.mk_driver.specs.Makers.{work_of, work_on, moment};
-ghost use Rattle.mk_driver.specs.Progress.{EndedAt, Fits, GoingAt, HaltedAt, IsFirstCourse, StandsBy, is_cut, undecided};
-ghost use Rattle.mk_driver.specs.declared.result.BuildResult.TheVariants as ended;
-ghost use Rattle.mk_driver.specs.declared.result.Halt.TheVariants as halts;
+ghost use Rattle.std.specs.Prelude.{◌≡◌, ◌<◌, ◌≤◌, ◌^◌, [], length, false, true, IfErr, IfOk, OnOk};
+ghost use Rattle.mk_trace.specs.Builds.{IsBuild, Moment, moment};
+ghost use Rattle.mk_trace.specs.Ends.{EndsBy, result_of, StandsBy, is_cut};
+ghost use Rattle.mk_decision.specs.Makers.{work_of, work_on};
+ghost use Rattle.mk_driver.specs.Progress.{EndedAt, Fits, GoingAt, HaltedAt, IsFirstCourse, undecided};
+ghost use Rattle.mk_trace.specs.declared.result.BuildResult.TheVariants as ended;
+ghost use Rattle.mk_driver.specs.declared.halt.Halt.TheVariants as halts;
 ghost use Rattle.mk_sched.specs.Next.{next_of};
 ghost use Rattle.mk_sched.specs.declared.sched.Next.TheVariants as next;
 ghost use Rattle.mk_world.specs.Causes.{HasCause};
 
 use crate::course::Course;
 use crate::ending::take_in;
-use crate::event::Events;
-use crate::maker::Maker;
+use crate::halt::Halt;
 use crate::node::decide;
-use crate::result::{BuildEnd, BuildResult, Failure, Halt};
 use mk_bytes::NoMemory;
+use mk_decision::{Maker, jobs_in};
 use mk_flags::Flags;
 use mk_graph::Made;
 use mk_plan::Plan;
 use mk_sched::{Next, Sched};
+use mk_trace::{BuildEnd, BuildResult, Events, Failure};
 use mk_world::{Kids, Sink, World};
 use std::alloc::Global;
-
-// How many jobs may be open at once.
-fn jobs_in(maker: &Maker) -> u32
-    ensures { result ≡ jobs_of (work_of maker.now) }
-{
-    if maker.made.mode.one_job {
-        1
-    } else {
-        maker.flags.jobs
-    }
-}
 
 // Takes in children up to the next node that may be decided, or up to the last one.
 fn take_in_ready<W: World, S: Sink>(
@@ -42,11 +31,9 @@ fn take_in_ready<W: World, S: Sink>(
     out: &mut S,
     kids: &mut Kids<W::Kid>,
     course: &mut Course,
-    many: bool,
 ) -> Result<(), Halt>
     requires exact { W.runs world.old kids.old.tickets }
     requires fits { Fits (work_of maker.now) course.old kids.old.tickets kids.old.room 0 }
-    requires many { many ≡ nat_lt 1 (jobs_of (work_of maker.now)) }
     ensures goes { OnOk result ((first : Moment)
         → GoingAt W.meaning (work_of maker.now) (W.history world.old) course.old first (S.held out.old)
         → GoingAt W.meaning (work_of maker.now) (W.history world.new) course.new first
@@ -64,7 +51,7 @@ fn take_in_ready<W: World, S: Sink>(
     ensures children { W.runs world.new kids.new.tickets }
 {
     'waits: while course.sched.next() == Next::Wait {
-        take_in(maker, world, out, kids, course, many)?;
+        take_in(maker, world, out, kids, course)?;
     }
     Ok(())
 }
@@ -77,11 +64,9 @@ fn make_next<W: World, S: Sink>(
     out: &mut S,
     kids: &mut Kids<W::Kid>,
     course: &mut Course,
-    many: bool,
 ) -> Result<bool, Halt>
     requires exact { W.runs world.old kids.old.tickets }
     requires fits { Fits (work_of maker.now) course.old kids.old.tickets kids.old.room 0 }
-    requires many { many ≡ nat_lt 1 (jobs_of (work_of maker.now)) }
     ensures goes { OnOk result ((first : Moment)
         → GoingAt W.meaning (work_of maker.now) (W.history world.old) course.old first (S.held out.old)
         → GoingAt W.meaning (work_of maker.now) (W.history world.new) course.new first
@@ -99,7 +84,7 @@ fn make_next<W: World, S: Sink>(
     ensures sink_cause { HasCause halts.Sink (S.faults out.old) (S.faults out.new) result }
     ensures children { W.runs world.new kids.new.tickets }
 {
-    take_in_ready(maker, world, out, kids, course, many)?;
+    take_in_ready(maker, world, out, kids, course)?;
     if let Next::Decide(node) = course.sched.next() {
         decide(maker, world, kids, course, node)?;
         return Ok(true);
@@ -114,11 +99,9 @@ fn make_all<W: World, S: Sink>(
     out: &mut S,
     kids: &mut Kids<W::Kid>,
     course: &mut Course,
-    many: bool,
 ) -> Result<(), Halt>
     requires exact { W.runs world.old kids.old.tickets }
     requires fits { Fits (work_of maker.now) course.old kids.old.tickets kids.old.room 0 }
-    requires many { many ≡ nat_lt 1 (jobs_of (work_of maker.now)) }
     ensures goes { OnOk result ((first : Moment)
         → GoingAt W.meaning (work_of maker.now) (W.history world.old) course.old first (S.held out.old)
         → GoingAt W.meaning (work_of maker.now) (W.history world.new) course.new first
@@ -133,7 +116,7 @@ fn make_all<W: World, S: Sink>(
     ensures sink_cause { HasCause halts.Sink (S.faults out.old) (S.faults out.new) result }
     ensures children { W.runs world.new kids.new.tickets }
 {
-    'nodes: while make_next(maker, world, out, kids, course, many)? {}
+    'nodes: while make_next(maker, world, out, kids, course)? {}
     Ok(())
 }
 
@@ -154,11 +137,9 @@ fn make_to_end<W: World, S: Sink>(
     out: &mut S,
     kids: &mut Kids<W::Kid>,
     course: &mut Course,
-    many: bool,
 ) -> BuildResult
     requires exact { W.runs world.old kids.old.tickets }
     requires fits { Fits (work_of maker.now) course.old kids.old.tickets kids.old.room 0 }
-    requires many { many ≡ nat_lt 1 (jobs_of (work_of maker.now)) }
     ensures ended { (first : Moment)
         → GoingAt W.meaning (work_of maker.now) (W.history world.old) course.old first (S.held out.old)
         → EndedAt W.meaning (work_of maker.now) result first
@@ -167,7 +148,7 @@ fn make_to_end<W: World, S: Sink>(
     ensures sink_cause { EndsBy ended.Sink (S.faults out.old) (S.faults out.new) result }
     ensures children { W.runs world.new kids.new.tickets }
 {
-    match make_all(maker, world, out, kids, course, many) {
+    match make_all(maker, world, out, kids, course) {
         Ok(()) => ended_by(course.failure.take()),
         Err(halt) => BuildResult::from(halt),
     }
@@ -258,7 +239,7 @@ pub fn build<W: World, S: Sink>(
         kids.finish();
         return no_memory(alloc);
     };
-    let result = make_to_end(&maker, world, out, &mut kids, &mut course, jobs > 1);
+    let result = make_to_end(&maker, world, out, &mut kids, &mut course);
     world.abandon(&mut kids);
     kids.finish();
     BuildEnd {

@@ -2,19 +2,19 @@
 ghost use Rattle.std.specs.Prelude.{◌≡◌, ◌⊎◌, ◌<◌, ℕ, [], ◌∷◌, ◌++◌, Option, Some, false, length, nat_eq, IsTrue, IfOk, OnOk, OnErr};
 ghost use Rattle.std.specs.List.{list_any};
 ghost use Rattle.mk_bytes.specs.Paths.{is_clean_directory};
-ghost use Rattle.mk_driver.specs.Calls.{Called, NoItem, StartItem, EndItem};
-ghost use Rattle.mk_driver.specs.Output as spec;
-ghost use Rattle.mk_driver.specs.Runs.{is_empty};
-ghost use Rattle.mk_driver.specs.declared.event.Event.TheVariants as event;
+ghost use Rattle.mk_trace.specs.Calls.{Called, NoItem, StartItem, EndItem};
+ghost use Rattle.mk_trace.specs.Output as spec;
+ghost use Rattle.mk_trace.specs.Runs.{is_empty};
+ghost use Rattle.mk_trace.specs.declared.event.Event.TheVariants as event;
 ghost use Rattle.mk_world.specs.Calls.{TakenOut};
 ghost use Rattle.mk_world.specs.Causes.{HasCause};
 ghost use Rattle.mk_world.specs.Sinks.{Gains, GainsPart};
 ghost use Rattle.mk_world.specs.declared.fault.SinkFault.TheVariants.{Failed as sink_failed};
 ghost use Rattle.mk_world.specs.declared.fault.WorldFault.TheVariants.{Failed as world_failed};
 
-use crate::event::{Event, Events};
 use mk_bytes::{Items, NoMemory, Text};
 use mk_plan::Plan;
+use mk_trace::{Event, Events};
 use mk_world::{
     Cmd, Ended, Kids, Sink, SinkFault, TaskLine, Ticket, Time, World, WorldFault, write_all,
 };

@@ -1,7 +1,10 @@
-use crate::event::Events;
+ghost use Rattle.std.specs.Prelude.{◌≡◌, nat_lt};
+ghost use Rattle.mk_decision.specs.Makers.{jobs_of, work_of};
+
 use crate::job::Job;
-use crate::result::Failure;
+use mk_decision::{Maker, jobs_in};
 use mk_sched::Sched;
+use mk_trace::{Events, Failure};
 
 /// How far a build has come.
 #[derive(Drop)]
@@ -16,4 +19,11 @@ pub struct Course<'p> {
     pub last_shown: Option<u32>,
     /// The first failure.
     pub failure: Option<Failure>,
+}
+
+/// Whether more jobs than one may be open at once.
+pub fn are_many(maker: &Maker) -> bool
+    ensures { result ≡ nat_lt 1 (jobs_of (work_of maker.now)) }
+{
+    jobs_in(maker) > 1
 }

@@ -1,12 +1,12 @@
 //! The ends of lines.
-ghost use Rattle.std.specs.Prelude.{◌≡◌, ◌<◌, ◌≤◌, ◌+◌, ◌-◌, ◌&&◌, ◌||◌, ℕ, nat_le, nat_lt, not, length, Option, List, Some, None, OnOk, IfOk, IfErr, true};
-ghost use Rattle.mk_driver.specs.Builds.{Moment, is_removed, jobs_of};
-ghost use Rattle.mk_driver.specs.Ends.{of_world};
+ghost use Rattle.std.specs.Prelude.{◌≡◌, ◌<◌, ◌≤◌, ◌+◌, ◌-◌, ◌&&◌, ◌||◌, ℕ, nat_le, not, length, Option, List, Some, None, OnOk, IfOk, IfErr, true};
+ghost use Rattle.mk_trace.specs.Builds.{Moment, is_removed};
+ghost use Rattle.mk_driver.specs.Halts.{of_world};
 ghost use Rattle.mk_driver.specs.Jobs.{HasLine, HasToken, is_there, lines_left};
-ghost use Rattle.mk_driver.specs.Makers.{work_of};
+ghost use Rattle.mk_decision.specs.Makers.{work_of};
 ghost use Rattle.mk_driver.specs.Progress.{EndingAt, Fits, FromAny, GoingAt, HaltedAt, undecided};
-ghost use Rattle.mk_driver.specs.Runs as run;
-ghost use Rattle.mk_driver.specs.declared.result.Halt.TheVariants as halts;
+ghost use Rattle.mk_trace.specs.Runs as run;
+ghost use Rattle.mk_driver.specs.declared.halt.Halt.TheVariants as halts;
 ghost use Rattle.mk_plan.specs.Deciding.{is_stopped};
 ghost use Rattle.mk_sched.specs.Next.{next_of};
 ghost use Rattle.mk_sched.specs.declared.sched.Next.TheVariants.{Wait as waits};
@@ -15,13 +15,13 @@ ghost use Rattle.mk_world.specs.declared.fault.WorldFault.TheVariants.{Failed as
 ghost use Rattle.mk_world.specs.declared.command.TaskLine.{TaskLine as Line};
 
 use crate::child::{print_end, wait_child};
-use crate::course::Course;
-use crate::event::Event;
+use crate::course::{Course, are_many};
+use crate::halt::{Halt, note_failure};
 use crate::job::{Job, line_at, line_fails, take_job};
 use crate::line::run_on;
-use crate::maker::Maker;
-use crate::result::{Failure, Halt, note_failure};
+use mk_decision::Maker;
 use mk_graph::Attr;
+use mk_trace::{Event, Failure};
 use mk_world::{Kids, Sink, Task, World, WorldFault};
 
 // Whether there was a failure, and the build stops at the first one.
@@ -113,17 +113,11 @@ fn end_line<W: World>(
     if line_fails(line_at(&job.task, job.number), status) {
         return fail_job(maker, world, course, &job, status);
     }
-    let Job {
-        ticket: _,
-        node,
-        number,
-        task,
-    } = job;
-    if ends_job(maker, &course.failure, number, &task) {
-        course.sched.ended(node, true);
+    if ends_job(maker, &course.failure, job.number, &job.task) {
+        course.sched.ended(job.node, true);
         return Ok(());
     }
-    run_on(maker, world, kids, course, node, task, number)
+    run_on(maker, world, kids, course, job)
 }
 
 /// Takes in the next child that ends, prints what its line has to print, and goes on with its job.
@@ -133,12 +127,10 @@ pub fn take_in<W: World, S: Sink>(
     out: &mut S,
     kids: &mut Kids<W::Kid>,
     course: &mut Course,
-    many: bool,
 ) -> Result<(), Halt>
     requires exact { W.runs world.old kids.old.tickets }
     requires fits { Fits (work_of maker.now) course.old kids.old.tickets kids.old.room 0 }
     requires wait { next_of course.old.sched ≡ waits }
-    requires many { many ≡ nat_lt 1 (jobs_of (work_of maker.now)) }
     ensures goes { OnOk result ((first : Moment)
         → GoingAt W.meaning (work_of maker.now) (W.history world.old) course.old first (S.held out.old)
         → GoingAt W.meaning (work_of maker.now) (W.history world.new) course.new first
@@ -163,7 +155,7 @@ pub fn take_in<W: World, S: Sink>(
     print_end(
         out,
         maker.plan,
-        many,
+        are_many(maker),
         &mut course.last_shown,
         job.node,
         line_at(&job.task, job.number),

@@ -2,7 +2,7 @@
 ghost use Rattle.std.specs.Prelude.{◌≡◌, ◌<◌, ◌+◌, ◌^◌, [], ◌∷◌, ◌++◌, Some, false, length, nat_eq, OnOk, OnErr};
 ghost use Rattle.std.specs.List.{list_any};
 ghost use Rattle.mk_driver.specs.Jobs.{HasLine, IsJobTaken, tickets_of};
-ghost use Rattle.mk_driver.specs.Runs.{fails, line_of};
+ghost use Rattle.mk_trace.specs.Runs.{fails, line_of};
 ghost use Rattle.mk_world.specs.declared.command.TaskLine.{TaskLine as Line};
 ghost use Rattle.mk_sched.specs.Counts.{times};
 

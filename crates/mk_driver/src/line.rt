@@ -1,23 +1,23 @@
 //! The lines of a job: empty ones are passed over, and for others children are started.
 ghost use Rattle.std.specs.Prelude.{◌≡◌, ◌<◌, ◌≤◌, ◌+◌, ◌-◌, ◌^◌, ℕ, [], ◌∷◌, ◌++◌, Some, true, false, length, OnOk, OnErr, IfOk, IfErr};
-ghost use Rattle.mk_driver.specs.Ends.{of_world};
+ghost use Rattle.mk_driver.specs.Halts.{of_world};
 ghost use Rattle.mk_driver.specs.Jobs.{HasLine, HasToken, lines_left};
-ghost use Rattle.mk_driver.specs.Makers.{work_of};
-ghost use Rattle.mk_driver.specs.Progress.{BehindAt, Fits, FromAny, GoingAt, HaltedAt, IsUnstopped, undecided};
-ghost use Rattle.mk_driver.specs.Runs.{is_empty, line_of};
+ghost use Rattle.mk_decision.specs.Makers.{work_of};
+ghost use Rattle.mk_driver.specs.Progress.{BehindAt, BehindOn, Fits, FromAny, GoingAt, HaltedAt, IsUnstopped, undecided};
+ghost use Rattle.mk_trace.specs.Runs.{is_empty, line_of};
 ghost use Rattle.mk_driver.specs.Scenes.{Scene, IsOpenScene, BehindIn, HaltedIn};
-ghost use Rattle.mk_driver.specs.declared.event.Event.TheVariants as event;
+ghost use Rattle.mk_trace.specs.declared.event.Event.TheVariants as event;
 ghost use Rattle.mk_world.specs.Causes.{HasCause};
 ghost use Rattle.mk_world.specs.declared.fault.WorldFault.TheVariants.{Failed as world_failed};
 ghost use Rattle.mk_world.specs.declared.command.TaskLine.{TaskLine as Line};
 
 use crate::child::{Place, command, start_child};
 use crate::course::Course;
-use crate::event::{Event, Events};
 use crate::job::{Job, add_job, line_at, next_ticket};
-use crate::maker::Maker;
 use mk_bytes::NoMemory;
-use mk_world::{Kids, Task, TaskLine, World, WorldFault};
+use mk_decision::Maker;
+use mk_trace::{Event, Events};
+use mk_world::{Kids, TaskLine, World, WorldFault};
 
 // An empty line begins and ends without a child.
 fn pass_line(events: &mut Events, place: Place) -> Result<(), NoMemory>
@@ -80,38 +80,41 @@ fn pass_lines(
     Ok(passed)
 }
 
-// Starts the child of a line of a node, which has a token.
+// Starts the child of the line of a job; its node has a token.
 fn start_line<W: World>(
     maker: &Maker,
     world: &mut W,
     kids: &mut Kids<W::Kid>,
     course: &mut Course,
-    place: Place,
-    task: Task,
+    job: Job,
 ) -> Result<(), WorldFault>
     requires exact { W.runs world.old kids.old.tickets }
     requires fits { Fits (work_of maker.now) course.old kids.old.tickets kids.old.room 1 }
-    requires token { HasToken course.old.sched.nodes course.old.jobs.items place.node }
-    requires line { (one : Line) × HasLine task.lines place.number one }
+    requires token { HasToken course.old.sched.nodes course.old.jobs.items job.node }
+    requires line { (one : Line) × HasLine job.task.lines job.number one }
     ensures goes { OnOk result (FromAny
-        (BehindAt W.meaning (work_of maker.now) (W.history world.old) course.old course.old.events
-        place.node task.lines (place.number - 1))
+        (BehindOn W.meaning (work_of maker.now) (W.history world.old) course.old course.old.events
+        job.node job.task.lines (job.number - 1))
         (GoingAt W.meaning (work_of maker.now) (W.history world.new) course.new)) }
     ensures halted { IfErr result (λ fault. FromAny
-        (BehindAt W.meaning (work_of maker.now) (W.history world.old) course.old course.old.events
-        place.node task.lines (place.number - 1))
+        (BehindOn W.meaning (work_of maker.now) (W.history world.old) course.old course.old.events
+        job.node job.task.lines (job.number - 1))
         (HaltedAt W.meaning (work_of maker.now) (of_world fault) (W.history world.new) course.new.events)) }
     ensures fits { OnOk result (Fits (work_of maker.now) course.new kids.new.tickets kids.new.room 0) }
     ensures nodes { course.new.sched ≡ course.old.sched }
     ensures left { OnOk result (lines_left course.new.jobs.items
-        ≡ lines_left course.old.jobs.items + (1 + length task.lines - place.number)) }
+        ≡ lines_left course.old.jobs.items + (1 + length job.task.lines - job.number)) }
     ensures same_room { kids.new.room ≡ kids.old.room }
     ensures cause { HasCause world_failed (W.faults world.old) (W.faults world.new) result }
     ensures children { W.runs world.new kids.new.tickets }
 {
-    let line = line_at(&task, place.number);
+    let line = line_at(&job.task, job.number);
     let cmd = command(maker.alloc, line, maker.made.scopes.cwd())?;
     let ticket = next_ticket(kids, &mut course.last_ticket);
+    let place = Place {
+        node: job.node,
+        number: job.number,
+    };
     start_child(
         maker.alloc,
         world,
@@ -121,56 +124,44 @@ fn start_line<W: World>(
         ticket,
         &cmd,
     )?;
-    let job = Job {
-        ticket,
-        node: place.node,
-        number: place.number,
-        task,
-    };
-    add_job(&mut course.jobs, job)?;
+    add_job(&mut course.jobs, Job { ticket, ..job })?;
     Ok(())
 }
 
-/// Goes on with a job of which so many lines have ended: its next line that has a child is started, or
-/// the job ends where there is none.
+/// Goes on with a job whose lines have ended up to the one with its number: its next line that has a
+/// child is started, or the job ends where there is none.
 pub fn run_on<W: World>(
     maker: &Maker,
     world: &mut W,
     kids: &mut Kids<W::Kid>,
     course: &mut Course,
-    node: u32,
-    task: Task,
-    done: u32,
+    job: Job,
 ) -> Result<(), WorldFault>
     requires exact { W.runs world.old kids.old.tickets }
     requires fits { Fits (work_of maker.now) course.old kids.old.tickets kids.old.room 1 }
-    requires token { HasToken course.old.sched.nodes course.old.jobs.items node }
+    requires token { HasToken course.old.sched.nodes course.old.jobs.items job.node }
     requires going { IsUnstopped (work_of maker.now) course.old }
-    requires within { done ≤ length task.lines }
+    requires within { job.number ≤ length job.task.lines }
     ensures goes { OnOk result (FromAny
-        (BehindAt W.meaning (work_of maker.now) (W.history world.old) course.old course.old.events
-        node task.lines done)
+        (BehindAt W.meaning (work_of maker.now) (W.history world.old) course.old course.old.events job)
         (GoingAt W.meaning (work_of maker.now) (W.history world.new) course.new)) }
     ensures halted { IfErr result (λ fault. FromAny
-        (BehindAt W.meaning (work_of maker.now) (W.history world.old) course.old course.old.events
-        node task.lines done)
+        (BehindAt W.meaning (work_of maker.now) (W.history world.old) course.old course.old.events job)
         (HaltedAt W.meaning (work_of maker.now) (of_world fault) (W.history world.new) course.new.events)) }
     ensures fits { OnOk result (Fits (work_of maker.now) course.new kids.new.tickets kids.new.room 0) }
     ensures nodes { OnOk result (undecided course.new.sched.nodes ≡ undecided course.old.sched.nodes) }
     ensures left { OnOk result (lines_left course.new.jobs.items
-        ≤ lines_left course.old.jobs.items + (length task.lines - done)) }
+        ≤ lines_left course.old.jobs.items + (length job.task.lines - job.number)) }
     ensures same_room { kids.new.room ≡ kids.old.room }
     ensures cause { HasCause world_failed (W.faults world.old) (W.faults world.new) result }
     ensures children { W.runs world.new kids.new.tickets }
 {
-    let passed = pass_lines(&mut course.events, node, task.lines.as_slice(), done)?;
-    if passed as usize >= task.lines.len() {
-        course.sched.ended(node, true);
+    let lines = job.task.lines.as_slice();
+    let passed = pass_lines(&mut course.events, job.node, lines, job.number)?;
+    if passed as usize >= job.task.lines.len() {
+        course.sched.ended(job.node, true);
         return Ok(());
     }
-    let place = Place {
-        node,
-        number: passed + 1,
-    };
-    start_line(maker, world, kids, course, place, task)
+    let number = passed + 1;
+    start_line(maker, world, kids, course, Job { number, ..job })
 }

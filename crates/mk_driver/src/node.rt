@@ -1,8 +1,9 @@
 //! Nodes: each is decided, and is kept, refused or made.
 ghost use Rattle.std.specs.Prelude.{◌≡◌, ◌<◌, ◌≤◌, ℕ, List, length, OnOk, IfErr};
-ghost use Rattle.mk_driver.specs.Ends.{of_world};
-ghost use Rattle.mk_driver.specs.Makers.{work_of};
-ghost use Rattle.mk_driver.specs.Progress.{Fits, FromAny, GoingAt, HaltedAt, IsDecision, SeenAt, undecided};
+ghost use Rattle.mk_driver.specs.Halts.{of_world};
+ghost use Rattle.mk_decision.specs.Makers.{work_of};
+ghost use Rattle.mk_decision.specs.Decisions.{IsDecision};
+ghost use Rattle.mk_driver.specs.Progress.{Fits, FromAny, GoingAt, HaltedAt, SeenAt, undecided};
 ghost use Rattle.mk_plan.specs.Asking.{Seen};
 ghost use Rattle.mk_sched.specs.Next.{next_of};
 ghost use Rattle.mk_sched.specs.declared.sched.Next.TheVariants.{Decide as decides};
@@ -10,11 +11,11 @@ ghost use Rattle.mk_world.specs.Causes.{HasCause};
 ghost use Rattle.mk_world.specs.declared.fault.WorldFault.TheVariants.{Failed as world_failed};
 
 use crate::course::Course;
-use crate::decision::{Decision, decide_on};
-use crate::event::Event;
+use crate::halt::note_failure;
+use crate::job::Job;
 use crate::line::run_on;
-use crate::maker::Maker;
-use crate::result::{Failure, note_failure};
+use mk_decision::{Decision, Maker, decide_on};
+use mk_trace::{Event, Failure};
 use mk_world::{Kids, World, WorldFault};
 
 // Carries out the decision of the next node.
@@ -57,7 +58,13 @@ fn carry_out<W: World>(
         }
         Decision::Make(task) => {
             course.sched.started(node);
-            run_on(maker, world, kids, course, node, task, 0)
+            let job = Job {
+                ticket: 0,
+                node,
+                number: 0,
+                task,
+            };
+            run_on(maker, world, kids, course, job)
         }
     }
 }

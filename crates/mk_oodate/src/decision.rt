@@ -9,13 +9,16 @@ use mk_filemon::Recs;
 use mk_meta::Meta;
 use mk_world::{Task, Time, When};
 
-fn is_missing(when: When) -> bool
+/// Whether there is no file, by its time.
+pub fn is_missing(when: When) -> bool
     ensures { result ≡ spec.is_missing when }
 {
     matches!(when, When::Missing)
 }
 
-fn is_newer(target: When, source: Age) -> bool
+/// Whether a source is newer than a target: it is new, or was changed strictly later. A time that is not
+/// known is later than all.
+pub fn is_newer(target: When, source: Age) -> bool
     ensures { result ≡ spec.is_newer target source }
 {
     match (target, source) {

@@ -1,11 +1,11 @@
 -- Builds: a plan of the targets that are asked for is made, and its nodes are built.
 use Rattle.std.specs.Prelude.{◌≡◌, ◌⊎◌, ℕ, nat_le, Bool, true, false, not, ◌&&◌, List, [], map}
 use Rattle.std.specs.Prelude.{Option, Ok}
-use Rattle.mk_driver.specs.Builds.{IsBuild}
-use Rattle.mk_driver.specs.Makers.{work_on, moment}
-use Rattle.mk_driver.specs.Progress.{StandsBy, is_cut}
-use Rattle.mk_driver.specs.declared.result.BuildResult.{BuildResult}
-use Rattle.mk_driver.specs.declared.result.BuildResult.TheVariants as build
+use Rattle.mk_trace.specs.Builds.{IsBuild, moment}
+use Rattle.mk_decision.specs.Makers.{work_on}
+use Rattle.mk_trace.specs.Ends.{StandsBy, is_cut}
+use Rattle.mk_trace.specs.declared.result.BuildResult.{BuildResult}
+use Rattle.mk_trace.specs.declared.result.BuildResult.TheVariants as build
 use Rattle.mk_flags.specs.declared.Flags.{Flags}
 use Rattle.mk_graph.specs.declared.Made.{Made}
 use Rattle.mk_plan.specs.Looks.{OnLooks}

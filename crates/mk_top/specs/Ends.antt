@@ -1,7 +1,7 @@
 -- The ends of a run.
 use Rattle.std.specs.Prelude.{◌≡◌, ◌⊎◌, ℕ, List}
-use Rattle.mk_driver.specs.declared.result.BuildResult.{BuildResult}
-use Rattle.mk_driver.specs.declared.result.BuildResult.TheVariants as build
+use Rattle.mk_trace.specs.declared.result.BuildResult.{BuildResult}
+use Rattle.mk_trace.specs.declared.result.BuildResult.TheVariants as build
 use Rattle.mk_plan.specs.Plans.{node_at}
 use Rattle.mk_plan.specs.declared.fault.PlanFault.{PlanFault}
 use Rattle.mk_plan.specs.declared.fault.PlanFault.TheVariants as plan

@@ -12,10 +12,11 @@ ghost use Rattle.mk_world.specs.declared.history.History.{History};
 
 use crate::report::End;
 use mk_bytes::{Items, NoMemory, Text, Texts};
-use mk_driver::{BuildResult, Events, build};
+use mk_driver::build;
 use mk_flags::Flags;
 use mk_graph::Made;
 use mk_plan::{Plan, make_plan};
+use mk_trace::{BuildResult, Events};
 use mk_world::{Sink, World};
 use std::alloc::Global;
 

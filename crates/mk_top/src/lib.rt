@@ -8,6 +8,6 @@ mod report;
 mod running;
 mod words;
 
-pub use mk_driver::{Event, Events};
+pub use mk_trace::{Event, Events};
 pub use report::{End, Report};
 pub use running::run;

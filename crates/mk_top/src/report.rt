@@ -1,8 +1,8 @@
 use mk_bytes::{Kind, Text, Texts};
-use mk_driver::Events;
 use mk_expand::ExpandFault;
 use mk_plan::PlanFault;
 use mk_reader::{ReadFault, What};
+use mk_trace::Events;
 use mk_world::SinkFault;
 
 /// How a run ends.

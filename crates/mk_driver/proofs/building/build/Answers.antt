@@ -1,10 +1,11 @@
 use Rattle.std.proofs.Common.{[], refl}
 use Rattle.mk_world.proofs.IdleLemmas.{IsIdle}
-use Rattle.mk_driver.specs.Makers.{work_on, moment}
-use Rattle.mk_driver.specs.declared.result.BuildResult.TheVariants as ended
+use Rattle.mk_decision.specs.Makers.{work_on}
+use Rattle.mk_trace.specs.Builds.{moment}
+use Rattle.mk_trace.specs.declared.result.BuildResult.TheVariants as ended
 use Rattle.mk_driver.proofs.BuildLemmas.{ended-build, ended-none, fits-first, going-first, jobs-few}
-use Rattle.mk_driver.proofs.EventLemmas.{called-none-left}
-use Rattle.mk_driver.proofs.WorldLemmas.{called-left}
+use Rattle.mk_trace.proofs.CallLemmas.{called-none-left}
+use Rattle.mk_trace.proofs.WorldLemmas.{called-left}
 use Rattle.mk_driver.proofs.building.build.Goals as goal
 
 pub returns-in_default-clause-built : goal.returns-in_default-clause-built

@@ -1,6 +1,6 @@
 use Rattle.std.proofs.Common.{◌≡◌}
-use Rattle.mk_driver.specs.Builds.{Moment}
-use Rattle.mk_driver.specs.Makers.{work_of}
+use Rattle.mk_trace.specs.Builds.{Moment}
+use Rattle.mk_decision.specs.Makers.{work_of}
 use Rattle.mk_driver.specs.Progress.{Fits, GoingAt, undecided}
 use Rattle.mk_driver.proofs.building.make_all.Given as goal
 

@@ -1,6 +1,6 @@
 use Rattle.std.proofs.Common.{◌∙◌, ap}
-use Rattle.mk_driver.specs.Ends.{result_of}
-use Rattle.mk_driver.specs.Makers.{work_of}
+use Rattle.mk_trace.specs.Ends.{result_of}
+use Rattle.mk_decision.specs.Makers.{work_of}
 use Rattle.mk_driver.proofs.BuildLemmas.{ended-halted, ended-over}
 use Rattle.mk_driver.proofs.building.make_to_end.Goals as goal
 

@@ -1,7 +1,7 @@
 use Rattle.std.proofs.Common.{◌≡◌}
-use Rattle.mk_driver.specs.Builds.{Moment}
+use Rattle.mk_trace.specs.Builds.{Moment}
 use Rattle.mk_driver.specs.Jobs.{lines_left}
-use Rattle.mk_driver.specs.Makers.{work_of}
+use Rattle.mk_decision.specs.Makers.{work_of}
 use Rattle.mk_driver.specs.Progress.{Fits, GoingAt, undecided}
 use Rattle.mk_driver.proofs.building.take_in_ready.Given as goal
 

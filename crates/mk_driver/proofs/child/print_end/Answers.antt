@@ -1,8 +1,8 @@
 use Rattle.std.proofs.Common.{◌≡◌, ◌∙◌, ◌++◌, Some, false, refl, sym}
 use Rattle.mk_world.proofs.SinkLemmas.{Gains-then, GainsPart-more, GainsPart-then, OnErr-from}
-use Rattle.mk_driver.specs.Output.{echo}
-use Rattle.mk_driver.specs.Runs.{is_empty}
-use Rattle.mk_driver.proofs.PieceLemmas.{on_ok, on_err}
+use Rattle.mk_trace.specs.Output.{echo}
+use Rattle.mk_trace.specs.Runs.{is_empty}
+use Rattle.mk_decision.proofs.PieceLemmas.{on_ok, on_err}
 use Rattle.mk_driver.proofs.child.print_end.Goals as goal
 
 pub returns-in_err-print_marker-clause-cut : goal.returns-in_err-print_marker-clause-cut

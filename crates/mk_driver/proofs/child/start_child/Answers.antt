@@ -1,6 +1,6 @@
 use Rattle.mk_world.proofs.SinkLemmas.{OnErr-from}
-use Rattle.mk_driver.proofs.EventLemmas.{called-none}
-use Rattle.mk_driver.proofs.WorldLemmas.{called-nothing, called-start}
+use Rattle.mk_trace.proofs.CallLemmas.{called-none}
+use Rattle.mk_trace.proofs.WorldLemmas.{called-nothing, called-start}
 use Rattle.mk_driver.proofs.child.start_child.Goals as goal
 
 pub returns-in_err-push-clause-refused : goal.returns-in_err-push-clause-refused

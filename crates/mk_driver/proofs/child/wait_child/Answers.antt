@@ -1,8 +1,9 @@
 use Rattle.std.proofs.Common.{◌∙◌, inr}
 use Rattle.mk_world.proofs.SinkLemmas.{OnErr-from}
-use Rattle.mk_driver.specs.declared.event.Event.TheVariants as event
-use Rattle.mk_driver.proofs.EventLemmas.{called-none, take-last}
-use Rattle.mk_driver.proofs.WorldLemmas.{called-nothing, called-end}
+use Rattle.mk_trace.specs.declared.event.Event.TheVariants as event
+use Rattle.mk_driver.proofs.EventLemmas.{take-last}
+use Rattle.mk_trace.proofs.CallLemmas.{called-none}
+use Rattle.mk_trace.proofs.WorldLemmas.{called-nothing, called-end}
 use Rattle.mk_driver.proofs.child.wait_child.Goals as goal
 
 pub returns-in_err-expect_end-clause-refused : goal.returns-in_err-expect_end-clause-refused

@@ -1,13 +1,13 @@
 use Rattle.std.proofs.Common.{◌≡◌, ◌∙◌, ◌||◌, nat_le, true, false, length, refl, sym}
 use Rattle.mk_plan.specs.Deciding.{is_stopped}
 use Rattle.mk_sched.proofs.DecideLemmas.{open_within}
-use Rattle.mk_driver.specs.Builds.{rules_of}
-use Rattle.mk_driver.specs.Makers.{work_of}
-use Rattle.mk_driver.specs.Runs as run
+use Rattle.mk_trace.specs.Builds.{rules_of}
+use Rattle.mk_decision.specs.Makers.{work_of}
+use Rattle.mk_trace.specs.Runs as run
 use Rattle.mk_driver.proofs.EndingLemmas.{behind-ended, going-settled, not-last, not-stopped}
 use Rattle.mk_driver.proofs.JobLemmas.{fits-settled, stopped-there}
 use Rattle.mk_driver.proofs.NodeLemmas.{undecided-same}
-use Rattle.mk_driver.proofs.PieceLemmas.{ok_from, on_ok, if_err}
+use Rattle.mk_decision.proofs.PieceLemmas.{ok_from, on_ok, if_err}
 use Rattle.mk_driver.proofs.ending.end_line.Goals as goal
 
 pub returns-then-ends_job-clause-goes : goal.returns-then-ends_job-clause-goes

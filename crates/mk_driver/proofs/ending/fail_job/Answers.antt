@@ -1,11 +1,11 @@
 use Rattle.std.proofs.Common.{◌≡◌, ◌∙◌, true, false, sym}
 use Rattle.std.proofs.lemmas.Result.{err_from_is_err_and}
-use Rattle.mk_driver.specs.Builds.{is_removed}
-use Rattle.mk_driver.specs.Ends.{of_world}
-use Rattle.mk_driver.specs.Makers.{work_of}
+use Rattle.mk_trace.specs.Builds.{is_removed}
+use Rattle.mk_driver.specs.Halts.{of_world}
+use Rattle.mk_decision.specs.Makers.{work_of}
 use Rattle.mk_driver.proofs.EndingLemmas.{going-failed_at, going-removed, halted-removing}
 use Rattle.mk_driver.proofs.JobLemmas.{fits-failed}
-use Rattle.mk_driver.proofs.WorldLemmas.{called-gone, called-nothing}
+use Rattle.mk_trace.proofs.WorldLemmas.{called-gone, called-nothing}
 use Rattle.mk_driver.proofs.ending.fail_job.Goals as goal
 
 pub returns-in_err-remove-clause-halted : goal.returns-in_err-remove-clause-halted

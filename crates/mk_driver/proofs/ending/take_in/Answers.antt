@@ -1,11 +1,13 @@
 use Rattle.std.proofs.Common.{◌∙◌, true, false, arith}
 use Rattle.std.proofs.lemmas.Result.{err_from_is_err_and}
 use Rattle.mk_sched.proofs.DecideLemmas.{open_within}
-use Rattle.mk_driver.specs.Makers.{work_of, moment}
-use Rattle.mk_driver.specs.declared.event.Event.TheVariants as event
+use Rattle.mk_decision.specs.Makers.{work_of}
+use Rattle.mk_trace.specs.Builds.{moment}
+use Rattle.mk_trace.specs.declared.event.Event.TheVariants as event
 use Rattle.mk_driver.proofs.EndingLemmas.{halted-waiting, so_far-taken, wait-facts, within-plan}
 use Rattle.mk_driver.proofs.EventLemmas.{set-last}
-use Rattle.mk_driver.proofs.LineLemmas.{found, so_far-weaken}
+use Rattle.mk_driver.proofs.LineLemmas.{found}
+use Rattle.mk_trace.proofs.MakeLemmas.{so_far-weaken}
 use Rattle.mk_driver.proofs.JobLemmas.{fits-taken, left-taken, some-taken}
 use Rattle.mk_driver.proofs.ending.take_in.Goals as goal
 
@@ -84,7 +86,7 @@ returns-in_err-print_end-clause-halted g c =
           (moment (g.W.World.history c.wait_child.new.world) (g.S.Sink.held c.print_end.new.out)
           c.set_last.new.self) at.2 facts.0 facts.1 c.take_job-job.ensures out.token.open_now has
           (c.in_ok-ended.ensures.done job.node job.number) told
-          (rw (← c.requires.many, ← c.bytes.ensures.value) c.in_err-print_end.ensures.cut))
+          (rw (← c.are_many.ensures, ← c.bytes.ensures.value) c.in_err-print_end.ensures.cut))
           (λ tasks has_tasks. has_tasks) (λ tasks build has_tasks is. tt),
     ))
 
@@ -113,7 +115,7 @@ returns-in_err-end_line-clause-halted g c =
           (moment (g.W.World.history c.wait_child.new.world) (g.S.Sink.held c.print_end.new.out)
           c.set_last.new.self) at.2 facts.0 facts.1 c.take_job-job.ensures out.token.open_now has
           (c.in_ok-ended.ensures.done job.node job.number) told
-          (rw (← c.requires.many, ← c.bytes.ensures.value) c.in_ok-print_end.ensures.done)),
+          (rw (← c.are_many.ensures, ← c.bytes.ensures.value) c.in_ok-print_end.ensures.done)),
     ))
 
 pub returns-clause-goes : goal.returns-clause-goes
@@ -139,7 +141,7 @@ returns-clause-goes g c =
           (moment (g.W.World.history c.wait_child.new.world) (g.S.Sink.held c.print_end.new.out)
           c.set_last.new.self) at.2 facts.0 facts.1 c.take_job-job.ensures out.token.open_now has
           (c.in_ok-ended.ensures.done job.node job.number) told
-          (rw (← c.requires.many, ← c.bytes.ensures.value) c.in_ok-print_end.ensures.done)),
+          (rw (← c.are_many.ensures, ← c.bytes.ensures.value) c.in_ok-print_end.ensures.done)),
     )
 
 pub returns-clause-left : goal.returns-clause-left

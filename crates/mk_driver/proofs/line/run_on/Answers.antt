@@ -1,11 +1,11 @@
 use Rattle.std.proofs.Common.{◌≡◌, ◌+◌, ◌-◌, ◌≤◌, ℕ, length, sym, subst, arith}
 use Rattle.std.proofs.lemmas.Grind.{common_steps}
 use Rattle.std.proofs.lemmas.Result.{err_from_is_err_and}
-use Rattle.mk_driver.specs.Makers.{work_of}
-use Rattle.mk_driver.specs.Progress.{BehindAt}
+use Rattle.mk_decision.specs.Makers.{work_of}
+use Rattle.mk_driver.specs.Progress.{BehindOn}
 use Rattle.mk_driver.proofs.EndingLemmas.{going-behind}
 use Rattle.mk_driver.proofs.JobLemmas.{fits-settled}
-use Rattle.mk_driver.proofs.PieceLemmas.{on_ok, if_err}
+use Rattle.mk_decision.proofs.PieceLemmas.{on_ok, if_err}
 use Rattle.mk_driver.proofs.line.run_on.Goals as goal
 
 back : (n : ℕ) → n + 1 - 1 ≡ n
@@ -14,7 +14,7 @@ back n = omega arith
 pub returns-in_err-passed-clause-halted : goal.returns-in_err-passed-clause-halted
 returns-in_err-passed-clause-halted g c =
     let p = err_from_is_err_and c.from_residual.result c.from_residual.ensures.1 in
-    let halts = rw c.as_slice.ensures.value at c.in_err-passed.ensures.halted in
+    let halts = rw c.as_slice-lines.ensures.value at c.in_err-passed.ensures.halted in
     rw (p.1, p.2) (λ first out at.
     halts
     (record {
@@ -29,10 +29,10 @@ returns-in_err-passed-clause-halted g c =
 
 pub returns-then-passed-len-clause-goes : goal.returns-then-passed-len-clause-goes
 returns-then-passed-len-clause-goes g c = λ first out at.
-    let behind = rw c.as_slice.ensures.value at c.in_ok-passed.ensures.behind in
-    let none : length c.args.task.lines ≤ c.in_ok-passed.passed = grind (arith, common_steps) in
+    let behind = rw c.as_slice-lines.ensures.value at c.in_ok-passed.ensures.behind in
+    let none : length c.args.job.task.lines ≤ c.in_ok-passed.passed = grind (arith, common_steps) in
     going-behind g.W.World.meaning (work_of c.args.maker.now) _ c.args.course.now c.ended.new.self
-    c.pass_lines.new.events c.args.node c.args.task.lines c.in_ok-passed.passed first out
+    c.pass_lines.new.events c.args.job.node c.args.job.task.lines c.in_ok-passed.passed first out
     c.requires.token.open_now none c.ended.ensures
     (behind
     (record {
@@ -51,12 +51,12 @@ returns-then-passed-len-clause-fits g c =
 
 pub returns-clause-goes : goal.returns-clause-goes
 returns-clause-goes g c =
-    let behind = rw c.as_slice.ensures.value at c.in_ok-passed.ensures.behind in
+    let behind = rw c.as_slice-lines.ensures.value at c.in_ok-passed.ensures.behind in
     on_ok c.start_line.result (λ goes first out at.
     goes first out
-    (subst (λ k. BehindAt g.W.World.meaning (work_of c.args.maker.now)
-    (g.W.World.history c.args.world.now) c.args.course.now c.pass_lines.new.events c.args.node
-    c.args.task.lines k first out) (sym (back c.in_ok-passed.passed))
+    (subst (λ k. BehindOn g.W.World.meaning (work_of c.args.maker.now)
+    (g.W.World.history c.args.world.now) c.args.course.now c.pass_lines.new.events c.args.job.node
+    c.args.job.task.lines k first out) (sym (back c.in_ok-passed.passed))
     (behind
     (record {
       meaning = g.W.World.meaning;
@@ -70,12 +70,12 @@ returns-clause-goes g c =
 
 pub returns-clause-halted : goal.returns-clause-halted
 returns-clause-halted g c =
-    let behind = rw c.as_slice.ensures.value at c.in_ok-passed.ensures.behind in
+    let behind = rw c.as_slice-lines.ensures.value at c.in_ok-passed.ensures.behind in
     if_err c.start_line.result (λ fault halts first out at.
     halts first out
-    (subst (λ k. BehindAt g.W.World.meaning (work_of c.args.maker.now)
-    (g.W.World.history c.args.world.now) c.args.course.now c.pass_lines.new.events c.args.node
-    c.args.task.lines k first out) (sym (back c.in_ok-passed.passed))
+    (subst (λ k. BehindOn g.W.World.meaning (work_of c.args.maker.now)
+    (g.W.World.history c.args.world.now) c.args.course.now c.pass_lines.new.events c.args.job.node
+    c.args.job.task.lines k first out) (sym (back c.in_ok-passed.passed))
     (behind
     (record {
       meaning = g.W.World.meaning;

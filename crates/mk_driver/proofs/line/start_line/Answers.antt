@@ -1,12 +1,13 @@
 use Rattle.std.proofs.Common.{◌≡◌, ◌∷◌, ◌++◌, [], refl, arith}
 use Rattle.std.proofs.lemmas.Result.{err_from_is_err_and}
-use Rattle.mk_driver.specs.Builds.{command_of}
-use Rattle.mk_driver.specs.Ends.{of_world}
-use Rattle.mk_driver.specs.Makers.{work_of, moment}
-use Rattle.mk_driver.specs.declared.job.Job.{Job}
+use Rattle.mk_trace.specs.Builds.{command_of, moment}
+use Rattle.mk_driver.specs.Halts.{of_world}
+use Rattle.mk_decision.specs.Makers.{work_of}
+use Rattle.mk_driver.specs.Jobs.{with_ticket}
 use Rattle.mk_driver.proofs.EndingLemmas.{going-started}
 use Rattle.mk_driver.proofs.JobLemmas.{fits-started, left-add}
-use Rattle.mk_driver.proofs.LineLemmas.{found, halted, so_far-nothing}
+use Rattle.mk_driver.proofs.LineLemmas.{found, halted}
+use Rattle.mk_trace.proofs.MakeLemmas.{so_far-nothing}
 use Rattle.mk_driver.proofs.line.start_line.Goals as goal
 
 pub next_ticket-ticket-requires : goal.next_ticket-ticket-requires
@@ -45,14 +46,9 @@ returns-in_err-add_job-clause-halted g c =
     let p = err_from_is_err_and c.from_residual-in_err-add_job.result
     c.from_residual-in_err-add_job.ensures.1 in
     let work = work_of c.args.maker.now in
-    let job : Job = record {
-      ticket = c.next_ticket-ticket.result;
-      node = c.args.place.node;
-      number = c.args.place.number;
-      task = c.args.task;
-    } in
+    let job = with_ticket c.args.job c.next_ticket-ticket.result in
     let one = c.line_at-line.result.now in
-    let has = found one c.args.task.lines c.args.place.number c.line_at-line.ensures c.requires.line in
+    let has = found one c.args.job.task.lines c.args.job.number c.line_at-line.ensures c.requires.line in
     let command : c.in_ok-cmd.cmd ≡ command_of work one =
     rw c.cwd.ensures.value at c.in_ok-cmd.ensures in
     rw p.1 (λ first out at.
@@ -65,14 +61,9 @@ returns-in_err-add_job-clause-halted g c =
 pub returns-clause-goes : goal.returns-clause-goes
 returns-clause-goes g c =
     let work = work_of c.args.maker.now in
-    let job : Job = record {
-      ticket = c.next_ticket-ticket.result;
-      node = c.args.place.node;
-      number = c.args.place.number;
-      task = c.args.task;
-    } in
+    let job = with_ticket c.args.job c.next_ticket-ticket.result in
     let one = c.line_at-line.result.now in
-    let has = found one c.args.task.lines c.args.place.number c.line_at-line.ensures c.requires.line in
+    let has = found one c.args.job.task.lines c.args.job.number c.line_at-line.ensures c.requires.line in
     let command : c.in_ok-cmd.cmd ≡ command_of work one =
     rw c.cwd.ensures.value at c.in_ok-cmd.ensures in
     λ first out at.
@@ -83,24 +74,14 @@ returns-clause-goes g c =
 
 pub returns-clause-fits : goal.returns-clause-fits
 returns-clause-fits g c =
-    let job : Job = record {
-      ticket = c.next_ticket-ticket.result;
-      node = c.args.place.node;
-      number = c.args.place.number;
-      task = c.args.task;
-    } in
+    let job = with_ticket c.args.job c.next_ticket-ticket.result in
     let one = c.line_at-line.result.now in
-    let has = found one c.args.task.lines c.args.place.number c.line_at-line.ensures c.requires.line in
+    let has = found one c.args.job.task.lines c.args.job.number c.line_at-line.ensures c.requires.line in
     rw c.in_ok-start_child.ensures.same_room (fits-started _ c.args.course.now.sched c.args.course.now.jobs.items c.add_job.new.jobs.items
     c.args.course.now.failure _ _ _ job one c.requires.fits c.requires.token has
     c.in_ok-add_job.ensures.ok c.in_ok-start_child.ensures.held)
 
 pub returns-clause-left : goal.returns-clause-left
 returns-clause-left g c =
-    let job : Job = record {
-      ticket = c.next_ticket-ticket.result;
-      node = c.args.place.node;
-      number = c.args.place.number;
-      task = c.args.task;
-    } in
+    let job = with_ticket c.args.job c.next_ticket-ticket.result in
     rw c.in_ok-add_job.ensures.ok (left-add c.args.course.now.jobs.items job)

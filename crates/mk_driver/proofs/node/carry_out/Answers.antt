@@ -2,17 +2,19 @@ use Rattle.std.proofs.Common.{List, ◌∙◌, ◌<◌, refl, sym, ap, subst}
 use Rattle.std.proofs.lemmas.Result.{err_from_is_err_and}
 use Rattle.mk_sched.proofs.DecideLemmas.{decided}
 use Rattle.mk_world.specs.declared.command.TaskLine.{TaskLine}
-use Rattle.mk_driver.specs.Builds.{IsKept, rules_of}
-use Rattle.mk_driver.specs.Ends.{of_world}
-use Rattle.mk_driver.specs.Makers.{work_of, moment}
+use Rattle.mk_decision.specs.Decisions.{IsKept}
+use Rattle.mk_trace.specs.Builds.{rules_of, moment}
+use Rattle.mk_driver.specs.Halts.{of_world}
+use Rattle.mk_decision.specs.Makers.{work_of}
 use Rattle.mk_driver.specs.Progress.{undecided}
 use Rattle.mk_sched.specs.Schedule.{Schedule}
 use Rattle.mk_driver.proofs.DecideLemmas.{so_far-begun, so_far-keeps, so_far-refuses}
 use Rattle.mk_driver.proofs.JobLemmas.{fits-begun, fits-kept, fits-refused}
-use Rattle.mk_driver.proofs.LineLemmas.{halted, so_far-nothing}
+use Rattle.mk_driver.proofs.LineLemmas.{halted}
+use Rattle.mk_trace.proofs.MakeLemmas.{so_far-nothing}
 use Rattle.mk_driver.proofs.NodeLemmas.{may_decide-of, undecided-less, unknown-set, unstopped-begun}
-use Rattle.mk_driver.proofs.PieceLemmas.{on_ok, if_err}
-use Rattle.mk_driver.proofs.EventLemmas.{called-none}
+use Rattle.mk_decision.proofs.PieceLemmas.{on_ok, if_err}
+use Rattle.mk_trace.proofs.CallLemmas.{called-none}
 use Rattle.mk_driver.proofs.node.carry_out.Goals as goal
 
 pub returns-in_err-push-in-Keep-clause-halted : goal.returns-in_err-push-in-Keep-clause-halted

@@ -1,14 +1,13 @@
-use Rattle.std.proofs.Common.{refl}
 use Rattle.std.proofs.lemmas.Result.{err_from_is_err_and}
 use Rattle.mk_sched.proofs.DecideLemmas.{decided}
-use Rattle.mk_driver.specs.Builds.{rules_of}
-use Rattle.mk_driver.specs.Ends.{of_world}
-use Rattle.mk_driver.specs.Makers.{work_of, moment}
+use Rattle.mk_trace.specs.Builds.{rules_of}
+use Rattle.mk_driver.specs.Halts.{of_world}
+use Rattle.mk_decision.specs.Makers.{work_of}
 use Rattle.mk_driver.proofs.DecideLemmas.{so_far-looks}
 use Rattle.mk_driver.proofs.EndingLemmas.{within-plan}
 use Rattle.mk_driver.proofs.LineLemmas.{halted}
 use Rattle.mk_driver.proofs.NodeLemmas.{may_decide-of}
-use Rattle.mk_driver.proofs.PieceLemmas.{on_ok, if_err}
+use Rattle.mk_decision.proofs.PieceLemmas.{on_ok, if_err}
 use Rattle.mk_driver.proofs.node.decide.Goals as goal
 
 pub decide_on-requires : goal.decide_on-requires
@@ -33,9 +32,8 @@ returns-in_err-decision-clause-halted g c =
     course.events course.last_shown at.0 _
     (so_far-looks g.W.World.meaning work at.0 course.sched.nodes course.jobs.items course.failure
     c.args.node some.seen course.last_shown first
-    (moment (g.W.World.history c.args.world.now) out course.events)
-    (moment (g.W.World.history c.decide_on.new.world) out course.events) at.2 d.undecided may some.looked
-    refl refl))
+    (g.W.World.history c.args.world.now) (g.W.World.history c.decide_on.new.world) out course.events
+    at.2 d.undecided may some.looked))
 
 pub returns-clause-goes : goal.returns-clause-goes
 returns-clause-goes g c =
@@ -51,9 +49,8 @@ returns-clause-goes g c =
       at.1,
       so_far-looks g.W.World.meaning work at.0 course.sched.nodes course.jobs.items course.failure
           c.args.node dec.0 course.last_shown first
-          (moment (g.W.World.history c.args.world.now) out course.events)
-          (moment (g.W.World.history c.decide_on.new.world) out course.events) at.2 d.undecided may dec.1
-          refl refl,
+          (g.W.World.history c.args.world.now) (g.W.World.history c.decide_on.new.world) out
+          course.events at.2 d.undecided may dec.1,
     ))
     c.carry_out.ensures.goes
 
@@ -71,8 +68,7 @@ returns-clause-halted g c =
       at.1,
       so_far-looks g.W.World.meaning work at.0 course.sched.nodes course.jobs.items course.failure
           c.args.node dec.0 course.last_shown first
-          (moment (g.W.World.history c.args.world.now) out course.events)
-          (moment (g.W.World.history c.decide_on.new.world) out course.events) at.2 d.undecided may dec.1
-          refl refl,
+          (g.W.World.history c.args.world.now) (g.W.World.history c.decide_on.new.world) out
+          course.events at.2 d.undecided may dec.1,
     ))
     c.carry_out.ensures.halted

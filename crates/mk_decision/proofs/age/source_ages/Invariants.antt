@@ -1,0 +1,12 @@
+use Rattle.std.proofs.Common.{◌≡◌, ◌++◌, drop, map}
+use Rattle.mk_plan.specs.Plans.{node_at}
+use Rattle.mk_decision.specs.Ages as spec
+use Rattle.mk_decision.proofs.age.source_ages.Given as goal
+
+-- the ages so far, and those of the other sources
+abbrev pub invariant-loop-place : goal.invariant-loop-place
+invariant-loop-place l = record {
+  items : l.place-items ≡ (node_at l.plan l.node).sources;
+  are : spec.source_ages l.plan l.node l.seen
+      ≡ l.ages ++ map (spec.age l.plan l.seen) (drop l.place-index l.place-items);
+}

@@ -1,0 +1,9 @@
+pub mod Builds
+pub mod Calls
+pub mod Ends
+pub mod Growth
+pub mod Items
+pub mod Output
+pub mod Runs
+pub mod Settled
+pub mod Steps
