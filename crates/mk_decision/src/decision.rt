@@ -80,8 +80,8 @@ fn judge(maker: &Maker, node: u32, times: &Times) -> Result<Verdict, NoMemory>
     ensures stale { IfOk result (λ verdict. verdict.stale
         ≡ is_outdated (work_of maker.now) node times.now.target times.now.sources) }
 {
-    let sources = source_ages(maker.alloc, maker.plan, node, &times.sources)?;
-    let ages = sources.as_slice();
+    let dated = source_ages(maker.alloc, maker.plan, node, &times.sources)?;
+    let ages = dated.as_slice();
     let places = maker.plan.sources(node).as_slice();
     Ok(Verdict {
         newer: newer_names(maker.alloc, maker.plan, places, times.target, ages)?,

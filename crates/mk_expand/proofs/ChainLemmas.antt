@@ -8,13 +8,12 @@ use Rattle.mk_ast.specs.declared.tree.ModTree.{ModTree, IfUndefined, IfDefined, 
 use Rattle.mk_ast.specs.declared.tree.ModTree.{Each, the_lemmas}
 use Rattle.mk_ast.specs.declared.tree.Part.{Part}
 use Rattle.mk_ast.proofs.Views.{views}
-use Rattle.mk_bytes.specs.Agrees.{◌>>=◌}
 use Rattle.mk_mods.specs.Results.{with_result}
 use Rattle.mk_mods.specs.State.{State, plain, text_of}
 use Rattle.mk_expand.specs.Chains.{Chain, modified, given_modified, word_modified, all_modified}
 use Rattle.mk_expand.specs.Chains.{chained, chain_of, each_behind, found_as, given}
 use Rattle.mk_expand.specs.ModFaults.{with_fault}
-use Rattle.mk_expand.specs.Evaluators.{Counted, Finder, Progress}
+use Rattle.mk_expand.specs.Evaluators.{Answer, Finder, Progress, ◌>>=◌, gives, tried}
 use Rattle.mk_expand.specs.Names.{Context, while_bound}
 use Rattle.mk_expand.specs.Parts.{tree_value}
 use Rattle.mk_expand.specs.declared.chain.Found.{Found}
@@ -35,7 +34,7 @@ all_modified-mod find c p name chain mods i m within is =
 pub all_modified-end : (find : Finder) (c : Context) (p : Progress) (name : List ℕ)
     (chain : Chain) (mods : List ModTree) (i : ℕ)
     → length mods ≤ i
-    → all_modified find c p name chain (mods_view (drop i mods)) ≡ Ok (chain, p)
+    → all_modified find c p name chain (mods_view (drop i mods)) ≡ gives chain p
 unfolding all_modified
 all_modified-end find c p name chain mods i past =
     at_drop_all (λ (rest : List ModTree). all_modified find c p name chain (mods_view rest))
@@ -48,19 +47,20 @@ text_of-plain (byte ∷ bytes) = append-nil (byte ∷ bytes)
 
 pub chained_none : (find : Finder) (c : Context) (p : Progress) (name : List ℕ)
     (found : Found)
-    → chained find c p name found no_mods ≡ Ok (found, p)
+    → chained find c p name found no_mods ≡ gives found p
 unfolding all_modified
 chained_none find c p name found = rw (text_of-plain found.value) refl
 
 -- a text in place of a value without one, with no other modifier
 given-found : (find : Finder) (c : Context) (name : List ℕ) (found : Found)
-    (value : Counted (List ℕ))
-    → ((given (chain_of found) value >>= λ more. all_modified find c more.1 name more.0 no_mods)
-    >>= λ s. Ok (record { value = text_of s.0.state; defined = s.0.defined }, s.1))
-    ≡ found_as value
+    (value : Answer (List ℕ)) (names : List (List ℕ) → List (List ℕ))
+    → ((given (chain_of found) (record { answer = value; names = names })
+    >>= λ more. all_modified find c more.1 name more.0 no_mods)
+    >>= λ s. gives (record { value = text_of s.0.state; defined = s.0.defined }) s.1)
+    ≡ found_as (record { answer = value; names = names })
 unfolding all_modified
-given-found find c name found (Ok v) = rw (text_of-plain v.0) refl
-given-found find c name found (Err fault) = refl
+given-found find c name found (Ok v) names = rw (text_of-plain v.0) refl
+given-found find c name found (Err fault) names = refl
 
 pub chained-default : (find : Finder) (c : Context) (p : Progress) (name : List ℕ)
     (found : Found) (text : Tree)
@@ -69,15 +69,16 @@ pub chained-default : (find : Finder) (c : Context) (p : Progress) (name : List 
     ≡ found_as (tree_value find c p text)
 unfolding all_modified
 chained-default find c p name found text undefined =
-    rw undefined (given-found find c name found (tree_value find c p text))
+    let value = tree_value find c p text in
+    rw undefined (given-found find c name found value.answer value.names)
 
 pub each_behind-word : (find : Finder) (c : Context) (p : Progress) (name : List ℕ) (body : Tree)
     (results : State) (words : List (List ℕ)) (i : ℕ) (word : List ℕ)
     → i < length words → word ≡ get_or words i word
     → each_behind find c p name body results (drop i words)
     ≡ (tree_value find (while_bound c name word) p body
-    >>= λ v. with_fault (with_result results v.0)
-    >>= λ more. each_behind find c v.1 name body more (drop (i + 1) words))
+    >>= λ v. tried (with_fault (with_result results v.0)) v.1
+    >>= λ more. each_behind find c more.1 name body more.0 (drop (i + 1) words))
 unfolding each_behind
 each_behind-word find c p name body results words i word within is =
     ap (λ (rest : List (List ℕ)). each_behind find c p name body results rest)
@@ -88,7 +89,7 @@ each_behind-word find c p name body results words i word within is =
 pub each_behind-end : (find : Finder) (c : Context) (p : Progress) (name : List ℕ) (body : Tree)
     (results : State) (words : List (List ℕ)) (i : ℕ)
     → length words ≤ i
-    → each_behind find c p name body results (drop i words) ≡ Ok (results, p)
+    → each_behind find c p name body results (drop i words) ≡ gives results p
 unfolding each_behind
 each_behind-end find c p name body results words i past =
     at_drop_all (λ (rest : List (List ℕ)). each_behind find c p name body results rest) words i past

@@ -2,13 +2,13 @@
 use Rattle.std.proofs.Common.{◌≡◌, ◌⊎◌, ℕ, zero, suc, ◌≤◌, ◌<◌, inl, inr, List, [], ◌∷◌, ◌++◌, Some, Result}
 use Rattle.std.proofs.Common.{Ok, Err, slice_get, refl, sym, ap, ◌∙◌, append_assoc, arith}
 use Rattle.std.proofs.lemmas.List.{append-nil}
-use Rattle.mk_bytes.specs.Agrees.{Agrees, AgreesErr, AgreesBut, ◌>>=◌}
-use Rattle.mk_expand.specs.Calls.{Asks, Extends, Keeps}
+use Rattle.mk_bytes.specs.Agrees.{Agrees, AgreesErr, AgreesBut}
+use Rattle.mk_expand.specs.Calls.{Asks, Extends, Gives, Keeps}
 use Rattle.mk_mods.proofs.PieceLemmas.{Begins-trans}
 use Rattle.mk_expand.specs.declared.evaluation.Run.{Run}
-use Rattle.mk_expand.specs.Evaluators.{Counted, Progress, progress}
-use Rattle.mk_expand.specs.Value.{with_asked}
-use Rattle.mk_expand.specs.Facts.{Answers, AnsweredBy, AsksMore, IsOutside, Lists}
+use Rattle.mk_expand.specs.Evaluators.{Answer, Counted, Progress, answer_then, behind, progress}
+use Rattle.mk_expand.specs.Value.{questions_of, with_asked}
+use Rattle.mk_expand.specs.Facts.{Answers, AnsweredBy, AsksMore, IsOutside, Lists, RefusedBehind}
 use Rattle.mk_expand.specs.declared.facts.Asked.{Asked}
 use Rattle.mk_expand.specs.declared.fault.ExpandFault.{ExpandFault}
 use Rattle.mk_expand.specs.declared.fault.ExpandFault.TheVariants.{Failed, NoMemory}
@@ -140,48 +140,62 @@ Extends-then a b c first second = record {
 
 -- Values
 
-pub outside : {Y : Type 0} (fault : ExpandFault) (defined : Result Y ExpandFault)
-    → AgreesErr NoMemory fault defined → IsOutside fault ⊎ (defined ≡ Err fault)
-outside fault defined (inl want) = inl (inl want)
-outside fault defined (inr is) = inr is
+pub outside : {Y : Type 0} (fault : ExpandFault) (p : Progress) (defined : Result Y ExpandFault)
+    → AgreesErr NoMemory fault defined → IsOutside fault ⊎ (behind defined p ≡ Err (fault, p))
+outside fault p defined (inl want) = inl (inl want)
+outside fault p defined (inr is) = inr (ap (λ one. behind one p) is)
 
--- an answer without questions agrees whatever they are answered
-pub agrees_but : {X Y : Type 0} (view : X → Y) (answer : Result X ExpandFault)
+-- an answer without questions, at any progress
+pub gives_at : {X Y : Type 0} (view : X → Y) (p : Progress) (answer : Result X ExpandFault)
     (defined : Result Y ExpandFault)
-    → Agrees NoMemory view answer defined → AgreesBut IsOutside view answer defined
-agrees_but view (Ok x) defined agrees = agrees
-agrees_but view (Err fault) defined agrees = outside fault defined agrees
+    → Agrees NoMemory view answer defined → Gives view p answer (behind defined p)
+gives_at view p (Ok x) defined is = ap (λ one. behind one p) is
+gives_at view p (Err fault) defined (inl want) = inl (inl want)
+gives_at view p (Err fault) defined (inr is) = inr (ap (λ one. behind one p) is)
 
 -- the fault of a first step is the fault of all
-pub fault_of_all : {Y Z : Type 0} (fault : ExpandFault) (first : Result Y ExpandFault)
-    (next : Y → Result Z ExpandFault)
-    → IsOutside fault ⊎ (first ≡ Err fault)
-    → IsOutside fault ⊎ ((first >>= next) ≡ Err fault)
+pub fault_of_all : {Y Z : Type 0} {p : Progress} (fault : ExpandFault) (first : Answer Y)
+    (next : Y × Progress → Counted Z)
+    → IsOutside fault ⊎ (first ≡ Err (fault, p))
+    → IsOutside fault ⊎ (answer_then first next ≡ Err (fault, p))
 fault_of_all fault first next (inl free) = inl free
-fault_of_all fault first next (inr is) = inr (ap (λ r. r >>= next) is)
+fault_of_all fault first next (inr is) = inr (ap (λ one. answer_then one next) is)
 
--- what is given behind a first step
-pub agrees_then : {X Y Z : Type 0} (view : X → Z) (answer : Result X ExpandFault)
-    (first : Result Y ExpandFault) (given : Y) (next : Y → Result Z ExpandFault)
-    → first ≡ Ok given → AgreesBut IsOutside view answer (next given)
-    → AgreesBut IsOutside view answer (first >>= next)
-agrees_then view answer first given next is agrees = rw is agrees
+abbrev with_references : {X : Type 0} → ℕ → Result (X × List Asked) ExpandFault → Answer X
+with_references references (Ok told) = Ok (told.0, progress references told.1)
+with_references references (Err fault) = Err (fault, progress references [])
 
--- the progress behind an answer
+-- the progress behind the answer of a fact
 pub agrees_progress : {X : Type 0} (references : ℕ) (asked : List Asked)
-    (answer : Result X ExpandFault) (defined : Result (X × List Asked) ExpandFault)
-    → AgreesBut IsOutside (λ value. (value, asked)) answer defined
-    → AgreesBut {Y = X × Progress} IsOutside (λ value. (value, progress references asked)) answer
-    (defined >>= λ f. Ok (f.0, progress references f.1))
-agrees_progress references asked (Ok x) defined is = rw is refl
-agrees_progress references asked (Err fault) defined agrees =
-    fault_of_all fault defined (λ f. Ok (f.0, progress references f.1)) agrees
+    (answer : Result X ExpandFault) (told : X × List Asked)
+    → AgreesBut IsOutside (λ value. (value, asked)) answer (Ok told)
+    → Gives (λ value. value) (progress references asked) answer
+    (Ok (told.0, progress references told.1))
+agrees_progress references asked (Ok x) told is = ap (with_references references) is
+agrees_progress references asked (Err fault) told (inl free) = inl free
+agrees_progress references asked (Err fault) told (inr is) = absurd cc
 
 -- the questions in place of the progress
 pub agrees_asked : {X : Type 0} (references : ℕ) (asked : List Asked) (answer : Result X ExpandFault)
-    (defined : Counted X)
-    → AgreesBut IsOutside (λ value. (value, progress references asked)) answer defined
+    (defined : Answer X)
+    → Gives (λ value. value) (progress references asked) answer defined
     → AgreesBut {Y = X × List Asked} IsOutside (λ value. (value, asked)) answer (with_asked defined)
-agrees_asked references asked (Ok x) defined is = rw is refl
-agrees_asked references asked (Err fault) defined agrees =
-    fault_of_all fault defined (λ f. Ok (f.0, f.1.asked)) agrees
+agrees_asked references asked (Ok x) defined is = ap with_asked is
+agrees_asked references asked (Err fault) defined (inl free) = inl free
+agrees_asked references asked (Err fault) defined (inr is) = inr (ap with_asked is)
+
+refused_one : {X : Type 0} (fault : ExpandFault) (p : Progress) (defined : Answer X)
+    → IsOutside fault ⊎ (defined ≡ Err (fault, p))
+    → IsOutside fault ⊎ (questions_of defined ≡ p.asked)
+refused_one fault p defined (inl free) = inl free
+refused_one fault p defined (inr is) = inr (ap questions_of is)
+
+-- the questions behind a fault
+pub refused_behind : {X : Type 0} (references : ℕ) (asked : List Asked) (answer : Result X ExpandFault)
+    (defined : Answers → Answer X)
+    → ((answers : Answers) → AnsweredBy answers asked
+    → Gives (λ value. value) (progress references asked) answer (defined answers))
+    → RefusedBehind asked answer (λ answers. questions_of (defined answers))
+refused_behind references asked (Ok x) defined told = tt
+refused_behind references asked (Err fault) defined told = λ answers by.
+    refused_one fault (progress references asked) (defined answers) (told answers by)

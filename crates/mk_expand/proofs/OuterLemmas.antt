@@ -1,11 +1,11 @@
 -- The conditions round the one that is evaluated, one step at a time.
 use Rattle.std.proofs.Common.{◌≡◌, ◌+◌, ◌<◌, ◌≤◌, Bool, true, false, Bor, List, [], ◌∷◌, ◌++◌, length, drop}
-use Rattle.std.proofs.Common.{◌⊎◌, inl, inr, get_or, Ok, Err, refl, sym, ap, ◌∙◌, arith}
+use Rattle.std.proofs.Common.{◌⊎◌, inl, inr, get_or, Err, refl, sym, ap, ◌∙◌, arith}
 use Rattle.std.proofs.lemmas.List.{drop_more}
 use Rattle.mk_cond.specs.View.{cond_view, conds_view}
 use Rattle.mk_cond.specs.declared.cond.Cond.{Cond}
 use Rattle.mk_expand.specs.Conditions.{truth_of, any_truth, all_truth}
-use Rattle.mk_expand.specs.Evaluators.{Counted, Finder, Progress}
+use Rattle.mk_expand.specs.Evaluators.{Counted, Finder, Progress, gives}
 use Rattle.mk_expand.specs.Facts.{IsOutside}
 use Rattle.mk_expand.specs.Names.{Context}
 use Rattle.mk_expand.specs.Outer.{round, round_all, cond_size, conds_size, outer_size, weight}
@@ -20,25 +20,54 @@ round_all-push find c [] one inside = refl
 round_all-push find c (x ∷ outer) one inside =
     ap (round find c x) (round_all-push find c outer one inside)
 
-round-err : (find : Finder) (c : Context) (one : Outer) (fault : ExpandFault)
-    → round find c one (Err fault) ≡ Err fault
-round-err find c Not fault = refl
-round-err find c (Any left) fault = refl
-round-err find c (All left) fault = refl
+-- the answer of a condition round one is by the answer of that
+round-same : (find : Finder) (c : Context) (one : Outer) (inside other : Counted Bool)
+    → inside.answer ≡ other.answer
+    → (round find c one inside).answer ≡ (round find c one other).answer
+round-same find c Not inside other is = rw is refl
+round-same find c (Any left) inside other is = rw is refl
+round-same find c (All left) inside other is = rw is refl
+
+pub round_all-same : (find : Finder) (c : Context) (outer : List Outer) (inside other : Counted Bool)
+    → inside.answer ≡ other.answer
+    → (round_all find c outer inside).answer ≡ (round_all find c outer other).answer
+round_all-same find c [] inside other is = is
+round_all-same find c (x ∷ outer) inside other is =
+    round-same find c x (round_all find c outer inside) (round_all find c outer other)
+    (round_all-same find c outer inside other is)
+
+pub round_all-inside : (find : Finder) (c : Context) (outer : List Outer) (one : Outer)
+    (inside other : Counted Bool)
+    → inside.answer ≡ other.answer
+    → (round_all find c outer (round find c one inside)).answer
+    ≡ (round_all find c outer (round find c one other)).answer
+round_all-inside find c outer one inside other is =
+    round_all-same find c outer (round find c one inside) (round find c one other)
+    (round-same find c one inside other is)
+
+round-err : (find : Finder) (c : Context) (one : Outer) (inside : Counted Bool)
+    (fault : ExpandFault × Progress)
+    → inside.answer ≡ Err fault → (round find c one inside).answer ≡ Err fault
+round-err find c Not inside fault is = rw is refl
+round-err find c (Any left) inside fault is = rw is refl
+round-err find c (All left) inside fault is = rw is refl
 
 -- the fault of a condition is that of all that are round it
-round_all-err : (find : Finder) (c : Context) (outer : List Outer) (fault : ExpandFault)
-    → round_all find c outer (Err fault) ≡ Err fault
-round_all-err find c [] fault = refl
-round_all-err find c (x ∷ outer) fault =
-    ap (round find c x) (round_all-err find c outer fault) ∙ round-err find c x fault
+round_all-err : (find : Finder) (c : Context) (outer : List Outer) (inside : Counted Bool)
+    (fault : ExpandFault × Progress)
+    → inside.answer ≡ Err fault → (round_all find c outer inside).answer ≡ Err fault
+round_all-err find c [] inside fault is = is
+round_all-err find c (x ∷ outer) inside fault is =
+    round-err find c x (round_all find c outer inside) fault
+    (round_all-err find c outer inside fault is)
 
-pub fault_inside : (find : Finder) (c : Context) (outer : List Outer) (inside : Counted Bool)
-    (fault : ExpandFault) → IsOutside fault ⊎ (inside ≡ Err fault)
-    → IsOutside fault ⊎ (round_all find c outer inside ≡ Err fault)
+pub fault_inside : {p : Progress} (find : Finder) (c : Context) (outer : List Outer)
+    (inside : Counted Bool) (fault : ExpandFault)
+    → IsOutside fault ⊎ (inside.answer ≡ Err (fault, p))
+    → IsOutside fault ⊎ ((round_all find c outer inside).answer ≡ Err (fault, p))
 fault_inside find c outer inside fault (inl free) = inl free
-fault_inside find c outer inside fault (inr is) =
-    inr (ap (round_all find c outer) is ∙ round_all-err find c outer fault)
+fault_inside {p} find c outer inside fault (inr is) =
+    inr (round_all-err find c outer inside (fault, p) is)
 
 pub weight-push : (outer : List Outer) (one : Outer)
     → weight (outer ++ one ∷ []) ≡ weight outer + outer_size one
@@ -53,13 +82,13 @@ first_of conds first left some is rest =
     ∙ ap (λ (more : List Cond). first ∷ more) (sym rest)
 
 pub any_of-none : (find : Finder) (c : Context) (p : Progress) (conds : List Cond)
-    → length conds < 1 → Ok (false, p) ≡ any_truth find c p (conds_view conds)
+    → length conds < 1 → gives false p ≡ any_truth find c p (conds_view conds)
 unfolding any_truth
 any_of-none find c p [] none = refl
 any_of-none find c p (cond ∷ conds) none = absurd (omega (arith, none))
 
 pub all_of-none : (find : Finder) (c : Context) (p : Progress) (conds : List Cond)
-    → length conds < 1 → Ok (true, p) ≡ all_truth find c p (conds_view conds)
+    → length conds < 1 → gives true p ≡ all_truth find c p (conds_view conds)
 unfolding all_truth
 all_of-none find c p [] none = refl
 all_of-none find c p (cond ∷ conds) none = absurd (omega (arith, none))

@@ -8,8 +8,7 @@ use Rattle.mk_ast.specs.Tree.{Tree, end, part, plain}
 use Rattle.mk_ast.specs.Tree as tree
 use Rattle.mk_ast.specs.View.{part_view, tree_view}
 use Rattle.mk_ast.specs.declared.tree.Part.{Part}
-use Rattle.mk_bytes.specs.Agrees.{◌>>=◌}
-use Rattle.mk_expand.specs.Evaluators.{Counted, Finder, Progress, progress}
+use Rattle.mk_expand.specs.Evaluators.{Counted, Finder, Progress, ◌>>=◌, gives, progress, tried}
 use Rattle.mk_expand.specs.declared.facts.Asked.{Asked}
 use Rattle.mk_expand.specs.Limits.{MayOpen, MayNotOpen, appended}
 use Rattle.mk_expand.specs.Names.{Context}
@@ -32,7 +31,7 @@ joined-part find c p text parts i one less is =
 
 pub joined-end : (find : Finder) (c : Context) (p : Progress) (text : List ℕ)
     (parts : List Part) (i : ℕ)
-    → length parts ≤ i → joined find c p text (tree_view (drop i parts)) ≡ Ok (text, p)
+    → length parts ≤ i → joined find c p text (tree_view (drop i parts)) ≡ gives text p
 unfolding joined
 joined-end find c p text parts i past =
     at_drop_all (λ (rest : List Part). joined find c p text (tree_view rest)) parts i past
@@ -54,31 +53,20 @@ joined-new find c p text old parts i one less is =
 pub joined-new-end : (find : Finder) (c : Context) (p : Progress) (text old : List ℕ)
     (parts : List Part) (i : ℕ)
     → length parts ≤ i
-    → joined find c p text (old_in_tree old (tree_view (drop i parts))) ≡ Ok (text, p)
+    → joined find c p text (old_in_tree old (tree_view (drop i parts))) ≡ gives text p
 unfolding joined old_in_tree
 joined-new-end find c p text old parts i past =
     at_drop_all (λ (rest : List Part). joined find c p text (old_in_tree old (tree_view rest)))
     parts i past
-
-abbrev with_progress : Progress → List ℕ → Counted (List ℕ)
-with_progress p text = Ok (text, p)
-
-at_progress : (find : Finder) (c : Context) (p : Progress) (tree : Tree)
-    (found : Result (List ℕ) ExpandFault)
-    → ((found >>= with_progress p) >>= λ more. joined find c more.1 more.0 tree)
-    ≡ (found >>= λ text. joined find c p text tree)
-at_progress find c p tree (Ok text) = refl
-at_progress find c p tree (Err fault) = refl
 
 -- what is old in `:S`, with an anchor at its beginning and without one
 pub old_text_start : (find : Finder) (c : Context) (p : Progress) (from before tree : Tree)
     (bytes : List ℕ)
     → before ≡ without_end from → without_start before ≡ part (plain bytes) tree
     → tree_value find c p (without_anchors from)
-    ≡ (appended [] bytes >>= λ text. joined find c p text tree)
+    ≡ (tried (appended [] bytes) p >>= λ text. joined find c text.1 text.0 tree)
 unfolding joined
-old_text_start find c p from before tree bytes ends starts =
-    rw (← ends, starts) (at_progress find c p tree (appended [] bytes))
+old_text_start find c p from before tree bytes ends starts = rw (← ends, starts) refl
 
 without_start-none : (tree : Tree) → at_start tree ≡ false → without_start tree ≡ tree
 without_start-none end none = refl
@@ -93,9 +81,9 @@ old_text_none find c p from before ends none = rw (← ends, without_start-none 
 pub found-not : (room references : ℕ) (asked : List Asked) (c : Context) (one : tree.Part)
     (fault : ExpandFault)
     → MayNotOpen room references fault
-    → found_at room c (progress references asked) one ≡ Err fault
+    → found_at room c (progress references asked) one ≡ tried (Err fault) (progress references asked)
 unfolding found_at
-found-not zero references asked c one fault (inl deep) = ap (λ f. Err f) (sym deep.1)
+found-not zero references asked c one fault (inl deep) = rw deep.1 refl
 found-not (suc room) references asked c one fault (inl deep) = absurd (omega (arith, deep.0))
 found-not zero references asked c one fault (inr many) = absurd (omega (arith, many.0))
 found-not (suc room) references asked c one fault (inr many) =

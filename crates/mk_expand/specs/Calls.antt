@@ -1,12 +1,12 @@
 -- What one call of an evaluation is given, and what it leaves.
-use Rattle.std.specs.Prelude.{◌≡◌, ℕ, Bool, List, [], Result}
+use Rattle.std.specs.Prelude.{◌≡◌, ◌⊎◌, ℕ, Bool, List, [], Result, Ok, Err}
 use Rattle.mk_mods.specs.Pieces.{Begins}
 use Rattle.mk_scopes.specs.Scopes.{Variables}
 use Rattle.mk_world.specs.Causes.{HasCause}
-use Rattle.mk_expand.specs.Evaluators.{Progress, progress}
-use Rattle.mk_expand.specs.Facts.{Answers, AsksMore, Lists}
+use Rattle.mk_expand.specs.Evaluators.{Answer, Counted, Progress, progress}
+use Rattle.mk_expand.specs.Facts.{Answers, AnsweredBy, AsksMore, IsOutside, Lists}
 use Rattle.mk_expand.specs.declared.facts.Asked.{Asked}
-use Rattle.mk_expand.specs.Names.{Context}
+use Rattle.mk_expand.specs.Names.{Context, raw_in}
 use Rattle.mk_expand.specs.declared.evaluation.Run.{Run}
 use Rattle.mk_expand.specs.declared.fault.ExpandFault.{ExpandFault}
 use Rattle.mk_expand.specs.declared.fault.ExpandFault.TheVariants.{Failed}
@@ -15,8 +15,8 @@ use Rattle.mk_expand.specs.declared.local.Locals.{Locals}
 -- what names and facts mean in a call
 abbrev pub here : Variables → Locals → Lists → Run → Bool → Answers → Context
 here variables locals lists run keep answers = record {
-  variables = variables;
-  locals = locals;
+  raw = raw_in variables locals;
+  cwd = variables.cwd;
   lists = lists;
   answers = answers;
   bound = run.bound;
@@ -28,9 +28,18 @@ here variables locals lists run keep answers = record {
 abbrev pub at : Run → List Asked → Progress
 at run asked = progress run.references asked
 
--- what a call gives, and how far the evaluation is behind it
-abbrev pub behind : {A : Type 0} → Run → List Asked → A → A × Progress
-behind run asked given = (given, at run asked)
+-- A call's answer, seen by `view`, is what is defined, and so is the progress behind it, also behind a
+-- fault. Want of memory and a failure of the outside may stand in place of any answer.
+abbrev pub Gives : {X Y : Type 0} → (X → Y) → Progress → Result X ExpandFault → Answer Y → Type 0
+Gives view p (Ok given) defined = defined ≡ Ok (view given, p)
+Gives view p (Err fault) defined = IsOutside fault ⊎ (defined ≡ Err (fault, p))
+
+-- The answer of a call is what is defined by the answers to all that was asked up to its end.
+abbrev pub Evaluates : {X Y : Type 0} → Run → List Asked → (X → Y) → Result X ExpandFault
+    → (Answers → Counted Y) → Type 0
+Evaluates run asked view result defined =
+    (answers : Answers) → AnsweredBy answers asked
+    → Gives view (at run asked) result (defined answers).answer
 
 -- what a call leaves of a run as it was
 pub record Keeps (old new : Run) : Type 0 where

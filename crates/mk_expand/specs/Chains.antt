@@ -2,7 +2,6 @@
 use Rattle.std.specs.Prelude.{ℕ, ◌==◌, Bool, true, false, List, [], ◌∷◌, Option, Some, None, Result}
 use Rattle.std.specs.Prelude.{Ok, Err, if◌then◌else◌, codes}
 use Rattle.std.specs.List.{list_any}
-use Rattle.mk_bytes.specs.Agrees.{◌>>=◌}
 use Rattle.mk_ast.specs.Tree as tree
 use Rattle.mk_ast.specs.Tree.{Tree, Mods, no_mods, mod_then}
 use Rattle.mk_cond.specs.Conditions.{condition_of}
@@ -20,8 +19,7 @@ use Rattle.mk_mods.specs.declared.modifier.Mod.TheVariants.{Lower, Upper, Quote,
 use Rattle.mk_mods.specs.declared.modifier.Mod.TheVariants.{Separator, OneWord, ManyWords, Select}
 use Rattle.mk_mods.specs.declared.modifier.Mod.TheVariants.{Range}
 use Rattle.mk_expand.specs.Conditions.{truth_of}
-use Rattle.mk_expand.specs.Evaluators.{Progress, Counted, Finder}
-use Rattle.mk_expand.specs.Limits.{appended}
+use Rattle.mk_expand.specs.Evaluators.{Progress, Counted, Finder, ◌>>=◌, either, gives, tried}
 use Rattle.mk_expand.specs.ModFaults.{with_fault}
 use Rattle.mk_expand.specs.Names.{Context, while_bound}
 use Rattle.mk_expand.specs.Parts.{tree_value}
@@ -42,11 +40,7 @@ defined_as value = record { value = value; defined = true }
 
 -- a text that is the value
 abbrev pub found_as : Counted (List ℕ) → Counted Found
-found_as text = text >>= λ v. Ok (defined_as v.0, v.1)
-
--- a raw value without any `$`, which is its own value
-abbrev pub plain_found : List ℕ → Result Found ExpandFault
-plain_found raw = appended [] raw >>= λ value. Ok (defined_as value)
+found_as text = text >>= λ v. gives (defined_as v.0) v.1
 
 -- A modifier of words without a text that has to be evaluated. The others are none.
 abbrev pub textless : tree.Mod → Option Mod
@@ -68,7 +62,7 @@ textless tree.range = Some (Range (codes "0"))
 textless _ = None
 
 abbrev pub with_text : Finder → Context → Progress → Tree → (List ℕ → Mod) → Counted (Option Mod)
-with_text find c p text make = tree_value find c p text >>= λ v. Ok (Some (make v.0), v.1)
+with_text find c p text make = tree_value find c p text >>= λ v. gives (Some (make v.0)) v.1
 
 abbrev pub has_flag : List ℕ → ℕ → Bool
 has_flag flags flag = list_any (λ byte. byte == flag) flags
@@ -83,13 +77,13 @@ abbrev pub subst_of : Finder → Context → Progress → Tree → Tree → List
 subst_of find c p from to flags =
     tree_value find c p (without_anchors from)
     >>= λ old. tree_value find c old.1 (old_in_tree old.0 to)
-    >>= λ new. Ok (Some (substitution from flags old.0 new.0), new.1)
+    >>= λ new. gives (Some (substitution from flags old.0 new.0)) new.1
 
 abbrev pub suffix_of : Finder → Context → Progress → Tree → Tree → Counted (Option Mod)
 suffix_of find c p from to =
     tree_value find c p from
     >>= λ old. tree_value find c old.1 to
-    >>= λ new. Ok (Some (Suffix old.0 new.0), new.1)
+    >>= λ new. gives (Some (Suffix old.0 new.0)) new.1
 
 -- A modifier of words with its texts evaluated from left to right.
 abbrev pub mod_of : Finder → Context → Progress → tree.Mod → Counted (Option Mod)
@@ -99,7 +93,7 @@ mod_of find c p (tree.subst delim from to flags) = subst_of find c p from to fla
 mod_of find c p (tree.select places) = with_text find c p places Select
 mod_of find c p (tree.range_to number) = with_text find c p number Range
 mod_of find c p (tree.suffix from to) = suffix_of find c p from to
-mod_of find c p m = Ok (textless m, p)
+mod_of find c p m = gives (textless m) p
 
 abbrev pub applied : Option Mod → State → Result State ExpandFault
 applied None state = Ok state
@@ -119,17 +113,17 @@ given_as chain text =
     record { state = with_items chain.state (items_of text); defined = true }
 
 abbrev pub given : Chain → Counted (List ℕ) → Counted Chain
-given chain value = value >>= λ v. Ok (given_as chain v.0, v.1)
+given chain value = value >>= λ v. gives (given_as chain v.0) v.1
 
 -- `:U` gives its text where the value is undefined
 abbrev pub if_undefined : Finder → Context → Progress → Chain → Tree → Counted Chain
 if_undefined find c p chain text =
-    if chain.defined then Ok (chain, p) else given chain (tree_value find c p text)
+    either chain.defined (gives chain p) (given chain (tree_value find c p text))
 
 -- `:D` gives its text where the value is defined, and else nothing
 abbrev pub if_defined : Finder → Context → Progress → Chain → Tree → Counted Chain
 if_defined find c p chain text =
-    given chain (if chain.defined then tree_value find c p text else Ok ([], p))
+    given chain (either chain.defined (tree_value find c p text) (gives [] p))
 
 -- a fault in the condition of a `:?`; want of memory is what it is everywhere
 abbrev pub of_cond : CondFault → ExpandFault
@@ -148,31 +142,31 @@ name_condition name = with_cond_fault (condition_of Inner name)
 
 abbrev pub chosen : Finder → Context → Progress → List ℕ → Tree → Tree → Counted (List ℕ)
 chosen find c p name first second =
-    name_condition name
-    >>= λ cond. truth_of find c p cond
+    tried (name_condition name) p
+    >>= λ cond. truth_of find c cond.1 cond.0
     >>= λ t. tree_value find c t.1 (if t.0 then first else second)
 
 -- The body of `:@` for each word, for which its variable stands, behind the results so far. They are
 -- too long from the first one on with which their printed text is.
 unfoldable pub each_behind : Finder → Context → Progress → List ℕ → Tree → State → List (List ℕ)
     → Counted State
-each_behind find c p name body results [] = Ok (results, p)
+each_behind find c p name body results [] = gives results p
 each_behind find c p name body results (word ∷ words) =
     tree_value find (while_bound c name word) p body
-    >>= λ v. with_fault (with_result results v.0)
-    >>= λ more. each_behind find c v.1 name body more words
+    >>= λ v. tried (with_fault (with_result results v.0)) v.1
+    >>= λ more. each_behind find c more.1 name body more.0 words
 
 -- `:@`: the results are the items
 abbrev pub each : Finder → Context → Progress → Chain → List ℕ → Tree → Counted Chain
 each find c p chain name body =
     each_behind find c p name body (no_results chain.state) (words_of chain.state)
-    >>= λ results. Ok (with_state chain results.0, results.1)
+    >>= λ results. gives (with_state chain results.0) results.1
 
 abbrev pub word_modified : Finder → Context → Progress → Chain → tree.Mod → Counted Chain
 word_modified find c p chain m =
     mod_of find c p m
-    >>= λ one. applied one.0 chain.state
-    >>= λ state. Ok (with_state chain state, one.1)
+    >>= λ one. tried (applied one.0 chain.state) one.1
+    >>= λ state. gives (with_state chain state.0) state.1
 
 -- `:?` gives what it chooses
 abbrev pub choose : Finder → Context → Progress → List ℕ → Chain → Tree → Tree → Counted Chain
@@ -182,7 +176,7 @@ abbrev pub given_modified : Finder → Context → Progress → List ℕ → Cha
     → Counted Chain
 given_modified find c p name chain (tree.if_undefined text) = if_undefined find c p chain text
 given_modified find c p name chain (tree.if_defined text) = if_defined find c p chain text
-given_modified find c p name chain tree.name_of = Ok (given_as chain name, p)
+given_modified find c p name chain tree.name_of = gives (given_as chain name) p
 given_modified find c p name chain m = word_modified find c p chain m
 
 -- One modifier of a reference to a name. Only what is chosen is evaluated.
@@ -193,7 +187,7 @@ modified find c p name chain m = given_modified find c p name chain m
 
 -- the modifiers from left to right
 unfoldable pub all_modified : Finder → Context → Progress → List ℕ → Chain → Mods → Counted Chain
-all_modified find c p name chain no_mods = Ok (chain, p)
+all_modified find c p name chain no_mods = gives chain p
 all_modified find c p name chain (mod_then m mods) =
     modified find c p name chain m >>= λ more. all_modified find c more.1 name more.0 mods
 
@@ -204,4 +198,4 @@ chain_of found = record { state = plain found.value; defined = found.defined }
 abbrev pub chained : Finder → Context → Progress → List ℕ → Found → Mods → Counted Found
 chained find c p name found mods =
     all_modified find c p name (chain_of found) mods
-    >>= λ s. Ok (record { value = text_of s.0.state; defined = s.0.defined }, s.1)
+    >>= λ s. gives (record { value = text_of s.0.state; defined = s.0.defined }) s.1

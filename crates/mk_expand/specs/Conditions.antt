@@ -1,9 +1,8 @@
 -- The truth of a condition (make(1), the directive `.if`). What does not decide is not evaluated.
-use Rattle.std.specs.Prelude.{ℕ, ◌-◌, ◌||◌, Bool, true, false, not, List, length, drop, take, position}
-use Rattle.std.specs.Prelude.{Option, Some, None, is_some, is_none, unwrap_or, Result, Ok, Err}
+use Rattle.std.specs.Prelude.{ℕ, ◌-◌, Bool, true, false, not, List, length, drop, take, position}
+use Rattle.std.specs.Prelude.{Option, Some, None, is_none, unwrap_or, Result, Ok, Err}
 use Rattle.std.specs.Prelude.{if◌then◌else◌}
 use Rattle.std.specs.List.{suffix_len}
-use Rattle.mk_bytes.specs.Agrees.{◌>>=◌}
 use Rattle.mk_bytes.specs.Paths.{clean}
 use Rattle.mk_bytes.specs.Words.{is_white, is_no_white}
 use Rattle.mk_ast.specs.Tree.{Tree, Part, end, part, short, ref}
@@ -15,15 +14,12 @@ use Rattle.mk_cond.specs.declared.cond.Fun.{Fun}
 use Rattle.mk_cond.specs.declared.cond.Fun.TheVariants.{Defined, Make, Empty, Exists, Target}
 use Rattle.mk_cond.specs.declared.cond.Fun.TheVariants.{Commands}
 use Rattle.mk_cond.specs.declared.fault.NoNumber.{NoNumber}
-use Rattle.mk_expand.specs.Evaluators.{Progress, Counted, Finder, with_asked}
+use Rattle.mk_expand.specs.Evaluators.{Progress, Counted, Finder, ◌>>=◌, either, gives, looking, tried}
+use Rattle.mk_expand.specs.Evaluators.{with_asked}
 use Rattle.mk_expand.specs.Facts.{Answers, Lists, fact_of, asked_with}
 use Rattle.mk_expand.specs.declared.facts.Asked.{Asked}
-use Rattle.mk_expand.specs.Locals.{is_local}
-use Rattle.mk_expand.specs.Names.{Context, known, last_value}
+use Rattle.mk_expand.specs.Names.{Context, is_defined, last_value}
 use Rattle.mk_expand.specs.Parts.{tree_value}
-use Rattle.mk_scopes.specs.Scopes.{Variables}
-use Rattle.mk_bytes.specs.declared.pair.Pair.{Pair}
-use Rattle.mk_expand.specs.declared.local.Locals.{Locals}
 use Rattle.mk_expand.specs.declared.chain.Found.{Found}
 use Rattle.mk_expand.specs.declared.fault.ExpandFault.{ExpandFault}
 use Rattle.mk_expand.specs.declared.fault.ExpandFault.TheVariants as faults
@@ -52,24 +48,19 @@ fact lists answers asked fun argument =
 
 abbrev pub fact_answer : Context → Progress → Fun → List ℕ → Counted Bool
 fact_answer c p fun argument =
-    let told = fact c.lists c.answers p.asked fun argument in Ok (told.0, with_asked p told.1)
+    let told = fact c.lists c.answers p.asked fun argument in gives told.0 (with_asked p told.1)
 
 abbrev pub path_answer : Context → Progress → Fun → List ℕ → Counted Bool
-path_answer c p fun name = fact_answer c p fun (clean c.variables.cwd name)
+path_answer c p fun name = fact_answer c p fun (clean c.cwd name)
 
--- Whether a name has a raw value. Of a local name the name alone decides.
-abbrev pub is_defined : Variables → Locals → List Pair → List ℕ → Bool
-is_defined variables locals bound name =
-    is_some (last_value bound name)
-    || (is_local locals name || is_some (known variables name))
-
+-- The name is looked up. No value is put together for it.
 abbrev pub defined_answer : Context → Progress → List ℕ → Counted Bool
-defined_answer c p name = Ok (is_defined c.variables c.locals c.bound name, p)
+defined_answer c p name = looking name (gives (is_defined (last_value c.bound name) (c.raw name)) p)
 
 -- The answer of a function to the value of its argument, which is trimmed. Paths are cleaned.
 abbrev pub answer_of : Context → Progress → Fun → List ℕ → Counted Bool
 answer_of c p Defined value = defined_answer c p (trimmed value)
-answer_of c p Empty value = Ok (is_white_alone value, p)
+answer_of c p Empty value = gives (is_white_alone value) p
 answer_of c p Make value = fact_answer c p Make (trimmed value)
 answer_of c p Exists value = path_answer c p Exists (trimmed value)
 answer_of c p Target value = path_answer c p Target (trimmed value)
@@ -101,17 +92,17 @@ if_defined found = if found.defined then Ok found.value else Err faults.Undefine
 abbrev pub unquoted_value : Finder → Context → Progress → Tree → Option Part → Counted (List ℕ)
 unquoted_value find c p tree None = tree_value find c p tree
 unquoted_value find c p tree (Some reference) =
-    find c p reference >>= λ found. if_defined found.0 >>= λ value. Ok (value, found.1)
+    find c p reference >>= λ found. tried (if_defined found.0) found.1
 
 -- The value of a side. One that is not quoted and is one reference has to be defined.
 abbrev pub side_value : Finder → Context → Progress → Side → Counted (List ℕ)
 side_value find c p side =
-    if side.quoted then tree_value find c p side.text
-    else unquoted_value find c p side.text (lone_reference side.text)
+    either side.quoted (tree_value find c p side.text)
+    (unquoted_value find c p side.text (lone_reference side.text))
 
 abbrev pub alone_truth : Finder → Context → Progress → Side → Counted Bool
 alone_truth find c p side =
-    side_value find c p side >>= λ v. Ok (truth v.0 side.quoted, v.1)
+    side_value find c p side >>= λ v. gives (truth v.0 side.quoted) v.1
 
 abbrev pub of_numbers : Result Bool NoNumber → Result Bool ExpandFault
 of_numbers (Ok answer) = Ok answer
@@ -122,13 +113,12 @@ abbrev pub both_truth : Finder → Context → Progress → Side → CmpOp → S
 both_truth find c p left op right =
     side_value find c p left
     >>= λ l. side_value find c l.1 right
-    >>= λ r. of_numbers (compare l.0 left.quoted op r.0 right.quoted)
-    >>= λ answer. Ok (answer, r.1)
+    >>= λ r. tried (of_numbers (compare l.0 left.quoted op r.0 right.quoted)) r.1
 
 -- Conditions
 
 abbrev pub turned_round : Counted Bool → Counted Bool
-turned_round found = found >>= λ t. Ok (not t.0, t.1)
+turned_round found = found >>= λ t. gives (not t.0) t.1
 
 unfoldable mutual
   -- The truth of a condition.
@@ -142,14 +132,14 @@ unfoldable mutual
 
   -- the first that is true decides
   pub any_truth : Finder → Context → Progress → Conds → Counted Bool
-  any_truth find c p no_more = Ok (false, p)
+  any_truth find c p no_more = gives false p
   any_truth find c p (cond_then cond conds) =
       truth_of find c p cond
-      >>= λ t. (if t.0 then Ok (true, t.1) else any_truth find c t.1 conds)
+      >>= λ t. either t.0 (gives true t.1) (any_truth find c t.1 conds)
 
   -- the first that is false decides
   pub all_truth : Finder → Context → Progress → Conds → Counted Bool
-  all_truth find c p no_more = Ok (true, p)
+  all_truth find c p no_more = gives true p
   all_truth find c p (cond_then cond conds) =
       truth_of find c p cond
-      >>= λ t. (if t.0 then all_truth find c t.1 conds else Ok (false, t.1))
+      >>= λ t. either t.0 (all_truth find c t.1 conds) (gives false t.1)

@@ -1,6 +1,6 @@
 -- Facts: what conditions ask of what is outside them.
 use Rattle.std.specs.Prelude.{◌≡◌, ◌⊎◌, ℕ, Bool, true, false, List, [], ◌∷◌, ◌++◌, length, slice_get}
-use Rattle.std.specs.Prelude.{Some, Result}
+use Rattle.std.specs.Prelude.{Some, Result, Ok, Err}
 use Rattle.std.specs.List.{list_any}
 use Rattle.std.specs.Str.{bytes_eq}
 use Rattle.mk_bytes.specs.Agrees.{AgreesBut}
@@ -82,3 +82,11 @@ abbrev pub Means : {X Y : Type 0} → List Asked → (X → Y) → Result X Expa
 Means asked view answer defined =
     (answers : Answers) → AnsweredBy answers asked
     → AgreesBut IsOutside view answer (defined answers)
+
+-- Where a call is refused, and not by the outside, it has asked these questions.
+abbrev pub RefusedBehind : {X : Type 0} → List Asked → Result X ExpandFault
+    → (Answers → List Asked) → Type 0
+RefusedBehind asked (Ok given) questions = Unit {0}
+RefusedBehind asked (Err fault) questions =
+    (answers : Answers) → AnsweredBy answers asked
+    → IsOutside fault ⊎ (questions answers ≡ asked)

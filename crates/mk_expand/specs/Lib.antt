@@ -5,10 +5,12 @@ pub mod Evaluators
 pub mod Facts
 pub mod Limits
 pub mod Locals
+pub mod Looks
 pub mod ModFaults
 pub mod Names
 pub mod Outer
 pub mod Parts
+pub mod Plain
 pub mod Separators
 pub mod Steps
 pub mod Substitutions

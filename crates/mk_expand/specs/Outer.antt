@@ -1,12 +1,11 @@
 -- The conditions round the one that is evaluated, which the code keeps in a list, the innermost last.
-use Rattle.std.specs.Prelude.{ℕ, ◌+◌, Bool, true, false, List, [], ◌∷◌, Ok, if◌then◌else◌}
+use Rattle.std.specs.Prelude.{ℕ, ◌+◌, Bool, true, false, List, [], ◌∷◌}
 use Rattle.mk_ast.specs.View.{tree_view}
-use Rattle.mk_bytes.specs.Agrees.{◌>>=◌}
 use Rattle.mk_cond.specs.Cond.{Cond, Conds, any, all, negate, test, alone, both, no_more, cond_then}
 use Rattle.mk_cond.specs.View.{cond_view, conds_view, side_view}
 use Rattle.mk_expand.specs.Conditions.{truth_of, any_truth, all_truth, turned_round}
 use Rattle.mk_expand.specs.Conditions.{test_truth, alone_truth, both_truth}
-use Rattle.mk_expand.specs.Evaluators.{Counted, Finder, Progress}
+use Rattle.mk_expand.specs.Evaluators.{Counted, Finder, Progress, ◌>>=◌, either, gives}
 use Rattle.mk_expand.specs.Names.{Context}
 use Rattle.mk_expand.specs.declared.outer.Leaf.{Leaf}
 use Rattle.mk_expand.specs.declared.outer.Outer.{Outer}
@@ -19,16 +18,16 @@ use Rattle.mk_expand.specs.declared.outer.Step.TheVariants.{Inside, AtLeaf}
 abbrev pub round : Finder → Context → Outer → Counted Bool → Counted Bool
 round find c Not inside = turned_round inside
 round find c (Any left) inside =
-    inside >>= λ t. (if t.0 then Ok (true, t.1) else any_truth find c t.1 (conds_view left.now))
+    inside >>= λ t. either t.0 (gives true t.1) (any_truth find c t.1 (conds_view left.now))
 round find c (All left) inside =
-    inside >>= λ t. (if t.0 then all_truth find c t.1 (conds_view left.now) else Ok (false, t.1))
+    inside >>= λ t. either t.0 (all_truth find c t.1 (conds_view left.now)) (gives false t.1)
 
 abbrev pub round_all : Finder → Context → List Outer → Counted Bool → Counted Bool
 round_all find c [] inside = inside
 round_all find c (one ∷ inner) inside = round find c one (round_all find c inner inside)
 
 abbrev pub leaf_truth : Finder → Context → Progress → Leaf → Counted Bool
-leaf_truth find c p (Known truth) = Ok (truth, p)
+leaf_truth find c p (Known truth) = gives truth p
 leaf_truth find c p (Test fun argument) = test_truth find c p fun (tree_view argument.now)
 leaf_truth find c p (Alone side) = alone_truth find c p (side_view side.now)
 leaf_truth find c p (Both left op right) =

@@ -1,9 +1,8 @@
 -- The code's steps of an evaluation.
 use Rattle.std.specs.Prelude.{ℕ, List}
-use Rattle.mk_bytes.specs.Agrees.{◌>>=◌}
 use Rattle.mk_ast.specs.Tree.{Mods}
 use Rattle.mk_expand.specs.Chains.{chained}
-use Rattle.mk_expand.specs.Evaluators.{Progress, Counted, Finder}
+use Rattle.mk_expand.specs.Evaluators.{Progress, Counted, Finder, ◌>>=◌}
 use Rattle.mk_expand.specs.Names.{Context, in_name}
 use Rattle.mk_expand.specs.Value.{variable}
 use Rattle.mk_expand.specs.declared.chain.Found.{Found}

@@ -1,13 +1,13 @@
 -- The value of a text, and the truth of a condition.
 use Rattle.std.specs.Prelude.{ℕ, zero, suc, Bool, false, nat_lt, List, [], ◌∷◌, Option, Some, None}
-use Rattle.std.specs.Prelude.{Result, Ok, Err, if◌then◌else◌}
-use Rattle.mk_bytes.specs.Agrees.{◌>>=◌}
+use Rattle.std.specs.Prelude.{Result, Ok, Err}
 use Rattle.mk_ast.specs.Tree.{Tree, Part, Mods, short, ref}
 use Rattle.mk_cond.specs.Cond.{Cond}
 use Rattle.mk_scopes.specs.Scopes.{Variables}
 use Rattle.mk_expand.specs.Chains.{undefined, defined_as, chained}
 use Rattle.mk_expand.specs.Conditions.{truth_of}
-use Rattle.mk_expand.specs.Evaluators.{Progress, Counted, Finder, progress, with_reference}
+use Rattle.mk_expand.specs.Evaluators.{Answer, Progress, Counted, Finder, ◌>>=◌, either, gives, looking}
+use Rattle.mk_expand.specs.Evaluators.{progress, tried, with_reference}
 use Rattle.mk_expand.specs.Facts.{Answers, Lists}
 use Rattle.mk_expand.specs.declared.facts.Asked.{Asked}
 use Rattle.mk_expand.specs.Limits.{max_open, max_references}
@@ -22,17 +22,22 @@ use Rattle.mk_expand.specs.declared.local.Locals.{Locals}
 -- a raw value is a text, whose variable's name is open while it is evaluated
 abbrev pub opened_value : Finder → Context → Progress → List ℕ → List ℕ → Counted Found
 opened_value find c p name raw =
-    text_value find (while_open c name) p raw >>= λ v. Ok (defined_as v.0, v.1)
+    text_value find (while_open c name) p raw >>= λ v. gives (defined_as v.0) v.1
 
 abbrev pub expanded : Finder → Context → Progress → List ℕ → Option (List ℕ) → Counted Found
-expanded find c p name None = Ok (undefined, p)
+expanded find c p name None = gives undefined p
 expanded find c p name (Some raw) = opened_value find c p name raw
 
--- a variable, whose own value must not refer to its name
+-- what a variable with this raw value gives, where its own value must not refer to its name
+abbrev pub variable_by : Finder → Context → Progress → List ℕ
+    → Result (Option (List ℕ)) ExpandFault → Counted Found
+variable_by find c p name raw =
+    either (is_among c.open_names name) (tried (Err (Recursive name)) p)
+    (tried raw p >>= λ raw. expanded find c raw.1 name raw.0)
+
+-- A variable, whose name is looked up.
 abbrev pub variable : Finder → Context → Progress → List ℕ → Counted Found
-variable find c p name =
-    if is_among c.open_names name then Err (Recursive name)
-    else (raw_of c name >>= λ raw. expanded find c p name raw)
+variable find c p name = looking name (variable_by find c p name (raw_of c name))
 
 -- The name is expanded first, then the variable's value, and then come the modifiers. Nothing of the
 -- name and the modifiers stays as it is written.
@@ -46,41 +51,66 @@ reference find c p name mods =
 abbrev pub found : Finder → Context → Progress → Part → Counted Found
 found find c p (short byte) = variable find c p (byte ∷ [])
 found find c p (ref round name mods) = reference find c p name mods
-found find c p _ = Ok (undefined, p)
+found find c p _ = gives undefined p
 
 -- What a reference finds, with room for so many open ones. It is counted and opened before anything
 -- of it is evaluated.
 unfoldable pub found_at : ℕ → Finder
-found_at zero c p part = Err TooDeep
+found_at zero c p part = tried (Err TooDeep) p
 found_at (suc room) c p part =
-    if nat_lt p.references max_references then found (found_at room) c (with_reference p) part
-    else Err TooManyReferences
+    either (nat_lt p.references max_references) (found (found_at room) c (with_reference p) part)
+    (tried (Err TooManyReferences) p)
 
 -- what references find, with no other one open
 abbrev pub finder : Finder
 finder = found_at max_open
 
--- the questions asked, in place of the progress
-abbrev pub with_asked : {A : Type 0} → Counted A → Result (A × List Asked) ExpandFault
-with_asked found = found >>= λ f. Ok (f.0, f.1.asked)
+-- what is found or the first fault, and the questions behind what is found
+abbrev pub with_asked : {A : Type 0} → Answer A → Result (A × List Asked) ExpandFault
+with_asked (Ok found) = Ok (found.0, found.1.asked)
+with_asked (Err fault) = Err fault.0
 
--- The value of a tree, with the flag of `:=` or without it, behind earlier questions.
+-- the questions behind what is found, or behind the first fault
+abbrev pub questions_of : {A : Type 0} → Answer A → List Asked
+questions_of (Ok found) = found.1.asked
+questions_of (Err fault) = fault.1.asked
+
+-- What a tree gives, with the flag of `:=` or without it, behind earlier questions.
+abbrev pub of_tree : Variables → Locals → Lists → Answers → Bool → List Asked → Tree
+    → Counted (List ℕ)
+of_tree variables locals lists answers keep asked tree =
+    tree_value finder (context variables locals lists answers keep) (progress 0 asked) tree
+
+-- What a text gives.
+abbrev pub of_text : Variables → Locals → Lists → Answers → Bool → List Asked → List ℕ
+    → Counted (List ℕ)
+of_text variables locals lists answers keep asked text =
+    text_value finder (context variables locals lists answers keep) (progress 0 asked) text
+
+-- What a condition gives.
+abbrev pub of_condition : Variables → Locals → Lists → Answers → List Asked → Cond → Counted Bool
+of_condition variables locals lists answers asked cond =
+    truth_of finder (context variables locals lists answers false) (progress 0 asked) cond
+
+-- The value of a tree, or the first fault.
 abbrev pub value : Variables → Locals → Lists → Answers → Bool → List Asked → Tree
     → Result (List ℕ × List Asked) ExpandFault
 value variables locals lists answers keep asked tree =
-    with_asked (tree_value finder (context variables locals lists answers keep)
-    (progress 0 asked) tree)
+    with_asked (of_tree variables locals lists answers keep asked tree).answer
 
--- The value of a text.
+-- The value of a text, or the first fault.
 abbrev pub value_of_text : Variables → Locals → Lists → Answers → Bool → List Asked → List ℕ
     → Result (List ℕ × List Asked) ExpandFault
 value_of_text variables locals lists answers keep asked text =
-    with_asked (text_value finder (context variables locals lists answers keep)
-    (progress 0 asked) text)
+    with_asked (of_text variables locals lists answers keep asked text).answer
 
--- The truth of a condition.
+-- The truth of a condition, or the first fault.
 abbrev pub truth : Variables → Locals → Lists → Answers → List Asked → Cond
     → Result (Bool × List Asked) ExpandFault
 truth variables locals lists answers asked cond =
-    with_asked (truth_of finder (context variables locals lists answers false)
-    (progress 0 asked) cond)
+    with_asked (of_condition variables locals lists answers asked cond).answer
+
+-- The names that are looked up where a tree is evaluated.
+abbrev pub names : Variables → Locals → Lists → Answers → Bool → List Asked → Tree → List (List ℕ)
+names variables locals lists answers keep asked tree =
+    (of_tree variables locals lists answers keep asked tree).names []

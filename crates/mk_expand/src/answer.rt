@@ -4,9 +4,10 @@ ghost use Rattle.std.specs.Option.{option_copied, option_map};
 ghost use Rattle.mk_ast.specs.View.{part_view, tree_view};
 ghost use Rattle.mk_bytes.specs.Agrees.{Agrees};
 ghost use Rattle.mk_bytes.specs.Paths.{clean};
-ghost use Rattle.mk_expand.specs.Calls.{Asks, at, behind, here};
+ghost use Rattle.mk_expand.specs.Calls.{Asks, Evaluates, at, here};
 ghost use Rattle.mk_expand.specs.Conditions as spec;
 ghost use Rattle.mk_expand.specs.Facts.{Means, is_fact};
+ghost use Rattle.mk_expand.specs.Names.{is_defined, last_value, raw_in};
 ghost use Rattle.mk_expand.specs.declared.fault.ExpandFault.TheVariants.{NoMemory as no_memory};
 
 use crate::chain::Found;
@@ -22,8 +23,10 @@ use mk_cond::Fun;
 use std::alloc::Global;
 
 // Whether a name has a raw value. No value is put together for it.
+#[tactic(auto, using(crate::proofs::NameLemmas::has_value_in))]
 fn is_defined(names: &Names<'_>, bound: &Pairs, name: &[u8]) -> bool
-    ensures { result ≡ spec.is_defined names.now.scopes.now names.now.locals.now bound.now name.now }
+    ensures { result ≡ is_defined (last_value bound.now name.now)
+        (raw_in names.now.scopes.now names.now.locals.now name.now) }
 {
     last_value(bound, name).is_some()
         || is_local(names.locals, name)
@@ -72,7 +75,7 @@ pub fn answer_of<F: Facts>(
     fun: Fun,
     value: &[u8],
 ) -> Result<bool, ExpandFault>
-    ensures value { Means (F.asked facts.new) (behind run.now (F.asked facts.new)) result
+    ensures value { Evaluates run.now (F.asked facts.new) (λ given. given) result
         (λ answers. spec.answer_of
         (here names.now.scopes.now names.now.locals.now (F.lists facts.old) run.now false answers)
         (at run.now (F.asked facts.old)) fun value.now) }

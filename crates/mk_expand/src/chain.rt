@@ -5,6 +5,7 @@ ghost use Rattle.mk_bytes.specs.Agrees.{Agrees};
 ghost use Rattle.mk_expand.specs.Chains as spec;
 ghost use Rattle.mk_expand.specs.Limits.{appended};
 ghost use Rattle.mk_expand.specs.Parts.{shown};
+ghost use Rattle.mk_expand.specs.Plain.{plain_found};
 ghost use Rattle.mk_expand.specs.View.{chain_view};
 ghost use Rattle.mk_mods.specs.Pieces.{end_of, Begins};
 ghost use Rattle.mk_expand.specs.declared.fault.ExpandFault.TheVariants.{NoMemory as no_memory};
@@ -82,7 +83,7 @@ pub fn compacted(
 
 /// What a raw value without any `$` finds: itself.
 pub fn plain_found(raw: Text) -> Result<Found, ExpandFault>
-    ensures { Agrees no_memory (λ found. found) result (spec.plain_found raw) }
+    ensures { Agrees no_memory (λ found. found) result (plain_found raw) }
 {
     if raw.len() > MAX_TEXT {
         return Err(ExpandFault::TooLong);

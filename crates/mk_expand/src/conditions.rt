@@ -2,9 +2,8 @@
 ghost use Rattle.std.specs.Prelude.{◌≡◌, ◌∷◌, [], false, OnOk};
 ghost use Rattle.mk_ast.specs.View.{tree_view};
 ghost use Rattle.mk_cond.specs.View.{cond_view, side_view};
-ghost use Rattle.mk_expand.specs.Calls.{Asks, Keeps, at, behind, here};
+ghost use Rattle.mk_expand.specs.Calls.{Asks, Evaluates, Keeps, at, here};
 ghost use Rattle.mk_expand.specs.Conditions as spec;
-ghost use Rattle.mk_expand.specs.Facts.{Means};
 ghost use Rattle.mk_expand.specs.Outer.{leaf_truth};
 ghost use Rattle.mk_expand.specs.Value.{found_at};
 
@@ -28,7 +27,7 @@ pub fn truth_of<F: Facts>(
     room: usize,
     cond: &Cond,
 ) -> Result<bool, ExpandFault>
-    ensures value { Means (F.asked facts.new) (behind run.new (F.asked facts.new)) result
+    ensures value { Evaluates run.new (F.asked facts.new) (λ given. given) result
         (λ answers. spec.truth_of (found_at room)
         (here names.now.scopes.now names.now.locals.now (F.lists facts.old) run.old false answers)
         (at run.old (F.asked facts.old)) (cond_view cond.now)) }
@@ -61,7 +60,7 @@ fn leaf_truth<F: Facts>(
     room: usize,
     leaf: Leaf<'_>,
 ) -> Result<bool, ExpandFault>
-    ensures value { Means (F.asked facts.new) (behind run.new (F.asked facts.new)) result
+    ensures value { Evaluates run.new (F.asked facts.new) (λ given. given) result
         (λ answers. leaf_truth (found_at room)
         (here names.now.scopes.now names.now.locals.now (F.lists facts.old) run.old false answers)
         (at run.old (F.asked facts.old)) leaf.entry) }
@@ -87,7 +86,7 @@ fn test_truth<F: Facts>(
     fun: Fun,
     argument: &Tree,
 ) -> Result<bool, ExpandFault>
-    ensures value { Means (F.asked facts.new) (behind run.new (F.asked facts.new)) result
+    ensures value { Evaluates run.new (F.asked facts.new) (λ given. given) result
         (λ answers. spec.test_truth (found_at room)
         (here names.now.scopes.now names.now.locals.now (F.lists facts.old) run.old false answers)
         (at run.old (F.asked facts.old)) fun (tree_view argument.now)) }
@@ -111,7 +110,7 @@ fn alone_truth<F: Facts>(
     room: usize,
     side: &Side,
 ) -> Result<bool, ExpandFault>
-    ensures value { Means (F.asked facts.new) (behind run.new (F.asked facts.new)) result
+    ensures value { Evaluates run.new (F.asked facts.new) (λ given. given) result
         (λ answers. spec.alone_truth (found_at room)
         (here names.now.scopes.now names.now.locals.now (F.lists facts.old) run.old false answers)
         (at run.old (F.asked facts.old)) (side_view side.now)) }
@@ -134,7 +133,7 @@ fn both_truth<F: Facts>(
     op: CmpOp,
     right: &Side,
 ) -> Result<bool, ExpandFault>
-    ensures value { Means (F.asked facts.new) (behind run.new (F.asked facts.new)) result
+    ensures value { Evaluates run.new (F.asked facts.new) (λ given. given) result
         (λ answers. spec.both_truth (found_at room)
         (here names.now.scopes.now names.now.locals.now (F.lists facts.old) run.old false answers)
         (at run.old (F.asked facts.old)) (side_view left.now) op (side_view right.now)) }
@@ -159,7 +158,7 @@ fn side_value<F: Facts>(
     room: usize,
     side: &Side,
 ) -> Result<Text, ExpandFault>
-    ensures value { Means (F.asked facts.new) (behind run.new (F.asked facts.new)) result
+    ensures value { Evaluates run.new (F.asked facts.new) (λ given. given) result
         (λ answers. spec.side_value (found_at room)
         (here names.now.scopes.now names.now.locals.now (F.lists facts.old) run.old false answers)
         (at run.old (F.asked facts.old)) (side_view side.now)) }

@@ -1,8 +1,7 @@
 //! The value of a tree: the values of its parts, joined.
 ghost use Rattle.std.specs.Prelude.{◌≡◌, ◌∷◌, [], OnOk};
 ghost use Rattle.mk_ast.specs.View.{mods_view, part_view, tree_view};
-ghost use Rattle.mk_expand.specs.Calls.{Asks, Keeps, at, behind, here};
-ghost use Rattle.mk_expand.specs.Facts.{Means};
+ghost use Rattle.mk_expand.specs.Calls.{Asks, Evaluates, Keeps, at, here};
 ghost use Rattle.mk_expand.specs.Parts as joint;
 ghost use Rattle.mk_expand.specs.Steps.{named};
 ghost use Rattle.mk_expand.specs.Value as spec;
@@ -40,7 +39,7 @@ pub fn text_value<F: Facts>(
     keep: bool,
     text: &[u8],
 ) -> Result<Text, ExpandFault>
-    ensures value { Means (F.asked facts.new) (behind run.new (F.asked facts.new)) result
+    ensures value { Evaluates run.new (F.asked facts.new) (λ given. given) result
         (λ answers. joint.text_value (found_at room)
         (here names.now.scopes.now names.now.locals.now (F.lists facts.old) run.old keep answers)
         (at run.old (F.asked facts.old)) text.now) }
@@ -65,7 +64,7 @@ pub fn tree_value<F: Facts>(
     keep: bool,
     tree: &Tree,
 ) -> Result<Text, ExpandFault>
-    ensures value { Means (F.asked facts.new) (behind run.new (F.asked facts.new)) result
+    ensures value { Evaluates run.new (F.asked facts.new) (λ given. given) result
         (λ answers. joint.tree_value (found_at room)
         (here names.now.scopes.now names.now.locals.now (F.lists facts.old) run.old keep answers)
         (at run.old (F.asked facts.old)) (tree_view tree.now)) }
@@ -88,7 +87,7 @@ pub fn joined<F: Facts>(
     text: Text,
     parts: &[Part],
 ) -> Result<Text, ExpandFault>
-    ensures value { Means (F.asked facts.new) (behind run.new (F.asked facts.new)) result
+    ensures value { Evaluates run.new (F.asked facts.new) (λ given. given) result
         (λ answers. joint.joined (found_at room)
         (here names.now.scopes.now names.now.locals.now (F.lists facts.old) run.old keep answers)
         (at run.old (F.asked facts.old)) text (tree_view parts.now)) }
@@ -114,7 +113,7 @@ pub fn append_part<F: Facts>(
     text: &mut Text,
     part: &Part,
 ) -> Result<(), ExpandFault>
-    ensures value { Means (F.asked facts.new) (λ done. behind run.new (F.asked facts.new) text.new) result
+    ensures value { Evaluates run.new (F.asked facts.new) (λ done. text.new) result
         (λ answers. joint.part_appended (found_at room)
         (here names.now.scopes.now names.now.locals.now (F.lists facts.old) run.old keep answers)
         (at run.old (F.asked facts.old)) text.old (part_view part.now)) }
@@ -147,7 +146,7 @@ fn append_reference<F: Facts>(
     text: &mut Text,
     part: &Part,
 ) -> Result<(), ExpandFault>
-    ensures value { Means (F.asked facts.new) (λ done. behind run.new (F.asked facts.new) text.new) result
+    ensures value { Evaluates run.new (F.asked facts.new) (λ done. text.new) result
         (λ answers. joint.reference_appended (found_at room)
         (here names.now.scopes.now names.now.locals.now (F.lists facts.old) run.old keep answers)
         (at run.old (F.asked facts.old)) text.old (part_view part.now)) }
@@ -169,7 +168,7 @@ pub fn found<F: Facts>(
     keep: bool,
     part: &Part,
 ) -> Result<Found, ExpandFault>
-    ensures value { Means (F.asked facts.new) (behind run.new (F.asked facts.new)) result
+    ensures value { Evaluates run.new (F.asked facts.new) (λ given. given) result
         (λ answers. found_at room
         (here names.now.scopes.now names.now.locals.now (F.lists facts.old) run.old keep answers)
         (at run.old (F.asked facts.old)) (part_view part.now)) }
@@ -191,7 +190,7 @@ fn found_inside<F: Facts>(
     keep: bool,
     part: &Part,
 ) -> Result<Found, ExpandFault>
-    ensures value { Means (F.asked facts.new) (behind run.new (F.asked facts.new)) result
+    ensures value { Evaluates run.new (F.asked facts.new) (λ given. given) result
         (λ answers. spec.found (found_at room)
         (here names.now.scopes.now names.now.locals.now (F.lists facts.old) run.old keep answers)
         (at run.old (F.asked facts.old)) (part_view part.now)) }
@@ -221,7 +220,7 @@ fn reference<F: Facts>(
     name: &Tree,
     mods: &ModTrees,
 ) -> Result<Found, ExpandFault>
-    ensures value { Means (F.asked facts.new) (behind run.new (F.asked facts.new)) result
+    ensures value { Evaluates run.new (F.asked facts.new) (λ given. given) result
         (λ answers. spec.reference (found_at room)
         (here names.now.scopes.now names.now.locals.now (F.lists facts.old) run.old keep answers)
         (at run.old (F.asked facts.old)) (tree_view name.now) (mods_view mods.now)) }
@@ -247,7 +246,7 @@ fn named<F: Facts>(
     name: &[u8],
     mods: &ModTrees,
 ) -> Result<Found, ExpandFault>
-    ensures value { Means (F.asked facts.new) (behind run.new (F.asked facts.new)) result
+    ensures value { Evaluates run.new (F.asked facts.new) (λ given. given) result
         (λ answers. named (found_at room)
         (here names.now.scopes.now names.now.locals.now (F.lists facts.old) run.old keep answers)
         (at run.old (F.asked facts.old)) name.now (mods_view mods.now)) }
@@ -269,7 +268,7 @@ fn variable<F: Facts>(
     keep: bool,
     name: &[u8],
 ) -> Result<Found, ExpandFault>
-    ensures value { Means (F.asked facts.new) (behind run.new (F.asked facts.new)) result
+    ensures value { Evaluates run.new (F.asked facts.new) (λ given. given) result
         (λ answers. spec.variable (found_at room)
         (here names.now.scopes.now names.now.locals.now (F.lists facts.old) run.old keep answers)
         (at run.old (F.asked facts.old)) name.now) }
@@ -303,7 +302,7 @@ fn known_value<F: Facts>(
     name: &[u8],
     raw: &Text,
 ) -> Result<Found, ExpandFault>
-    ensures value { Means (F.asked facts.new) (behind run.new (F.asked facts.new)) result
+    ensures value { Evaluates run.new (F.asked facts.new) (λ given. given) result
         (λ answers. spec.opened_value (found_at room)
         (here names.now.scopes.now names.now.locals.now (F.lists facts.old) run.old keep answers)
         (at run.old (F.asked facts.old)) name.now raw.now) }
@@ -328,7 +327,7 @@ fn opened_value<F: Facts>(
     name: &[u8],
     raw: &[u8],
 ) -> Result<Found, ExpandFault>
-    ensures value { Means (F.asked facts.new) (behind run.new (F.asked facts.new)) result
+    ensures value { Evaluates run.new (F.asked facts.new) (λ given. given) result
         (λ answers. spec.opened_value (found_at room)
         (here names.now.scopes.now names.now.locals.now (F.lists facts.old) run.old keep answers)
         (at run.old (F.asked facts.old)) name.now raw.now) }

@@ -10,6 +10,7 @@ mod conditions;
 mod evaluation;
 mod facts;
 mod fault;
+mod law;
 mod limit;
 mod local;
 mod modifiers;
@@ -24,5 +25,6 @@ mod words;
 
 pub use facts::{Asked, FactFault, Facts};
 pub use fault::ExpandFault;
+pub use law::values_are_by_names;
 pub use local::Locals;
 pub use whole::{eval_cond, expand, name_tree, value_of_text};

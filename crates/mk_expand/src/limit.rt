@@ -1,5 +1,5 @@
 //! The limits of an evaluation.
-ghost use Rattle.std.specs.Prelude.{◌≡◌, ◌+◌, IfErr, OnOk};
+ghost use Rattle.std.specs.Prelude.{◌≡◌, ◌+◌, IfErr, OnErr, OnOk};
 ghost use Rattle.mk_bytes.specs.Agrees.{Agrees};
 ghost use Rattle.mk_expand.specs.Limits as spec;
 ghost use Rattle.mk_expand.specs.declared.fault.ExpandFault.TheVariants.{NoMemory as no_memory};
@@ -20,6 +20,7 @@ pub fn open_reference(references: &mut u32, room: usize) -> Result<(), ExpandFau
     ensures ok { OnOk result
         (spec.MayOpen room references.old × (references.new ≡ references.old + 1)) }
     ensures err { IfErr result (λ fault. spec.MayNotOpen room references.old fault) }
+    ensures refused { OnErr result (references.new ≡ references.old) }
 {
     if room == 0 {
         return Err(ExpandFault::TooDeep);

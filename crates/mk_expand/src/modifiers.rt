@@ -2,9 +2,8 @@
 ghost use Rattle.std.specs.Prelude.{◌≡◌, ◌≤◌, length, false, IfOk, IfSome, OnOk};
 ghost use Rattle.mk_ast.specs.Tree.{if_undefined, mod_then, no_mods};
 ghost use Rattle.mk_ast.specs.View.{mod_view, mods_view, tree_view};
-ghost use Rattle.mk_expand.specs.Calls.{Asks, Extends, Keeps, at, behind, here};
+ghost use Rattle.mk_expand.specs.Calls.{Asks, Evaluates, Extends, Keeps, at, here};
 ghost use Rattle.mk_expand.specs.Chains as spec;
-ghost use Rattle.mk_expand.specs.Facts.{Means};
 ghost use Rattle.mk_expand.specs.Names.{while_bound};
 ghost use Rattle.mk_expand.specs.Parts.{tree_value};
 ghost use Rattle.mk_expand.specs.Value.{found_at};
@@ -44,7 +43,7 @@ fn default_found<F: Facts>(
     room: usize,
     text: &Tree,
 ) -> Result<Found, ExpandFault>
-    ensures value { Means (F.asked facts.new) (behind run.new (F.asked facts.new)) result
+    ensures value { Evaluates run.new (F.asked facts.new) (λ given. given) result
         (λ answers. spec.found_as (tree_value (found_at room)
         (here names.now.scopes.now names.now.locals.now (F.lists facts.old) run.old false answers)
         (at run.old (F.asked facts.old)) (tree_view text.now))) }
@@ -72,7 +71,7 @@ pub fn chained<F: Facts>(
     found: Found,
     mods: &ModTrees,
 ) -> Result<Found, ExpandFault>
-    ensures value { Means (F.asked facts.new) (behind run.new (F.asked facts.new)) result
+    ensures value { Evaluates run.new (F.asked facts.new) (λ given. given) result
         (λ answers. spec.chained (found_at room)
         (here names.now.scopes.now names.now.locals.now (F.lists facts.old) run.old false answers)
         (at run.old (F.asked facts.old)) name.now found (mods_view mods.now)) }
@@ -114,7 +113,7 @@ fn all_modified<F: Facts>(
     mods: &ModTrees,
 ) -> Result<Chain, ExpandFault>
     requires { end_of chain.val ≤ length run.old.region.bytes }
-    ensures value { Means (F.asked facts.new) (λ chain. behind run.new (F.asked facts.new) (chain_view run.new.region.bytes chain)) result
+    ensures value { Evaluates run.new (F.asked facts.new) (λ chain. chain_view run.new.region.bytes chain) result
         (λ answers. spec.all_modified (found_at room)
         (here names.now.scopes.now names.now.locals.now (F.lists facts.old) run.old false answers)
         (at run.old (F.asked facts.old)) name.now (chain_view run.old.region.bytes chain) (mods_view mods.now)) }
@@ -143,7 +142,7 @@ fn modified<F: Facts>(
     one: &ModTree,
 ) -> Result<Chain, ExpandFault>
     requires { end_of chain.val ≤ length run.old.region.bytes }
-    ensures value { Means (F.asked facts.new) (λ chain. behind run.new (F.asked facts.new) (chain_view run.new.region.bytes chain)) result
+    ensures value { Evaluates run.new (F.asked facts.new) (λ chain. chain_view run.new.region.bytes chain) result
         (λ answers. spec.modified (found_at room)
         (here names.now.scopes.now names.now.locals.now (F.lists facts.old) run.old false answers)
         (at run.old (F.asked facts.old)) name.now (chain_view run.old.region.bytes chain) (mod_view one.now)) }
@@ -173,7 +172,7 @@ fn given_modified<F: Facts>(
     one: &ModTree,
 ) -> Result<Chain, ExpandFault>
     requires { end_of chain.val ≤ length run.old.region.bytes }
-    ensures value { Means (F.asked facts.new) (λ chain. behind run.new (F.asked facts.new) (chain_view run.new.region.bytes chain)) result
+    ensures value { Evaluates run.new (F.asked facts.new) (λ chain. chain_view run.new.region.bytes chain) result
         (λ answers. spec.given_modified (found_at room)
         (here names.now.scopes.now names.now.locals.now (F.lists facts.old) run.old false answers)
         (at run.old (F.asked facts.old)) name.now (chain_view run.old.region.bytes chain) (mod_view one.now)) }
@@ -206,7 +205,7 @@ fn choose<F: Facts>(
     no: &Tree,
 ) -> Result<Chain, ExpandFault>
     requires { end_of chain.val ≤ length run.old.region.bytes }
-    ensures value { Means (F.asked facts.new) (λ chain. behind run.new (F.asked facts.new) (chain_view run.new.region.bytes chain)) result
+    ensures value { Evaluates run.new (F.asked facts.new) (λ chain. chain_view run.new.region.bytes chain) result
         (λ answers. spec.choose (found_at room)
         (here names.now.scopes.now names.now.locals.now (F.lists facts.old) run.old false answers)
         (at run.old (F.asked facts.old)) name.now (chain_view run.old.region.bytes chain) (tree_view yes.now) (tree_view no.now)) }
@@ -230,7 +229,7 @@ fn if_undefined<F: Facts>(
     text: &Tree,
 ) -> Result<Chain, ExpandFault>
     requires { end_of chain.val ≤ length run.old.region.bytes }
-    ensures value { Means (F.asked facts.new) (λ chain. behind run.new (F.asked facts.new) (chain_view run.new.region.bytes chain)) result
+    ensures value { Evaluates run.new (F.asked facts.new) (λ chain. chain_view run.new.region.bytes chain) result
         (λ answers. spec.if_undefined (found_at room)
         (here names.now.scopes.now names.now.locals.now (F.lists facts.old) run.old false answers)
         (at run.old (F.asked facts.old)) (chain_view run.old.region.bytes chain) (tree_view text.now)) }
@@ -256,7 +255,7 @@ fn if_defined<F: Facts>(
     chain: Chain,
     text: &Tree,
 ) -> Result<Chain, ExpandFault>
-    ensures value { Means (F.asked facts.new) (λ chain. behind run.new (F.asked facts.new) (chain_view run.new.region.bytes chain)) result
+    ensures value { Evaluates run.new (F.asked facts.new) (λ chain. chain_view run.new.region.bytes chain) result
         (λ answers. spec.if_defined (found_at room)
         (here names.now.scopes.now names.now.locals.now (F.lists facts.old) run.old false answers)
         (at run.old (F.asked facts.old)) (chain_view run.old.region.bytes chain) (tree_view text.now)) }
@@ -284,7 +283,7 @@ fn chosen<F: Facts>(
     yes: &Tree,
     no: &Tree,
 ) -> Result<Text, ExpandFault>
-    ensures value { Means (F.asked facts.new) (behind run.new (F.asked facts.new)) result
+    ensures value { Evaluates run.new (F.asked facts.new) (λ given. given) result
         (λ answers. spec.chosen (found_at room)
         (here names.now.scopes.now names.now.locals.now (F.lists facts.old) run.old false answers)
         (at run.old (F.asked facts.old)) name.now (tree_view yes.now) (tree_view no.now)) }
@@ -311,7 +310,7 @@ fn each<F: Facts>(
     body: &Tree,
 ) -> Result<Chain, ExpandFault>
     requires { end_of chain.val ≤ length run.old.region.bytes }
-    ensures value { Means (F.asked facts.new) (λ chain. behind run.new (F.asked facts.new) (chain_view run.new.region.bytes chain)) result
+    ensures value { Evaluates run.new (F.asked facts.new) (λ chain. chain_view run.new.region.bytes chain) result
         (λ answers. spec.each (found_at room)
         (here names.now.scopes.now names.now.locals.now (F.lists facts.old) run.old false answers)
         (at run.old (F.asked facts.old)) (chain_view run.old.region.bytes chain) variable.now (tree_view body.now)) }
@@ -350,7 +349,7 @@ fn each_behind<F: Facts>(
     results: Results,
     words: &[Text],
 ) -> Result<Results, ExpandFault>
-    ensures value { Means (F.asked facts.new) (behind run.new (F.asked facts.new)) result
+    ensures value { Evaluates run.new (F.asked facts.new) (λ given. given) result
         (λ answers. spec.each_behind (found_at room)
         (here names.now.scopes.now names.now.locals.now (F.lists facts.old) run.old false answers)
         (at run.old (F.asked facts.old)) variable.now (tree_view body.now) results words.now) }
@@ -377,7 +376,7 @@ fn word_result<F: Facts>(
     body: &Tree,
     word: &Text,
 ) -> Result<Text, ExpandFault>
-    ensures value { Means (F.asked facts.new) (behind run.new (F.asked facts.new)) result
+    ensures value { Evaluates run.new (F.asked facts.new) (λ given. given) result
         (λ answers. tree_value (found_at room) (while_bound
         (here names.now.scopes.now names.now.locals.now (F.lists facts.old) run.old false answers)
         variable.now word.now) (at run.old (F.asked facts.old)) (tree_view body.now)) }
@@ -405,7 +404,7 @@ fn word_modified<F: Facts>(
     one: &ModTree,
 ) -> Result<Chain, ExpandFault>
     requires { end_of chain.val ≤ length run.old.region.bytes }
-    ensures value { Means (F.asked facts.new) (λ chain. behind run.new (F.asked facts.new) (chain_view run.new.region.bytes chain)) result
+    ensures value { Evaluates run.new (F.asked facts.new) (λ chain. chain_view run.new.region.bytes chain) result
         (λ answers. spec.word_modified (found_at room)
         (here names.now.scopes.now names.now.locals.now (F.lists facts.old) run.old false answers)
         (at run.old (F.asked facts.old)) (chain_view run.old.region.bytes chain) (mod_view one.now)) }

@@ -1,9 +1,9 @@
 //! The conditions round the one that is evaluated. They stand in a list and not on the stack, so that
 //! conditions in the names of `:?` inside conditions may each be as deep as the grammar allows.
-ghost use Rattle.std.specs.Prelude.{◌≡◌, ◌+◌, ◌<◌, IfOk, Ok};
+ghost use Rattle.std.specs.Prelude.{◌≡◌, ◌+◌, ◌<◌, IfOk};
 ghost use Rattle.mk_cond.specs.View.{cond_view, conds_view};
 ghost use Rattle.mk_expand.specs.Conditions as plain;
-ghost use Rattle.mk_expand.specs.Evaluators.{Finder, Progress};
+ghost use Rattle.mk_expand.specs.Evaluators.{Finder, Progress, gives};
 ghost use Rattle.mk_expand.specs.Names.{Context};
 ghost use Rattle.mk_expand.specs.Outer as spec;
 
@@ -101,14 +101,15 @@ pub fn left_behind<'c>(
 ) -> Result<Step<'c>, NoMemory>
     ensures same { IfOk result (λ step. (find : Finder) → (c : Context) → (p : Progress)
         → spec.round_all find c outer.new.items (spec.step_truth find c p step)
-        ≡ spec.round_all find c outer.old.items (spec.round find c one.entry (Ok (truth, p)))) }
+        ≡ spec.round_all find c outer.old.items (spec.round find c one.entry (gives truth p))) }
     ensures less { IfOk result (λ step. spec.weight outer.new.items + spec.step_size step
         < spec.weight outer.old.items + spec.outer_size one.entry) }
 {
     match one {
         Outer::Any(left) if !truth => any_of(outer, left),
+        Outer::Any(_) => Ok(Step::AtLeaf(Leaf::Known(truth))),
         Outer::All(left) if truth => all_of(outer, left),
+        Outer::All(_) => Ok(Step::AtLeaf(Leaf::Known(truth))),
         Outer::Not => Ok(Step::AtLeaf(Leaf::Known(!truth))),
-        Outer::Any(_) | Outer::All(_) => Ok(Step::AtLeaf(Leaf::Known(truth))),
     }
 }

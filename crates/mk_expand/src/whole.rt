@@ -3,7 +3,7 @@ ghost use Rattle.std.specs.Prelude.{◌≡◌, IfOk};
 ghost use Rattle.mk_ast.specs.View.{tree_view};
 ghost use Rattle.mk_cond.specs.View.{cond_view};
 ghost use Rattle.mk_expand.specs.Calls.{IsFirst};
-ghost use Rattle.mk_expand.specs.Facts.{AsksMore, Means};
+ghost use Rattle.mk_expand.specs.Facts.{AsksMore, Means, RefusedBehind};
 ghost use Rattle.mk_expand.specs.Texts.{name_tree};
 ghost use Rattle.mk_expand.specs.Value as spec;
 ghost use Rattle.mk_expand.specs.declared.fault.ExpandFault.TheVariants.{Failed as failed};
@@ -51,6 +51,9 @@ pub fn expand<F: Facts>(
     ensures value { Means (F.asked facts.new) (λ value. (value, F.asked facts.new)) result
         (λ answers. spec.value scopes.now locals.now (F.lists facts.old) answers keep
         (F.asked facts.old) (tree_view tree.now)) }
+    ensures questions { RefusedBehind (F.asked facts.new) result
+        (λ answers. spec.questions_of (spec.of_tree scopes.now locals.now (F.lists facts.old) answers keep
+        (F.asked facts.old) (tree_view tree.now)).answer) }
     ensures lists { F.lists facts.new ≡ F.lists facts.old }
     ensures asked { AsksMore (F.asked facts.old) (F.asked facts.new) }
     ensures cause { HasCause failed (F.faults facts.old) (F.faults facts.new) result }
@@ -78,6 +81,9 @@ pub fn value_of_text<F: Facts>(
     ensures value { Means (F.asked facts.new) (λ value. (value, F.asked facts.new)) result
         (λ answers. spec.value_of_text scopes.now locals.now (F.lists facts.old) answers keep
         (F.asked facts.old) text.now) }
+    ensures questions { RefusedBehind (F.asked facts.new) result
+        (λ answers. spec.questions_of (spec.of_text scopes.now locals.now (F.lists facts.old) answers keep
+        (F.asked facts.old) text.now).answer) }
     ensures lists { F.lists facts.new ≡ F.lists facts.old }
     ensures asked { AsksMore (F.asked facts.old) (F.asked facts.new) }
     ensures cause { HasCause failed (F.faults facts.old) (F.faults facts.new) result }
@@ -108,6 +114,9 @@ pub fn eval_cond<F: Facts>(
     ensures truth { Means (F.asked facts.new) (λ truth. (truth, F.asked facts.new)) result
         (λ answers. spec.truth scopes.now locals.now (F.lists facts.old) answers
         (F.asked facts.old) (cond_view cond.now)) }
+    ensures questions { RefusedBehind (F.asked facts.new) result
+        (λ answers. spec.questions_of (spec.of_condition scopes.now locals.now (F.lists facts.old) answers
+        (F.asked facts.old) (cond_view cond.now)).answer) }
     ensures lists { F.lists facts.new ≡ F.lists facts.old }
     ensures asked { AsksMore (F.asked facts.old) (F.asked facts.new) }
     ensures cause { HasCause failed (F.faults facts.old) (F.faults facts.new) result }

@@ -1,9 +1,8 @@
 //! The modifiers of words, with their texts evaluated.
 ghost use Rattle.std.specs.Prelude.{◌≡◌, false, Some, OnOk};
 ghost use Rattle.mk_ast.specs.View.{mod_view, part_view, tree_view};
-ghost use Rattle.mk_expand.specs.Calls.{Asks, Keeps, at, behind, here};
+ghost use Rattle.mk_expand.specs.Calls.{Asks, Evaluates, Keeps, at, here};
 ghost use Rattle.mk_expand.specs.Chains as spec;
-ghost use Rattle.mk_expand.specs.Facts.{Means};
 ghost use Rattle.mk_expand.specs.Parts.{part_appended, tree_value};
 ghost use Rattle.mk_expand.specs.Substitutions.{old_in_part, old_in_tree, without_anchors};
 ghost use Rattle.mk_expand.specs.Value.{found_at};
@@ -30,7 +29,7 @@ pub fn modifier<F: Facts>(
     room: usize,
     one: &ModTree,
 ) -> Result<Option<Mod>, ExpandFault>
-    ensures value { Means (F.asked facts.new) (behind run.new (F.asked facts.new)) result
+    ensures value { Evaluates run.new (F.asked facts.new) (λ given. given) result
         (λ answers. spec.mod_of (found_at room)
         (here names.now.scopes.now names.now.locals.now (F.lists facts.old) run.old false answers)
         (at run.old (F.asked facts.old)) (mod_view one.now)) }
@@ -71,7 +70,7 @@ fn substitution<F: Facts>(
     to: &Tree,
     flags: &[u8],
 ) -> Result<Mod, ExpandFault>
-    ensures value { Means (F.asked facts.new) (λ found. behind run.new (F.asked facts.new) (Some found)) result
+    ensures value { Evaluates run.new (F.asked facts.new) (λ found. Some found) result
         (λ answers. spec.subst_of (found_at room)
         (here names.now.scopes.now names.now.locals.now (F.lists facts.old) run.old false answers)
         (at run.old (F.asked facts.old)) (tree_view from.now) (tree_view to.now) flags.now) }
@@ -102,7 +101,7 @@ fn range<F: Facts>(
     room: usize,
     number: &Tree,
 ) -> Result<Mod, ExpandFault>
-    ensures value { Means (F.asked facts.new) (λ found. behind run.new (F.asked facts.new) (Some found)) result
+    ensures value { Evaluates run.new (F.asked facts.new) (λ found. Some found) result
         (λ answers. spec.with_text (found_at room)
         (here names.now.scopes.now names.now.locals.now (F.lists facts.old) run.old false answers)
         (at run.old (F.asked facts.old)) (tree_view number.now) Range) }
@@ -124,7 +123,7 @@ fn suffix<F: Facts>(
     from: &Tree,
     to: &Tree,
 ) -> Result<Mod, ExpandFault>
-    ensures value { Means (F.asked facts.new) (λ found. behind run.new (F.asked facts.new) (Some found)) result
+    ensures value { Evaluates run.new (F.asked facts.new) (λ found. Some found) result
         (λ answers. spec.suffix_of (found_at room)
         (here names.now.scopes.now names.now.locals.now (F.lists facts.old) run.old false answers)
         (at run.old (F.asked facts.old)) (tree_view from.now) (tree_view to.now)) }
@@ -147,7 +146,7 @@ fn old_text<F: Facts>(
     room: usize,
     from: &Tree,
 ) -> Result<Text, ExpandFault>
-    ensures value { Means (F.asked facts.new) (behind run.new (F.asked facts.new)) result
+    ensures value { Evaluates run.new (F.asked facts.new) (λ given. given) result
         (λ answers. tree_value (found_at room)
         (here names.now.scopes.now names.now.locals.now (F.lists facts.old) run.old false answers)
         (at run.old (F.asked facts.old)) (without_anchors (tree_view from.now))) }
@@ -176,7 +175,7 @@ fn new_text<F: Facts>(
     old: &[u8],
     to: &Tree,
 ) -> Result<Text, ExpandFault>
-    ensures value { Means (F.asked facts.new) (behind run.new (F.asked facts.new)) result
+    ensures value { Evaluates run.new (F.asked facts.new) (λ given. given) result
         (λ answers. tree_value (found_at room)
         (here names.now.scopes.now names.now.locals.now (F.lists facts.old) run.old false answers)
         (at run.old (F.asked facts.old)) (old_in_tree old.now (tree_view to.now))) }
@@ -202,7 +201,7 @@ fn append_new<F: Facts>(
     old: &[u8],
     part: &Part,
 ) -> Result<(), ExpandFault>
-    ensures value { Means (F.asked facts.new) (λ done. behind run.new (F.asked facts.new) text.new) result
+    ensures value { Evaluates run.new (F.asked facts.new) (λ done. text.new) result
         (λ answers. part_appended (found_at room)
         (here names.now.scopes.now names.now.locals.now (F.lists facts.old) run.old false answers)
         (at run.old (F.asked facts.old)) text.old (old_in_part old.now (part_view part.now))) }

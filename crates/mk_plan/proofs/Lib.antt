@@ -6,3 +6,4 @@ pub mod PlanRows
 pub mod TaskLemmas
 pub mod FactLemmas
 pub mod ListLemmas
+pub mod PlanLawLemmas

@@ -97,7 +97,7 @@ preds-at s start (suc count) (suc n) less =
     let same : start + suc n ≡ start + 1 + n = omega arith in
     rw same (preds-at s (start + 1) count n (omega arith))
 
-preds_of-is : (s : State) (n : ℕ) → n < length s.parts → preds_of (all_preds s) n ≡ preds_in s n
+pub preds_of-is : (s : State) (n : ℕ) → n < length s.parts → preds_of (all_preds s) n ≡ preds_in s n
 preds_of-is s n less =
     let same : 0 + n ≡ n = omega arith in
     preds-at s 0 (length s.parts) n less ∙ ap (preds_in s) same

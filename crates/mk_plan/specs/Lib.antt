@@ -7,3 +7,4 @@ pub mod Oodate
 pub mod Plans
 pub mod Refusals
 pub mod Tasks
+pub mod PlanLaws

@@ -13,7 +13,7 @@ use Rattle.mk_closure.specs.declared.fault.CloseFault.{CloseFault}
 use Rattle.mk_graph.specs.Marks.{no_marks, marked}
 use Rattle.mk_graph.specs.Nodes.{Node, number_of}
 use Rattle.mk_graph.specs.Nodes as graph
-use Rattle.mk_graph.specs.Walks.{depth_first}
+use Rattle.mk_graph.specs.Walks.{is_among, depth_first}
 use Rattle.mk_graph.specs.declared.Made.{Made}
 use Rattle.mk_graph.specs.declared.attr.Attr.TheVariants.{Phony}
 use Rattle.mk_graph.specs.declared.walk.Ordered.{Ordered}
@@ -120,6 +120,14 @@ is_behind place before = list_all (λ one. nat_lt one place) before
 abbrev pub are_ordered : ℕ → List PlanNode → Bool
 are_ordered place [] = true
 are_ordered place (node ∷ nodes) = is_behind place node.before && are_ordered (place + 1) nodes
+
+-- whether each source of a node is one of its predecessors
+abbrev pub has_its_sources : PlanNode → Bool
+has_its_sources node = list_all (is_among node.before) node.sources
+
+-- each node waits for all its sources
+abbrev pub are_sourced : List PlanNode → Bool
+are_sourced nodes = list_all has_its_sources nodes
 
 -- behind the last node there is none
 abbrev pub no_node : PlanNode

@@ -11,10 +11,14 @@ mod look;
 mod making;
 mod oodate;
 mod plan;
+mod plan_law;
 mod tasks;
 
 pub use facts::MadeFacts;
 pub use fault::{PlanFault, TaskFault};
 pub use making::make_plan;
 pub use plan::{NodeState, Nodes, Plan, PlanNode};
+pub use plan_law::{
+    dependence_goes_back, planned_names_differ, planned_nodes_are_reached, plans_have_their_sources,
+};
 pub use tasks::{names_at, task};

@@ -1,6 +1,6 @@
 ghost use Rattle.std.specs.Prelude.{◌≡◌, ◌<◌, ◌^◌, length, IsTrue};
 ghost use Rattle.mk_graph.specs.Marks.{has};
-ghost use Rattle.mk_plan.specs.Plans.{are_ordered, node_at};
+ghost use Rattle.mk_plan.specs.Plans.{are_ordered, are_sourced, node_at};
 
 use mk_bytes::{Items, Text, Texts};
 use mk_graph::{Attr, Marks};
@@ -39,7 +39,8 @@ pub struct PlanNode {
     pub marks: Marks,
 }
 
-/// Nodes in the order in which one job would make them: each stands behind its predecessors.
+/// Nodes in the order in which one job would make them: each stands behind its predecessors, which its
+/// sources are among.
 #[derive(Debug, Drop)]
 pub struct Plan {
     nodes: Items<PlanNode>,
@@ -47,14 +48,14 @@ pub struct Plan {
 
 impl Model for Plan {
     ghost use Rattle.std.specs.Prelude.{List, IsTrue};
-    ghost use Rattle.mk_plan.specs.Plans.{are_ordered};
+    ghost use Rattle.mk_plan.specs.Plans.{are_ordered, are_sourced};
     ghost use Rattle.mk_plan.specs.declared.plan.PlanNode.{PlanNode};
 
     ghost Value = { List PlanNode };
 
     ghost view = { λ plan. plan.nodes };
 
-    ghost invariant = { λ plan. IsTrue (are_ordered 0 plan.nodes) };
+    ghost invariant = { λ plan. IsTrue (are_ordered 0 plan.nodes) × IsTrue (are_sourced plan.nodes) };
 }
 
 impl Plan {
@@ -68,9 +69,11 @@ impl Plan {
         }
     }
 
-    /// The plan of these nodes, each of which stands behind its predecessors.
+    /// The plan of these nodes, each of which stands behind its predecessors and has its sources among
+    /// them.
     pub fn of(nodes: Items<PlanNode>) -> Plan
-        requires { IsTrue (are_ordered 0 nodes) }
+        requires ordered { IsTrue (are_ordered 0 nodes) }
+        requires sourced { IsTrue (are_sourced nodes) }
         ensures { result ≡ nodes }
     {
         Plan { nodes }
@@ -80,6 +83,7 @@ impl Plan {
     pub fn len(&self) -> u32
         ensures value { result ≡ length self.now }
         ensures ordered { IsTrue (are_ordered 0 self.now) }
+        ensures sourced { IsTrue (are_sourced self.now) }
     {
         self.nodes.len() as u32
     }

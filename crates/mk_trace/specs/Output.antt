@@ -1,6 +1,7 @@
 -- What a build prints.
 use Rattle.std.specs.Prelude.{ℕ, ◌+◌, ◌==◌, List, [], ◌∷◌, ◌++◌, Option, Some, None, Bool, false, not, ◌&&◌, if◌then◌else◌, get_or, codes}
 use Rattle.mk_bytes.specs.Bytes.{newline}
+use Rattle.mk_plan.specs.Plans.{node_at}
 use Rattle.mk_plan.specs.declared.plan.PlanNode.{PlanNode}
 use Rattle.mk_world.specs.declared.command.TaskLine.{TaskLine}
 use Rattle.mk_trace.specs.Runs.{Tasks, line_of, is_empty, has_child}

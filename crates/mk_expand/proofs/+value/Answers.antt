@@ -1,4 +1,4 @@
-use Rattle.std.proofs.Common.{◌≡◌, ◌+◌, ◌<◌, take, false, [], Ok, refl, sym, ◌∙◌, inr, rules, arith}
+use Rattle.std.proofs.Common.{◌≡◌, ◌+◌, ◌<◌, take, false, [], Ok, refl, sym, ap, ◌∙◌, inr, rules, arith}
 use Rattle.std.proofs.lemmas.Grind.{common_steps}
 use Rattle.std.proofs.lemmas.Result.{err_from_is_err_and}
 use Rattle.mk_ast.proofs.Views as trees
@@ -11,18 +11,19 @@ use Rattle.mk_mods.proofs.PieceLemmas.{Begins-refl}
 use Rattle.mk_expand.specs.Calls.{at, here}
 use Rattle.mk_expand.specs.Value.{found_at}
 use Rattle.mk_expand.specs.View.{chain_view}
-use Rattle.mk_expand.specs.declared.fault.ExpandFault.TheVariants.{NoMemory as no_memory}
 use Rattle.mk_expand.proofs.ChainLemmas.{all_modified-mod, all_modified-end, each_behind-word}
 use Rattle.mk_expand.proofs.ChainLemmas.{each_behind-end, modified-words, modified-given}
 use Rattle.mk_expand.proofs.ChainLemmas.{chained-default}
 use Rattle.mk_expand.proofs.FactLemmas.{earlier, never_fails, ok_never, Asks-none, Asks-err, Asks-ok, Asks-then}
-use Rattle.mk_expand.proofs.FactLemmas.{Keeps-then, Extends-then, agrees_but, fault_of_all, outside}
+use Rattle.mk_expand.proofs.FactLemmas.{Keeps-then, Extends-then, fault_of_all, gives_at, outside}
 use Rattle.mk_expand.proofs.FaultLemmas.{never-appended, never-raw_above, err_never, fault_never}
-use Rattle.mk_expand.specs.Outer.{step_size, weight}
-use Rattle.mk_expand.proofs.OuterLemmas.{fault_inside, round_all-push, weight-push}
-use Rattle.mk_expand.proofs.PlainLemmas.{Agrees-counted, opened_value-plain, raw_of-above}
+use Rattle.mk_expand.specs.Evaluators.{gives}
+use Rattle.mk_expand.specs.Outer.{leaf_truth, step_size, weight}
+use Rattle.mk_expand.proofs.NameLemmas.{raw_of-above, raw_of-fault, raw_of-known}
+use Rattle.mk_expand.proofs.OuterLemmas.{fault_inside, round_all-inside, round_all-push, weight-push}
+use Rattle.mk_expand.proofs.PlainLemmas.{opened_value-plain}
 use Rattle.mk_expand.proofs.PlainLemmas.{side_value-plain, text_value-plain, tree_value-plain}
-use Rattle.mk_expand.proofs.PlainLemmas.{variable-plain}
+use Rattle.mk_expand.proofs.PlainLemmas.{variable-plain, variable-fault, variable-raw, variable-none}
 use Rattle.mk_expand.proofs.ValueLemmas.{joined-part, joined-end, joined-new, joined-new-end}
 use Rattle.mk_expand.proofs.ValueLemmas.{found-not, found-may, old_text_start}
 use Rattle.mk_expand.proofs.+value.Goals as goal
@@ -83,7 +84,7 @@ evaluation::joined-returns-clause-value g t c =
     let done = joined-end (found_at c.args.room) (here c.args.names.now.scopes.now c.args.names.now.locals.now
     (g.F.Facts.lists l.facts) l.run c.args.keep answers)
     (at l.run (g.F.Facts.asked l.facts)) l.text c.args.parts.now l.part-index c.loop-part-test.false in
-    (sym (l.invariant.value answers by) ∙ done)
+    (sym (l.invariant.value answers by) ∙ ap (λ one. one.answer) done)
 
 pub evaluation::joined-returns-clause-facts : goal.evaluation::joined-returns-clause-facts
 evaluation::joined-returns-clause-facts g t c =
@@ -145,7 +146,7 @@ words::new_text-returns-clause-value g t c =
     let done = joined-new-end (found_at c.args.room) (here c.args.names.now.scopes.now c.args.names.now.locals.now
     (g.F.Facts.lists l.facts) l.run false answers)
     (at l.run (g.F.Facts.asked l.facts)) l.text c.args.old.now c.as_slice-part-items.result.now l.part-index c.loop-part-test.false in
-    rw (← c.as_slice-part-items.ensures.value) (sym (l.invariant.value answers by) ∙ done)
+    rw (← c.as_slice-part-items.ensures.value) (sym (l.invariant.value answers by) ∙ ap (λ one. one.answer) done)
 
 pub words::new_text-returns-clause-facts : goal.words::new_text-returns-clause-facts
 words::new_text-returns-clause-facts g t c =
@@ -222,7 +223,7 @@ modifiers::all_modified-returns-clause-value g t c =
     let done = all_modified-end (found_at c.args.room) (here c.args.names.now.scopes.now c.args.names.now.locals.now
     (g.F.Facts.lists l.facts) l.run false answers)
     (at l.run (g.F.Facts.asked l.facts)) c.args.name.now (chain_view l.run.region.bytes l.chain) c.as_slice-one-items.result.now l.one-index c.loop-one-test.false in
-    rw (← c.as_slice-one-items.ensures.value) (sym (l.invariant.value answers by) ∙ done)
+    rw (← c.as_slice-one-items.ensures.value) (sym (l.invariant.value answers by) ∙ ap (λ one. one.answer) done)
 
 pub modifiers::all_modified-returns-clause-facts : goal.modifiers::all_modified-returns-clause-facts
 modifiers::all_modified-returns-clause-facts g t c =
@@ -302,7 +303,7 @@ modifiers::each_behind-returns-clause-value g t c =
     (g.F.Facts.lists l.facts) l.run false answers)
     (at l.run (g.F.Facts.asked l.facts)) c.args.variable.now (tree_view c.args.body.now) l.results c.args.words.now l.word-index
     c.loop-word-test.false in
-    sym (l.invariant.value answers by) ∙ done
+    sym (l.invariant.value answers by) ∙ ap (λ one. one.answer) done
 
 pub modifiers::each_behind-returns-clause-facts : goal.modifiers::each_behind-returns-clause-facts
 modifiers::each_behind-returns-clause-facts g t c =
@@ -315,9 +316,8 @@ evaluation::text_value-returns-then-not-has_dollar-clause-value g t c =
     let here = here c.args.names.now.scopes.now c.args.names.now.locals.now
     (g.F.Facts.lists c.args.facts.now) c.args.run.now c.args.keep answers in
     let p = at c.args.run.now (g.F.Facts.asked c.args.facts.now) in
-    rw (text_value-plain (found_at c.args.room) here p c.args.text.now none)
-    (agrees_but (λ value. (value, p)) _ _
-    (Agrees-counted no_memory p c.plain_value.result _ c.plain_value.ensures))
+    rw (ap (λ one. one.answer) (text_value-plain (found_at c.args.room) here p c.args.text.now none))
+    (gives_at (λ value. value) p c.plain_value.result _ c.plain_value.ensures)
 
 pub evaluation::text_value-returns-then-not-has_dollar-clause-facts : goal.evaluation::text_value-returns-then-not-has_dollar-clause-facts
 evaluation::text_value-returns-then-not-has_dollar-clause-facts g t c =
@@ -327,9 +327,9 @@ evaluation::text_value-returns-then-not-has_dollar-clause-facts g t c =
 pub evaluation::found-returns-in_err-open_reference-clause-value : goal.evaluation::found-returns-in_err-open_reference-clause-value
 evaluation::found-returns-in_err-open_reference-clause-value g t c =
     let p = err_from_is_err_and c.from_residual.result c.from_residual.ensures.1 in
-    rw (p.1, p.2) (λ answers by.
-    inr (found-not c.args.room c.args.run.now.references _ _ _ _
-    c.in_err-open_reference.ensures.err))
+    rw (p.1, p.2, c.in_err-open_reference.ensures.refused) (λ answers by.
+    inr (ap (λ one. one.answer) (found-not c.args.room c.args.run.now.references _ _ _ _
+    c.in_err-open_reference.ensures.err)))
 
 pub evaluation::found-returns-clause-value : goal.evaluation::found-returns-clause-value
 evaluation::found-returns-clause-value g t c =
@@ -420,9 +420,22 @@ evaluation::variable-returns-then-not-has_dollar-clause-value g t c =
     let p = at c.args.run.now (g.F.Facts.asked c.args.facts.now) in
     let name = c.args.name.now in
     let above = rw c.in-Some.is at c.in_ok-raw.ensures in
-    rw (variable-plain (found_at c.args.room) here p name raw among (raw_of-above here name raw above) plain)
-    (agrees_but (λ found. (found, p)) _ _
-    (Agrees-counted no_memory p c.plain_found.result _ c.plain_found.ensures))
+    let raw_is = raw_of-above c.args.names.now.scopes.now c.args.names.now.locals.now
+    c.args.run.now.bound name raw above in
+    rw (ap (λ one. one.answer) (variable-plain (found_at c.args.room) here p name raw among raw_is plain))
+    (gives_at (λ found. found) p c.plain_found.result _ c.plain_found.ensures)
+
+pub evaluation::variable-returns-in_err-raw-clause-value : goal.evaluation::variable-returns-in_err-raw-clause-value
+evaluation::variable-returns-in_err-raw-clause-value g t c =
+    let p = err_from_is_err_and c.from_residual-in_err-raw.result c.from_residual-in_err-raw.ensures.1 in
+    let among = sym c.is_among.ensures ∙ c.if-is_among.false in
+    rw (p.1, p.2) (λ answers by.
+    let here = here c.args.names.now.scopes.now c.args.names.now.locals.now
+    (g.F.Facts.lists c.args.facts.now) c.args.run.now c.args.keep answers in
+    variable-fault (found_at c.args.room) here (at c.args.run.now (g.F.Facts.asked c.args.facts.now))
+    c.args.name.now _ among
+    (raw_of-fault c.args.names.now.scopes.now c.args.names.now.locals.now c.args.run.now.bound
+    c.args.name.now _ c.in_err-raw.ensures))
 
 pub evaluation::variable-returns-in_err-raw-clause-facts : goal.evaluation::variable-returns-in_err-raw-clause-facts
 evaluation::variable-returns-in_err-raw-clause-facts g t c =
@@ -503,7 +516,7 @@ words::old_text-returns-in_err-append-in-Some-clause-value g t c =
     (tree_view c.args.from.now) (tree_view c.without_end-parts.result.now)
     (tree_view c.in-Some.rest.now) c.in-Some.bytes.now ends c.in-Some.ensures.1 in
     let fault = rw c.new-text.ensures at c.in_err-append-in-Some.ensures in
-    rw goes (fault_of_all c.in_err-append-in-Some.field-0.0 _ _ (outside _ _ fault)))
+    rw goes (fault_of_all c.in_err-append-in-Some.field-0.0 _ _ (outside _ _ _ fault)))
 
 pub words::old_text-returns-in_ok-append-in-Some-clause-value : goal.words::old_text-returns-in_ok-append-in-Some-clause-value
 words::old_text-returns-in_ok-append-in-Some-clause-value g t c =
@@ -525,11 +538,11 @@ modifiers::chained-returns-clause-value g t c =
     λ answers by.
     rw (
       mods,
-      chained-default (found_at c.args.room)
+      ap (λ one. one.answer) (chained-default (found_at c.args.room)
           (here c.args.names.now.scopes.now c.args.names.now.locals.now
           (g.F.Facts.lists c.args.facts.now) c.args.run.now false answers)
           (at c.args.run.now (g.F.Facts.asked c.args.facts.now)) c.args.name.now c.args.found
-          (tree_view text.now) c.if-not-found.true,
+          (tree_view text.now) c.if-not-found.true),
     )
     (c.default_found.ensures.value answers by)
 
@@ -593,8 +606,9 @@ evaluation::known_value-returns-then-not-has_dollar-clause-value g t c =
     (g.F.Facts.lists c.args.facts.now) c.args.run.now c.args.keep answers in
     let p = at c.args.run.now (g.F.Facts.asked c.args.facts.now) in
     let found = rw c.in_ok-copy.ensures at c.plain_found.ensures in
-    rw (opened_value-plain (found_at c.args.room) here p c.args.name.now c.args.raw.now plain)
-    (agrees_but (λ found. (found, p)) _ _ (Agrees-counted no_memory p c.plain_found.result _ found))
+    rw (ap (λ one. one.answer)
+    (opened_value-plain (found_at c.args.room) here p c.args.name.now c.args.raw.now plain))
+    (gives_at (λ found. found) p c.plain_found.result _ found)
 
 pub evaluation::named-returns-in_err-found-clause-value : goal.evaluation::named-returns-in_err-found-clause-value
 evaluation::named-returns-in_err-found-clause-value g t c =
@@ -667,13 +681,21 @@ conditions::truth_of-steps-preserved g t c =
     record {
       value = λ answers by.
           let before = earlier _ _ answers leaf.facts.asked by in
-          c.in_ok-step-in-Some.ensures.same _ _ _
+          let old = here c.args.names.now.scopes.now c.args.names.now.locals.now
+          (g.F.Facts.lists l.facts) l.run false answers in
+          let inside = leaf_truth (found_at c.args.room) old (at l.run (g.F.Facts.asked l.facts))
+          c.in-AtLeaf.leaf in
+          let next = here c.args.names.now.scopes.now c.args.names.now.locals.now
+          (g.F.Facts.lists c.leaf_truth.new.facts) c.leaf_truth.new.run false answers in
+          let p = at c.leaf_truth.new.run (g.F.Facts.asked c.leaf_truth.new.facts) in
+          ap (λ one. one.answer) (c.in_ok-step-in-Some.ensures.same (found_at c.args.room) next p)
+          ∙ round_all-inside (found_at c.args.room) next c.pop.new.self.items c.in-Some.one
+          (gives c.in_ok-truth-in-AtLeaf.truth p) inside (sym (leaf.value answers by))
           ∙ rw (
             ← l.invariant.value answers before,
             c.in-AtLeaf.is,
             c.in-Some.ensures.items,
             round_all-push _ _ c.pop.new.self.items c.in-Some.one _,
-            leaf.value answers by,
             leaf.run.open_names,
             leaf.run.bound,
             leaf.facts.lists,

@@ -131,12 +131,12 @@ decreases-conditions::truth_of g l = 4096 * l.room + 8
 abbrev pub invariant-evaluation::joined-loop-part : goal.invariant-evaluation::joined-loop-part
 invariant-evaluation::joined-loop-part g l = record {
   value : (answers : Answers) → AnsweredBy answers (g.F.Facts.asked l.facts)
-      → joined (found_at l.room)
+      → (joined (found_at l.room)
       (here l.names.scopes.now l.names.locals.now (g.F.Facts.lists l.facts) l.run l.keep answers)
-      (at l.run (g.F.Facts.asked l.facts)) l.text (tree_view (drop l.part-index l.parts))
-      ≡ joined (found_at l.room)
+      (at l.run (g.F.Facts.asked l.facts)) l.text (tree_view (drop l.part-index l.parts))).answer
+      ≡ (joined (found_at l.room)
       (here l.names.scopes.now l.names.locals.now (g.F.Facts.lists l.initial.facts) l.initial.run l.keep answers)
-      (at l.initial.run (g.F.Facts.asked l.initial.facts)) l.initial.text (tree_view l.parts);
+      (at l.initial.run (g.F.Facts.asked l.initial.facts)) l.initial.text (tree_view l.parts)).answer;
   run : Keeps l.initial.run l.run;
   facts : Asks {A = Unit {0}} (g.F.Facts.leads l.initial.facts l.facts) (g.F.Facts.lists l.initial.facts) (g.F.Facts.lists l.facts)
       (g.F.Facts.asked l.initial.facts) (g.F.Facts.asked l.facts)
@@ -147,13 +147,13 @@ invariant-evaluation::joined-loop-part g l = record {
 abbrev pub invariant-words::new_text-loop-part : goal.invariant-words::new_text-loop-part
 invariant-words::new_text-loop-part g l = record {
   value : (answers : Answers) → AnsweredBy answers (g.F.Facts.asked l.facts)
-      → joined (found_at l.room)
+      → (joined (found_at l.room)
       (here l.names.scopes.now l.names.locals.now (g.F.Facts.lists l.facts) l.run false answers)
       (at l.run (g.F.Facts.asked l.facts)) l.text
-      (old_in_tree l.old (tree_view (drop l.part-index l.part-items)))
-      ≡ tree_value (found_at l.room)
+      (old_in_tree l.old (tree_view (drop l.part-index l.part-items)))).answer
+      ≡ (tree_value (found_at l.room)
       (here l.names.scopes.now l.names.locals.now (g.F.Facts.lists l.initial.facts) l.initial.run false answers)
-      (at l.initial.run (g.F.Facts.asked l.initial.facts)) (old_in_tree l.old (tree_view l.part-items));
+      (at l.initial.run (g.F.Facts.asked l.initial.facts)) (old_in_tree l.old (tree_view l.part-items))).answer;
   run : Keeps l.initial.run l.run;
   facts : Asks {A = Unit {0}} (g.F.Facts.leads l.initial.facts l.facts) (g.F.Facts.lists l.initial.facts) (g.F.Facts.lists l.facts)
       (g.F.Facts.asked l.initial.facts) (g.F.Facts.asked l.facts)
@@ -164,14 +164,14 @@ invariant-words::new_text-loop-part g l = record {
 abbrev pub invariant-modifiers::all_modified-loop-one : goal.invariant-modifiers::all_modified-loop-one
 invariant-modifiers::all_modified-loop-one g l = record {
   value : (answers : Answers) → AnsweredBy answers (g.F.Facts.asked l.facts)
-      → all_modified (found_at l.room)
+      → (all_modified (found_at l.room)
       (here l.names.scopes.now l.names.locals.now (g.F.Facts.lists l.facts) l.run false answers)
       (at l.run (g.F.Facts.asked l.facts)) l.name (chain_view l.run.region.bytes l.chain)
-      (mods_view (drop l.one-index l.one-items))
-      ≡ all_modified (found_at l.room)
+      (mods_view (drop l.one-index l.one-items))).answer
+      ≡ (all_modified (found_at l.room)
       (here l.names.scopes.now l.names.locals.now (g.F.Facts.lists l.initial.facts) l.initial.run false answers)
       (at l.initial.run (g.F.Facts.asked l.initial.facts)) l.name
-      (chain_view l.initial.run.region.bytes l.initial.chain) (mods_view l.one-items);
+      (chain_view l.initial.run.region.bytes l.initial.chain) (mods_view l.one-items)).answer;
   len : l.len ≡ length l.initial.run.region.bytes;
   least : 2 ≤ l.len;
   run : Extends l.initial.run l.run;
@@ -185,12 +185,12 @@ invariant-modifiers::all_modified-loop-one g l = record {
 abbrev pub invariant-modifiers::each_behind-loop-word : goal.invariant-modifiers::each_behind-loop-word
 invariant-modifiers::each_behind-loop-word g l = record {
   value : (answers : Answers) → AnsweredBy answers (g.F.Facts.asked l.facts)
-      → each_behind (found_at l.room)
+      → (each_behind (found_at l.room)
       (here l.names.scopes.now l.names.locals.now (g.F.Facts.lists l.facts) l.run false answers)
-      (at l.run (g.F.Facts.asked l.facts)) l.variable (tree_view l.body) l.results (drop l.word-index l.words)
-      ≡ each_behind (found_at l.room)
+      (at l.run (g.F.Facts.asked l.facts)) l.variable (tree_view l.body) l.results (drop l.word-index l.words)).answer
+      ≡ (each_behind (found_at l.room)
       (here l.names.scopes.now l.names.locals.now (g.F.Facts.lists l.initial.facts) l.initial.run false answers)
-      (at l.initial.run (g.F.Facts.asked l.initial.facts)) l.variable (tree_view l.body) l.initial.results l.words;
+      (at l.initial.run (g.F.Facts.asked l.initial.facts)) l.variable (tree_view l.body) l.initial.results l.words).answer;
   run : Keeps l.initial.run l.run;
   facts : Asks {A = Unit {0}} (g.F.Facts.leads l.initial.facts l.facts) (g.F.Facts.lists l.initial.facts) (g.F.Facts.lists l.facts)
       (g.F.Facts.asked l.initial.facts) (g.F.Facts.asked l.facts)
@@ -201,14 +201,14 @@ invariant-modifiers::each_behind-loop-word g l = record {
 abbrev pub invariant-conditions::truth_of-steps : goal.invariant-conditions::truth_of-steps
 invariant-conditions::truth_of-steps g l = record {
   value : (answers : Answers) → AnsweredBy answers (g.F.Facts.asked l.facts)
-      → round_all (found_at l.room)
+      → (round_all (found_at l.room)
       (here l.names.scopes.now l.names.locals.now (g.F.Facts.lists l.facts) l.run false answers) l.outer.items
       (step_truth (found_at l.room)
       (here l.names.scopes.now l.names.locals.now (g.F.Facts.lists l.facts) l.run false answers)
-      (at l.run (g.F.Facts.asked l.facts)) l.step)
-      ≡ truth_of (found_at l.room)
+      (at l.run (g.F.Facts.asked l.facts)) l.step)).answer
+      ≡ (truth_of (found_at l.room)
       (here l.names.scopes.now l.names.locals.now (g.F.Facts.lists l.initial.facts) l.initial.run false answers)
-      (at l.initial.run (g.F.Facts.asked l.initial.facts)) (cond_view l.cond);
+      (at l.initial.run (g.F.Facts.asked l.initial.facts)) (cond_view l.cond)).answer;
   run : Keeps l.initial.run l.run;
   facts : Asks {A = Unit {0}} (g.F.Facts.leads l.initial.facts l.facts) (g.F.Facts.lists l.initial.facts) (g.F.Facts.lists l.facts)
       (g.F.Facts.asked l.initial.facts) (g.F.Facts.asked l.facts)

@@ -15,7 +15,7 @@ newer_names-requires c =
     rw (
       c.as_slice-ages.ensures.value,
       c.as_slice-places.ensures.value,
-      c.in_ok-sources.ensures,
+      c.in_ok-dated.ensures,
       c.sources.ensures,
     )
     (ages-long c.args.maker.now.plan.now c.args.node c.args.times.now.sources)
