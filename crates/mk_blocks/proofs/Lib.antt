@@ -12,5 +12,7 @@ mod Rows
 mod RunLemmas
 mod SkipLemmas
 mod Small
+mod SpelledLemmas
 mod TieLemmas
+mod TurnBodyLemmas
 mod TurnLemmas

@@ -1,5 +1,5 @@
 -- Outcomes, one after the other.
-use Rattle.std.proofs.Common.{◌≡◌, ℕ, List, [], ◌++◌, Result, Ok, Err, refl, sym, ap, append_assoc}
+use Rattle.std.proofs.Common.{◌≡◌, List, [], ◌++◌, Result, Ok, Err, refl, sym, ap, append_assoc}
 use Rattle.std.proofs.lemmas.List.{append-nil}
 use Rattle.mk_blocks.specs.Acts.{Act}
 use Rattle.mk_blocks.specs.Outcomes.{Outcome, behind, followed, done, ◌>>=◌}

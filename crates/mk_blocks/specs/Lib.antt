@@ -10,6 +10,8 @@ pub mod Outcomes
 pub mod Places
 pub mod Runs
 pub mod Skips
+pub mod Spelled
 pub mod Texts
 pub mod Ties
+pub mod TurnBodies
 pub mod Turns

@@ -38,4 +38,6 @@ pub use fault::{FileFault, LanguageFault, Wrong};
 pub use kind::{BlockFault, LineKind};
 pub use language::{IncludedFile, Language, Loop};
 pub use line::MAX_LINES;
+pub use nesting::checked_file_is_one_block;
 pub use reading::{MAX_FILES, read_file};
+pub use turn::turns_read_their_bodies;

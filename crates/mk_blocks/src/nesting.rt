@@ -1,7 +1,8 @@
 //! The blocks of a file that are open, and the first line that stands out of its place.
-ghost use Rattle.std.specs.Prelude.{◌≡◌, ◌^◌, ◌<◌, [], ◌∷◌, length, slice_get, IfOk};
+ghost use Rattle.std.specs.Prelude.{◌≡◌, ◌^◌, ◌<◌, [], ◌∷◌, length, slice_get, IfOk, Ok};
 ghost use Rattle.mk_lines.specs.Lines.{lines_from};
 ghost use Rattle.mk_blocks.specs.OpenBlocks as spec;
+ghost use Rattle.mk_blocks.specs.Spelled.{IsOneBlock};
 ghost use Rattle.mk_blocks.specs.declared.kind.LineKind.TheVariants as kinds;
 
 use crate::kind::{BlockFault, LineKind};
@@ -159,3 +160,12 @@ pub fn block_fault<L: Language>(
         }
     }
 }
+
+/// A law of blocks: a file without block faults is one tree of lines, if-blocks, loops and included
+/// files that spells its lines, each in its place, and nothing of it is left. Each if-block is
+/// closed by its `.endif`, and `.else` is the last of its branches; each loop is closed by its
+/// `.endfor`, and `.break` stands in a loop.
+pub fn checked_file_is_one_block<L: Language>(_language: &L, text: &[u8])
+    requires { spec.blocks_checked L.ties.kind [] (lines_from 1 text.now) ≡ Ok tt }
+    ensures { IsOneBlock L.ties.kind (lines_from 1 text.now) }
+{}

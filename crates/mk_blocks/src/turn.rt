@@ -4,10 +4,11 @@ ghost use Rattle.mk_for.specs.Substitution.{replaced, is_dollar};
 ghost use Rattle.mk_for.specs.Turns.{words_of};
 ghost use Rattle.std.specs.List.{list_any};
 ghost use Rattle.mk_blocks.specs.Places.{turn_of, turns_in};
+ghost use Rattle.mk_blocks.specs.TurnBodies.{TurnsReadBodies};
 ghost use Rattle.mk_blocks.specs.Turns as spec;
 ghost use Rattle.mk_blocks.specs.Texts.{text_or};
 
-use crate::language::Loop;
+use crate::language::{Language, Loop};
 use crate::place::OpenLoop;
 use crate::stack::Stack;
 use mk_bytes::{NoMemory, Text};
@@ -77,3 +78,11 @@ pub fn changed_text(
     }
     Ok(changed)
 }
+
+/// A law of turns: where the words of a loop make no line a directive and hide none, what a turn
+/// processes is the body that `unroll` of mk_for gives that turn, inside the turns of the loops in
+/// it.
+pub fn turns_read_their_bodies<L: Language>(_language: &L)
+    ensures { (answers : L.ties.Answers)
+        → TurnsReadBodies L.Failure L.ties.kind (L.ties.meaning answers) }
+{}

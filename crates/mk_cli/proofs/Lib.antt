@@ -1,4 +1,3 @@
-mod NumberLemmas
 mod OrderLemmas
 mod Rows
 mod SoundLemmas

@@ -1,11 +1,12 @@
 -- Assignments: their sign is at the first `=` of the word, and blanks round the name and before
 -- the value are dropped (make(1), "VARIABLE ASSIGNMENTS").
 use Rattle.std.specs.Prelude.{ℕ, ◌-◌, Bool, true, false, ◌==◌, ◌||◌, nat_eq, List, [], ◌∷◌}
-use Rattle.std.specs.Prelude.{length, take, drop, position, Option, Some, None, is_some}
+use Rattle.std.specs.Prelude.{length, take, position, Option, Some, None, is_some}
 use Rattle.std.specs.Prelude.{if◌then◌else◌, codes}
-use Rattle.std.specs.List.{prefix_len, suffix_len, ends_with, before_first, after_first}
+use Rattle.std.specs.List.{ends_with, before_first, after_first}
 use Rattle.std.specs.Str.{bytes_eq}
-use Rattle.mk_bytes.specs.Bytes.{equals_sign, is_blank}
+use Rattle.mk_bytes.specs.Bytes.{equals_sign}
+pub use Rattle.mk_bytes.specs.Texts.{without_blanks_before, without_blanks_after, without_blanks}
 use Rattle.mk_cli.specs.declared.order.AssignOp.{AssignOp}
 use Rattle.mk_cli.specs.declared.order.AssignOp.TheVariants.{Plain, Append, Default, Now, Shell}
 use Rattle.mk_cli.specs.declared.order.Set.{Set}
@@ -19,14 +20,6 @@ is_equals byte = byte == equals_sign
 abbrev pub is_assignment : List ℕ → Bool
 is_assignment [] = false
 is_assignment (byte ∷ rest) = is_some (position is_equals rest)
-
--- a text from its first byte that is no blank
-abbrev pub without_blanks_before : List ℕ → List ℕ
-without_blanks_before text = drop (prefix_len is_blank text) text
-
--- a text up to its last byte that is no blank
-abbrev pub without_blanks_after : List ℕ → List ℕ
-without_blanks_after text = take (length text - suffix_len is_blank text) text
 
 -- a text without its last byte
 abbrev pub without_last : List ℕ → List ℕ
@@ -56,5 +49,5 @@ named name op value =
 abbrev pub assignment : List ℕ → Option Set
 assignment word =
     let sign = name_and_op (before_first is_equals word) in
-    named (without_blanks_after (without_blanks_before sign.0)) sign.1
+    named (without_blanks sign.0) sign.1
     (without_blanks_before (after_first is_equals word))

@@ -1,11 +1,10 @@
 //! Assignments on the command line (make(1), "VARIABLE ASSIGNMENTS").
 ghost use Rattle.std.specs.Prelude.{◌≡◌, position, is_some, IfOk};
 ghost use Rattle.std.specs.List.{before_first, after_first};
-ghost use Rattle.mk_bytes.specs.Bytes as bytes;
 ghost use Rattle.mk_cli.specs.Assignments as spec;
 
 use crate::order::{AssignOp, Set};
-use mk_bytes::{NoMemory, Text};
+use mk_bytes::{NoMemory, Text, without_blanks, without_blanks_before};
 use mk_scopes::Class;
 use std::alloc::Global;
 
@@ -24,38 +23,6 @@ pub fn is_assignment(word: &[u8]) -> bool
         [] => false,
         [_, rest @ ..] => first_equals(rest).is_some(),
     }
-}
-
-fn is_blank(byte: u8) -> bool
-    ensures { result ≡ bytes.is_blank byte }
-{
-    byte == b' ' || byte == b'\t'
-}
-
-fn without_blanks_before(text: &[u8]) -> &[u8]
-    ensures { result.now ≡ spec.without_blanks_before text.now }
-{
-    let mut rest = text;
-    while let [first, after @ ..] = rest {
-        if !is_blank(*first) {
-            return rest;
-        }
-        rest = after;
-    }
-    rest
-}
-
-fn without_blanks_after(text: &[u8]) -> &[u8]
-    ensures { result.now ≡ spec.without_blanks_after text.now }
-{
-    let mut rest = text;
-    while let [before @ .., last] = rest {
-        if !is_blank(*last) {
-            return rest;
-        }
-        rest = before;
-    }
-    rest
 }
 
 // The bytes before the first `=`, or all, and those after it, or none.
@@ -101,7 +68,7 @@ pub fn is_named(word: &[u8]) -> bool
 {
     let (before, _) = split_at_equals(word);
     let (name, op) = name_and_op(before);
-    let name = without_blanks_after(without_blanks_before(name));
+    let name = without_blanks(name);
     !name.is_empty() && !is_shell(op)
 }
 
@@ -112,7 +79,7 @@ pub fn assignment(alloc: Global, word: &[u8]) -> Result<Option<Set>, NoMemory>
 {
     let (before, after) = split_at_equals(word);
     let (name, op) = name_and_op(before);
-    let name = without_blanks_after(without_blanks_before(name));
+    let name = without_blanks(name);
     if name.is_empty() || is_shell(op) {
         return Ok(None);
     }

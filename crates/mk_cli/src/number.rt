@@ -4,21 +4,17 @@ ghost use Rattle.mk_bytes.specs.Numbers.{value};
 ghost use Rattle.mk_cli.specs.Numbers as spec;
 
 use crate::order::Usage;
+use mk_bytes::number_up_to;
 
 // The number from 1 to `most` that a text is.
 fn decimal(most: u32, text: &[u8]) -> Option<u32>
     requires { most ≤ 10000 }
     ensures { result ≡ (if spec.is_number most text.now then Some (value 10 text.now) else None) }
 {
-    let mut number = 0;
-    for byte in text {
-        let digit = char::from(*byte).to_digit(10)?;
-        number = number * 10 + digit;
-        if number > most {
-            return None;
-        }
+    match number_up_to(u64::from(most), text)? {
+        0 => None,
+        number => Some(number as u32),
     }
-    if number == 0 { None } else { Some(number) }
 }
 
 /// The number from 1 to `most` that an option's argument is, which the word at `place` holds. That

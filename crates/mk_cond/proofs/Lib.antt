@@ -1,4 +1,6 @@
 mod ConditionRows
+mod Depths
+pub mod FaultPlaces
 pub mod Given
 pub mod ReadAgain
 pub mod ReadConditions

@@ -2,9 +2,9 @@
 use Rattle.std.proofs.Common.{◌≡◌, ◌⊎◌, inl, inr, ℕ, ◌≤◌, if◌then◌else◌, Bool}
 use Rattle.std.proofs.Common.{true, false, List, [], ◌∷◌, ◌++◌, length, drop, Option, Some, None}
 use Rattle.std.proofs.Common.{refl, ap, subst, arith, length-append, length-drop, codes}
-use Rattle.std.proofs.Common.{position, unwrap_or}
+use Rattle.std.specs.List.{prefix_len}
 use Rattle.std.proofs.lemmas.Bool.{cond_both, eqb-true}
-use Rattle.mk_bytes.specs.Bytes.{quote_mark, round_close}
+use Rattle.mk_bytes.specs.Bytes.{is_blank, quote_mark, round_close}
 use Rattle.mk_ast.specs.Tree.{Tree, end, part}
 use Rattle.mk_ast.specs.Spell.{spell, spell_mods}
 use Rattle.mk_ast.specs.References.{piece_at, bare_reference_at}
@@ -19,7 +19,7 @@ use Rattle.mk_cond.specs.Terms.{Read, with_fault, with_bare_fault, past_end, end
 use Rattle.mk_cond.specs.Terms.{some_word, word_at, unquoted, side_at, both_at}
 use Rattle.mk_cond.specs.Terms.{behind_left, sides_at, asked, behind_word, asked_at, word_term_at}
 use Rattle.mk_cond.specs.Terms.{fun_text, argument_at, call_at, side_or_word, term_of, term_at}
-use Rattle.mk_cond.specs.Terms.{called, behind_name, begins_side, op_at, skip_blanks, is_no_blank, begins}
+use Rattle.mk_cond.specs.Terms.{called, behind_name, begins_side, op_at, skip_blanks, begins}
 use Rattle.mk_cond.specs.Grammar.{IsWord, IsSide, IsBoth, IsLone, IsSides, IsAsked}
 use Rattle.mk_cond.specs.Grammar.{IsBareWord, IsArgument, IsCall, IsSidesOrWord, IsTermOf}
 use Rattle.mk_cond.specs.declared.cond.CmpOp.{CmpOp}
@@ -45,7 +45,7 @@ piece-shorter piece text bytes rest is =
 pub skip_blanks-shorter : (bytes : List ℕ) → length (skip_blanks bytes) ≤ length bytes
 unfolding skip_blanks
 skip_blanks-shorter bytes =
-    omega (arith, length-drop (unwrap_or (position is_no_blank bytes) (length bytes)) bytes)
+    omega (arith, length-drop (prefix_len is_blank bytes) bytes)
 
 -- Texts that end at their own byte
 

@@ -1,10 +1,11 @@
 -- Reading the terms of a condition: functions, sides and words.
-use Rattle.std.specs.Prelude.{ℕ, ◌-◌, ◌==◌, ◌||◌, ◌&&◌, Bool, true, false, not, if◌then◌else◌}
+use Rattle.std.specs.Prelude.{ℕ, ◌-◌, ◌==◌, ◌||◌, ◌&&◌, Bool, true, false, if◌then◌else◌}
 use Rattle.std.specs.Prelude.{List, [], ◌∷◌, length, drop, Option, Some, None, Result, Ok, Err}
-use Rattle.std.specs.Prelude.{position, unwrap_or, nat_eq, codes}
+use Rattle.std.specs.Prelude.{nat_eq, codes}
 use Rattle.std.specs.List.{starts_with}
 use Rattle.mk_bytes.specs.Agrees.{◌>>=◌}
-use Rattle.mk_bytes.specs.Bytes.{is_blank, is_digit, quote_mark, dollar, plus, minus}
+use Rattle.mk_bytes.specs.Bytes.{is_digit, quote_mark, dollar, plus, minus}
+use Rattle.mk_bytes.specs.Texts.{without_blanks_before}
 use Rattle.mk_ast.specs.Tree.{Tree, end, part}
 use Rattle.mk_ast.specs.References.{piece_at, bare_reference_at}
 use Rattle.mk_ast.specs.declared.fault.AstFault.{AstFault}
@@ -41,14 +42,12 @@ with_fault (Err fault) = Err (of_tree fault)
 abbrev pub bad_at : {A : Type 0} → ℕ → List ℕ → Read A
 bad_at total bytes = Err (Bad (total - length bytes))
 
-abbrev pub is_no_blank : ℕ → Bool
-is_no_blank byte = not (is_blank byte)
-
-unfoldable pub skip_blanks : List ℕ → List ℕ
-skip_blanks bytes = drop (unwrap_or (position is_no_blank bytes) (length bytes)) bytes
-
 unfoldable pub begins : List ℕ → List ℕ → Bool
 begins start bytes = starts_with nat_eq bytes start
+
+-- a text without the blanks that it begins with
+unfoldable pub skip_blanks : List ℕ → List ℕ
+skip_blanks bytes = without_blanks_before bytes
 
 -- past the byte that ends a text, which is missing where nothing is left
 abbrev pub past_end : ℕ → Tree × List ℕ → Read Tree

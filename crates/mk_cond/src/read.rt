@@ -7,11 +7,11 @@ ghost use Rattle.mk_cond.specs.Conditions as spec;
 ghost use Rattle.mk_cond.specs.View.{cond_view, conds_view};
 ghost use Rattle.mk_cond.specs.declared.fault.CondFault.TheVariants.{NoMemory as no_memory};
 
-use crate::bytes::{begins, skip, skip_blanks};
+use crate::bytes::{begins, skip_blanks};
 use crate::cond::{Cond, Conds, Form};
 use crate::fault::CondFault;
 use crate::term::{negated, term_at};
-use mk_bytes::Items;
+use mk_bytes::{Items, skip};
 use std::alloc::Global;
 
 /// The sign between conditions.

@@ -10,10 +10,11 @@ ghost use Rattle.mk_cond.specs.View.{side_view, cond_view};
 ghost use Rattle.mk_cond.specs.declared.cond.Fun.TheVariants as fun;
 ghost use Rattle.mk_cond.specs.declared.fault.CondFault.TheVariants.{NoMemory as no_memory};
 
-use crate::bytes::{begins, skip, skip_blanks};
+use crate::bytes::{begins, skip_blanks};
 use crate::cond::{CmpOp, Cond, Form, Fun, Side};
 use crate::fault::CondFault;
 use mk_ast::{AstFault, Piece, Tree, bare_reference_at, piece_at};
+use mk_bytes::skip;
 use std::alloc::Global;
 
 fn fun_text(fun: Fun) -> &'static [u8]

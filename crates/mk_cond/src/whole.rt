@@ -1,7 +1,9 @@
-ghost use Rattle.std.specs.Prelude.{◌≡◌, ◌≢◌, IfOk, IfErr};
+ghost use Rattle.std.specs.Prelude.{◌≡◌, ◌≢◌, ◌≤◌, IfOk, IfErr};
 ghost use Rattle.mk_bytes.specs.Agrees.{Agrees};
 ghost use Rattle.mk_cond.specs.Cond.{Cond as PlainCond};
 ghost use Rattle.mk_cond.specs.Conditions as spec;
+ghost use Rattle.mk_cond.specs.Depth.{depth};
+ghost use Rattle.mk_cond.specs.FaultPlaces.{StandsIn};
 ghost use Rattle.mk_cond.specs.Grammar.{IsCondition};
 ghost use Rattle.mk_cond.specs.View.{cond_view};
 ghost use Rattle.mk_cond.specs.declared.fault.CondFault.TheVariants.{NoMemory as no_memory};
@@ -24,6 +26,9 @@ pub fn parse_cond(alloc: Global, text: &[u8], form: Form) -> Result<Cond, CondFa
     // .. and a text with a fault is no condition.
     ensures outside { IfErr result (λ fault. fault ≢ no_memory
         → (other : PlainCond) → IsCondition form other text.now → ⊥) }
+    ensures placed { IfErr result (λ fault. fault ≢ no_memory → StandsIn text.now fault) }
+    // 256 parentheses and `!`, each with `||` and `&&` inside.
+    ensures deep { IfOk result (λ cond. depth (cond_view cond) ≤ 515) }
 {
     let cond = whole_condition(alloc, text, form)?;
     Ok(cond)

@@ -1,3 +1,2 @@
 mod InLemmas
-mod PieceLemmas
 mod Rows

@@ -3,8 +3,8 @@ use Rattle.std.specs.Prelude.{ℕ, suc, ◌+◌, Bool, true, false, ◌==◌, �
 use Rattle.std.specs.Prelude.{take, drop, position, Option, Some, None, if◌then◌else◌}
 use Rattle.std.specs.Option.{option_map}
 use Rattle.mk_bytes.specs.Bytes as bytes
-use Rattle.mk_bytes.specs.Words.{is_white}
-use Rattle.mk_directive.specs.Words.{without_blanks, words_of}
+use Rattle.mk_bytes.specs.Texts.{without_blanks_before}
+use Rattle.mk_bytes.specs.Words.{is_white, words_of}
 
 -- Loops
 
@@ -39,7 +39,7 @@ with_names (name ∷ names) text = Some (name ∷ names, text)
 abbrev pub heading_at : List ℕ → Option ℕ → Option Heading
 heading_at text None = None
 heading_at text (Some at) =
-    with_names (words_of (take at text)) (without_blanks (drop (at + 2) text))
+    with_names (words_of (take at text)) (without_blanks_before (drop (at + 2) text))
 
 -- The words before the first word `in`, and what follows it and its blanks.
 abbrev pub heading_in : List ℕ → Option Heading

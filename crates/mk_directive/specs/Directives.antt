@@ -5,7 +5,7 @@ use Rattle.std.specs.List.{prefix_len}
 use Rattle.std.specs.Str.{bytes_eq}
 use Rattle.mk_bytes.specs.Bytes as bytes
 use Rattle.mk_cond.specs.declared.cond.Form.TheVariants as form
-use Rattle.mk_directive.specs.Words.{without_blanks}
+use Rattle.mk_bytes.specs.Texts.{without_blanks_before}
 use Rattle.mk_directive.specs.declared.directive.Directive.{Directive}
 use Rattle.mk_directive.specs.declared.directive.Directive.TheVariants.{If, ElseIf, Else, EndIf, For, EndFor}
 use Rattle.mk_directive.specs.declared.directive.Directive.TheVariants.{Break, Include, TryInclude}
@@ -94,9 +94,9 @@ abbrev pub behind_dot : List ℕ → Option Directed
 behind_dot text =
     if begins_with_name_byte (drop (word_len text) text) then None
     else with_argument (named (take (word_len text) text))
-    (without_blanks (drop (word_len text) text))
+    (without_blanks_before (drop (word_len text) text))
 
 -- The directive that a line is, without its comment and leading spaces.
 abbrev pub directive_on : List ℕ → Option Directed
 directive_on [] = None
-directive_on (byte ∷ rest) = if byte == bytes.dot then behind_dot (without_blanks rest) else None
+directive_on (byte ∷ rest) = if byte == bytes.dot then behind_dot (without_blanks_before rest) else None

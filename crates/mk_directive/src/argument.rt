@@ -3,8 +3,7 @@ ghost use Rattle.std.specs.Prelude.{◌≡◌, ◌+◌, ◌<◌, ◌≤◌, ◌=
 ghost use Rattle.std.specs.Option.{option_copied, option_map};
 ghost use Rattle.mk_directive.specs.Arguments as spec;
 
-use crate::word::{is_white, without_blanks, words};
-use mk_bytes::{NoMemory, Texts};
+use mk_bytes::{NoMemory, Texts, is_white, without_blanks_before, words};
 use std::alloc::Global;
 
 /// The names of a loop, of which there is one at least, and the text that its words are cut from.
@@ -80,7 +79,7 @@ pub fn heading_in<'t>(alloc: Global, text: &'t [u8]) -> Result<Option<Heading<'t
     }
     Ok(Some(Heading {
         names,
-        text: without_blanks(&text[at + 2..]),
+        text: without_blanks_before(&text[at + 2..]),
     }))
 }
 

@@ -3,7 +3,7 @@ ghost use Rattle.std.specs.Prelude.{◌≡◌, ◌≤◌, length};
 ghost use Rattle.std.specs.Option.{option_map};
 ghost use Rattle.mk_directive.specs.Directives as spec;
 
-use crate::word::without_blanks;
+use mk_bytes::without_blanks_before;
 use mk_cond::Form;
 
 /// A directive of make(1).
@@ -158,7 +158,7 @@ fn behind_dot<'t>(text: &'t [u8]) -> Option<Directed<'t>>
     let directive = named(word)?;
     Some(Directed {
         directive,
-        argument: without_blanks(rest),
+        argument: without_blanks_before(rest),
     })
 }
 
@@ -171,7 +171,7 @@ pub fn directive_on<'t>(line: &'t [u8]) -> Option<Directed<'t>>
     ensures { option_map (λ d. (d.directive, d.argument.now)) result ≡ spec.directive_on line.now }
 {
     match line {
-        [b'.', rest @ ..] => behind_dot(without_blanks(rest)),
+        [b'.', rest @ ..] => behind_dot(without_blanks_before(rest)),
         _ => None,
     }
 }

@@ -7,8 +7,7 @@
 
 mod argument;
 mod directive;
-mod word;
 
 pub use argument::{Heading, Wanted, heading_in, wanted_by};
 pub use directive::{Directed, Directive, directive_on};
-pub use word::{first_piece, is_white, without_blanks, words};
+pub use mk_bytes::{is_white, without_blanks_before as without_blanks, words};

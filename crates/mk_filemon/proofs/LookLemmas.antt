@@ -1,5 +1,5 @@
 -- The records of steps tell each look at what the steps have left alone, and what they left written.
-use Rattle.std.proofs.Common.{◌≡◌, ◌↔◌, ◌<◌, ℕ, zero, suc, Bool, true, false, List, [], ◌∷◌, ◌++◌}
+use Rattle.std.proofs.Common.{◌≡◌, ℕ, suc, Bool, true, false, List, [], ◌∷◌, ◌++◌}
 use Rattle.std.proofs.Common.{map, filter, if◌then◌else◌, Option, Some, None, refl, sym, ◌∙◌, arith}
 use Rattle.std.proofs.lemmas.List.Elements.{All-contains, filter_passes}
 use Rattle.std.specs.List.{Contains}
@@ -11,7 +11,7 @@ use Rattle.mk_world.specs.declared.step.Deed.{Deed}
 use Rattle.mk_world.specs.declared.step.Deed.TheVariants.{Read, Miss, Write, Delete, Move}
 use Rattle.mk_world.specs.declared.step.Op.{Op}
 use Rattle.mk_filemon.specs.Outer.{Touched, touches, all_touches, is_found, is_missed, is_written}
-use Rattle.mk_filemon.specs.Outer.{written_by, once, named}
+use Rattle.mk_filemon.specs.Outer.{named}
 use Rattle.mk_filemon.specs.Steps.{LookAt, EachLook, IsToldBy, TellLooks, TellWritten, stands_by}
 use Rattle.mk_filemon.proofs.EscapeLemmas.{cases}
 use Rattle.mk_filemon.proofs.PathLemmas.{among, among-once, same_bytes, bytes_eq-same, bytes_eq-sym}

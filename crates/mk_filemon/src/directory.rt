@@ -1,11 +1,10 @@
 //! The directories of processes.
 ghost use Rattle.std.specs.Prelude.{◌≡◌, ◌++◌, IfOk, OnOk};
-ghost use Rattle.mk_bytes.specs.Paths.{is_absolute as is_absolute_path};
 ghost use Rattle.mk_filemon.specs.Log as spec;
 ghost use Rattle.mk_filemon.specs.Held.{directories_in};
 
 use indexmap::IndexMap;
-use mk_bytes::{NoMemory, Text, clean_path};
+use mk_bytes::{NoMemory, Text, clean_path, is_absolute};
 use std::alloc::Global;
 
 /// The directories of the processes that have one of their own, by the digits of their numbers. A
@@ -44,15 +43,6 @@ impl Directories {
         let process = Vec::from_slice(self.alloc, process)?;
         self.directories.insert(process, directory)?;
         Ok(())
-    }
-}
-
-fn is_absolute(path: &[u8]) -> bool
-    ensures { result ≡ is_absolute_path path.now }
-{
-    match path {
-        [] => false,
-        [first, ..] => *first == b'/',
     }
 }
 

@@ -1,5 +1,4 @@
-use Rattle.std.proofs.Common.{◌≡◌, ◌∙◌, ℕ, List, ◌++◌, [], ◌∷◌, length, refl, sym, ap, arith, append_assoc}
-use Rattle.std.proofs.lemmas.List.{append-nil}
+use Rattle.std.proofs.Common.{◌∙◌, ◌++◌, sym, ap, append_assoc}
 use Rattle.mk_filemon.specs.Escapes.{escaped, escaped_byte}
 use Rattle.mk_filemon.proofs.EscapeLemmas.{special-written, written-end}
 use Rattle.mk_filemon.proofs.escape.push_part.Goals as goal

@@ -1,4 +1,4 @@
-use Rattle.std.proofs.Common.{List, ℕ, ◌∙◌, ap}
+use Rattle.std.proofs.Common.{◌∙◌, ap}
 use Rattle.mk_filemon.specs.Entries.{paths_that}
 use Rattle.mk_filemon.specs.Outer.{all_touches, ops_of}
 use Rattle.mk_filemon.specs.declared.trace.Asked.TheVariants.{Found, Missed, Written}
