@@ -3,7 +3,7 @@ use Rattle.std.proofs.Common.{◌≡◌, ◌≢◌, ◌∙◌, ℕ, suc, ◌+◌
 use Rattle.std.proofs.lemmas.List.{get_or-set_same, get_or-set_other}
 use Rattle.std.proofs.lemmas.Bool.{cases_eq}
 use Rattle.std.proofs.lemmas.Grind.{common_steps}
-use Rattle.mk_plan.specs.Plans.{are_ordered, is_behind}
+use Rattle.mk_plan.specs.Plans.{are_ordered, are_sourced, has_its_sources, is_behind}
 use Rattle.mk_plan.specs.declared.plan.NodeState.{NodeState}
 use Rattle.mk_plan.specs.declared.plan.NodeState.TheVariants.{Undecided, Open}
 use Rattle.mk_plan.specs.declared.plan.PlanNode.{PlanNode}
@@ -23,6 +23,16 @@ ordered_push (first ∷ more) place node ordered behind =
     let head : is_behind place first.before ≡ true = grind (arith, common_steps) in
     let same : place + suc (length more) ≡ (place + 1) + length more = omega arith in
     let tail = ordered_push more (place + 1) node rest (subst (λ k. is_behind k node.before ≡ true) same behind) in
+    grind (arith, common_steps)
+
+-- a node without sources has them all
+pub sourced_push : (nodes : List PlanNode) (node : PlanNode) → are_sourced nodes ≡ true
+    → node.sources ≡ [] → are_sourced (nodes ++ node ∷ []) ≡ true
+sourced_push [] node sourced none = rw none refl
+sourced_push (first ∷ more) node sourced none =
+    let rest : are_sourced more ≡ true = grind (arith, common_steps) in
+    let head : has_its_sources first ≡ true = grind (arith, common_steps) in
+    let tail = sourced_push more node rest none in
     grind (arith, common_steps)
 
 -- a node was started behind those that are open

@@ -1,5 +1,5 @@
 //! Which node of a plan comes next, by the jobs that are open and the nodes that are made.
-ghost use Rattle.std.specs.Prelude.{◌≡◌, ◌≤◌, length, IfOk, IsTrue};
+ghost use Rattle.std.specs.Prelude.{◌≡◌, ◌≤◌, [], length, IfOk, IsTrue};
 ghost use Rattle.mk_plan.specs.Plans.{is_behind};
 
 use mk_bytes::{Items, NoMemory, Text, Texts};
@@ -11,7 +11,8 @@ use std::test::Fail;
 
 // A node that waits for the one before it, or for none.
 fn node_of(alloc: Global, n: u32, in_a_row: bool) -> Result<PlanNode, NoMemory>
-    ensures { IfOk result (λ node. IsTrue (is_behind n node.before)) }
+    ensures behind { IfOk result (λ node. IsTrue (is_behind n node.before)) }
+    ensures sources { IfOk result (λ node. node.sources ≡ []) }
 {
     let mut before = Nodes::new(alloc, 0)?;
     if in_a_row && n > 0 {

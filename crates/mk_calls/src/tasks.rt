@@ -1,6 +1,7 @@
 //! The lines of a task: which of them run in a dry run too, and which are compared with those of
 //! another build.
 ghost use Rattle.std.specs.Prelude.{◌≡◌};
+ghost use Rattle.mk_graph.specs.Walks.{is_among};
 ghost use Rattle.mk_plan.specs.Plans as spec;
 
 use crate::facts::made;
@@ -51,6 +52,29 @@ fn are_ordered(nodes: &[PlanNode]) -> bool
     true
 }
 
+fn is_among(places: &[u32], place: u32) -> bool
+    ensures { result ≡ is_among places.now place }
+{
+    places.iter().any(|one| place == *one)
+}
+
+fn has_its_sources(node: &PlanNode) -> bool
+    ensures { result ≡ spec.has_its_sources node.now }
+{
+    let before = node.before.as_slice();
+    node.sources
+        .as_slice()
+        .iter()
+        .all(|one| is_among(before, *one))
+}
+
+fn are_sourced(nodes: &[PlanNode]) -> bool
+    ensures { result ≡ spec.are_sourced nodes.now }
+{
+    nodes.iter().all(|node| has_its_sources(node))
+}
+
+// A node that waits for its sources.
 fn node_of(
     alloc: Global,
     name: &[u8],
@@ -58,13 +82,15 @@ fn node_of(
     commands: Texts,
 ) -> Result<PlanNode, NoMemory> {
     let mut places = Nodes::new(alloc, sources.len())?;
+    let mut before = Nodes::new(alloc, sources.len())?;
     for source in sources {
         places.push(*source)?;
+        before.push(*source)?;
     }
     Ok(PlanNode {
         name: Text::from_bytes(alloc, name)?,
         sources: places,
-        before: Nodes::new(alloc, 0)?,
+        before,
         commands,
         implied: Text::new(alloc),
         marks: Marks::none(),
@@ -85,6 +111,7 @@ fn plan(rt: &impl Abort, alloc: Global) -> Result<Plan, NoMemory> {
     nodes.push(node_of(alloc, b"a", &[], Items::new(alloc, 0)?)?)?;
     nodes.push(node_of(alloc, b"t", &[0], commands(alloc)?)?)?;
     assert!(rt; are_ordered(nodes.as_slice()));
+    assert!(rt; are_sourced(nodes.as_slice()));
     Ok(Plan::of(nodes))
 }
 
