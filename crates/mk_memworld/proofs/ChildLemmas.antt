@@ -8,53 +8,6 @@ use Rattle.mk_world.specs.declared.history.Child.{Child}
 use Rattle.mk_world.specs.declared.step.Deed.{Deed}
 use Rattle.mk_memworld.specs.Children.{StandsAt, without_first}
 
--- the first of the children
-pub child_in-first : (child : Child) (others : List Child) (ticket : ℕ) → child.ticket ≡ ticket
-    → child_in (child ∷ others) ticket ≡ Some child
-child_in-first child others ticket is = grind (arith, nat_tests, common_steps)
-
-pub without_child-first : (child : Child) (others : List Child)
-    → without_child child.ticket (child ∷ others) ≡ others
-without_child-first child others = grind (arith, nat_tests, common_steps)
-
--- a child that is found has the ticket
-pub child_in-ticket : (ticket : ℕ) (children : List Child) (child : Child)
-    → child_in children ticket ≡ Some child → child.ticket ≡ ticket
-child_in-ticket ticket [] child is = cc
-child_in-ticket ticket (first ∷ others) child is =
-    grind (arith, nat_tests, common_steps, child_in-ticket ticket others child)
-
--- a child that has done one step more is found
-pub child_in-stepped : (ticket : ℕ) (deed : Deed) (children : List Child) (child : Child)
-    → child_in children ticket ≡ Some child
-    → child_in (stepped ticket deed children) ticket
-    ≡ Some (record child { deeds = child.deeds ++ deed ∷ [] })
-child_in-stepped ticket deed [] child is = cc
-child_in-stepped ticket deed (first ∷ others) child is =
-    grind (arith, nat_tests, common_steps, child_in-stepped ticket deed others child)
-
--- a step of one child leaves the others
-pub child_in-other : (ticket other : ℕ) (deed : Deed) (children : List Child)
-    → (ticket == other) ≡ false
-    → child_in (stepped ticket deed children) other ≡ child_in children other
-child_in-other ticket other deed [] differ = refl
-child_in-other ticket other deed (first ∷ others) differ =
-    grind (arith, nat_tests, common_steps, child_in-other ticket other deed others)
-
--- a child that is taken out after a step
-pub without_child-stepped : (ticket : ℕ) (deed : Deed) (children : List Child)
-    → without_child ticket (stepped ticket deed children) ≡ without_child ticket children
-without_child-stepped ticket deed [] = refl
-without_child-stepped ticket deed (first ∷ others) =
-    grind (arith, nat_tests, common_steps, without_child-stepped ticket deed others)
-
--- a step changes no ticket
-pub tickets_of-stepped : (ticket : ℕ) (deed : Deed) (children : List Child)
-    → tickets_of (stepped ticket deed children) ≡ tickets_of children
-tickets_of-stepped ticket deed [] = refl
-tickets_of-stepped ticket deed (first ∷ others) =
-    grind (arith, nat_tests, common_steps, tickets_of-stepped ticket deed others)
-
 pub tickets_of-without : (ticket : ℕ) (children : List Child)
     → tickets_of (without_child ticket children) ≡ without_first ticket (tickets_of children)
 tickets_of-without ticket [] = refl

@@ -26,7 +26,8 @@ use Rattle.mk_memworld.specs.Endings.{ended_as, ended_by, numbers_in, numbers_le
 use Rattle.mk_memworld.specs.Language.{most_answers}
 use Rattle.mk_memworld.specs.Meaning.{language}
 use Rattle.mk_memworld.specs.Running.{AddsSteps, IsRest, IsRestOf}
-use Rattle.mk_memworld.proofs.ChildLemmas.{child_in-stepped, child_in-ticket, tickets_of-stepped, tickets_of-without, without_child-stepped}
+use Rattle.mk_memworld.proofs.ChildLemmas.{tickets_of-without}
+use Rattle.mk_world.proofs.ChildLemmas.{child_in-stepped, child_in-ticket, tickets_of-stepped, without_child-stepped}
 use Rattle.mk_memworld.proofs.ChronicleLemmas.{state_of-with_event}
 use Rattle.mk_memworld.proofs.RestLemmas.{asked_short}
 use Rattle.mk_memworld.proofs.RunningLemmas.{AddsSteps-more, AddsSteps-none, AddsSteps-then, lawful_by, longer_by, may_step, run_of_steps}

@@ -25,7 +25,7 @@ use Rattle.mk_memworld.specs.Schedule.{at_end, deed_at_next, deed_by, deed_for, 
 use Rattle.mk_memworld.specs.Steps.{after_step, child_after, numbers_of_step, step_of, with_step}
 use Rattle.mk_memworld.specs.declared.going.Going.{Going}
 use Rattle.mk_memworld.specs.declared.rest.Rest.{Rest}
-use Rattle.mk_memworld.proofs.ChildLemmas.{child_in-other, child_in-stepped, child_in-ticket, tickets_of-stepped}
+use Rattle.mk_world.proofs.ChildLemmas.{child_in-other, child_in-stepped, child_in-ticket, tickets_of-stepped}
 use Rattle.mk_memworld.proofs.ChronicleLemmas.{state_of-with_event}
 use Rattle.mk_memworld.proofs.RunningLemmas.{AddsSteps-more, AddsSteps-none, may_step}
 use Rattle.mk_memworld.proofs.StepLemmas.{last_time-step}

@@ -18,7 +18,7 @@ use Rattle.mk_memworld.specs.Chronicle.{with_event}
 use Rattle.mk_memworld.specs.Meaning.{language}
 use Rattle.mk_memworld.specs.Outages.{FailsWhere, OnFailed}
 use Rattle.mk_memworld.specs.Running.{AddsSteps, GivesUp, OfOldest}
-use Rattle.mk_memworld.proofs.ChildLemmas.{child_in-first, without_child-first}
+use Rattle.mk_world.proofs.ChildLemmas.{child_in-first, without_child-first}
 use Rattle.mk_memworld.proofs.ChronicleLemmas.{state_of-with_event}
 use Rattle.mk_memworld.proofs.RunningLemmas.{AddsSteps-then, refused_behind}
 

@@ -2,6 +2,7 @@ pub mod AskLemmas
 pub mod CallLemmas
 pub mod CauseLemmas
 pub mod ChangeLemmas
+pub mod ChildLemmas
 pub mod IdleLemmas
 pub mod LawLemmas
 pub mod OuterLemmas

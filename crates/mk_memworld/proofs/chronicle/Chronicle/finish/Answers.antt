@@ -11,7 +11,7 @@ use Rattle.mk_memworld.specs.Endings.{steps_of}
 use Rattle.mk_memworld.specs.Files.{files_in}
 use Rattle.mk_memworld.specs.Rest.{doing_of}
 use Rattle.mk_memworld.specs.Running.{ended_of}
-use Rattle.mk_memworld.proofs.ChildLemmas.{child_in-ticket}
+use Rattle.mk_world.proofs.ChildLemmas.{child_in-ticket}
 use Rattle.mk_memworld.proofs.ChronicleLemmas.{IsPresent-events}
 use Rattle.mk_memworld.proofs.EndingLemmas.{AfterEnd-is, ended_by-is, told_by-is}
 use Rattle.mk_memworld.proofs.TimeLemmas.{last_time-timed}
