@@ -1,7 +1,9 @@
 -- The files of a new world.
-use Rattle.std.specs.Prelude.{ℕ, ◌+◌, Bool, true, not, ◌&&◌, List, [], ◌∷◌}
+use Rattle.std.specs.Prelude.{◌≡◌, ℕ, ◌+◌, Bool, true, not, ◌&&◌, List, [], ◌∷◌}
 use Rattle.std.specs.List.{list_any}
 use Rattle.std.specs.Str.{bytes_eq}
+use Rattle.std.specs.declared.alloc.Global.{Global}
+use Rattle.std.specs.declared.vec.Vec.{Vec}
 use Rattle.mk_bytes.specs.Paths.{clean}
 use Rattle.mk_bytes.specs.declared.pair.Pair.{Pair}
 use Rattle.mk_world.specs.declared.history.File.{File}
@@ -27,3 +29,8 @@ are_clean cwd [] = true
 are_clean cwd (file ∷ files) =
     not (has_path files file.name)
     && (bytes_eq (clean cwd file.name) file.name && are_clean cwd files)
+
+-- a set holds the paths of these files, and no others
+abbrev pub Holds : List (Vec ℕ Global) → List Pair → Type 0
+Holds keys files =
+    (path : List ℕ) → list_any (λ key. bytes_eq path key.items) keys ≡ has_path files path

@@ -1,10 +1,10 @@
 //! The files of a new world.
 ghost use Rattle.std.specs.Prelude.{◌≡◌, IsTrue, IfOk};
-ghost use Rattle.std.specs.List.{list_any};
 ghost use Rattle.std.specs.Str.{bytes_eq};
 ghost use Rattle.mk_bytes.specs.Paths.{clean, is_clean_directory};
 ghost use Rattle.mk_memworld.specs.Base as spec;
 
+use indexmap::IndexSet;
 use mk_bytes::{Items, NoMemory, Pair, Pairs, Text, clean_path};
 use mk_world::{Bases, File};
 use std::alloc::Global;
@@ -39,22 +39,21 @@ fn is_clean(alloc: Global, cwd: &Text, path: &Text) -> Result<bool, NoMemory>
     Ok(clean.bytes() == path.bytes())
 }
 
-fn has_path(pairs: &[Pair], path: &Text) -> bool
-    ensures { result ≡ spec.has_path pairs.now path.now }
-{
-    pairs.iter().any(|pair| pair.name.bytes() == path.bytes())
-}
-
-/// Whether the paths of these files are clean, as they are named from a directory, and differ.
+/// Whether the paths of these files are clean, as they are named from a directory, and differ. Each path
+/// is looked up among those behind it, which a set holds.
 pub fn are_clean(alloc: Global, cwd: &Text, files: &Pairs) -> Result<bool, NoMemory>
     ensures { IfOk result (λ are. are ≡ spec.are_clean cwd.now files.now) }
 {
-    let mut rest = files.as_slice();
-    while let [file, more @ ..] = rest {
-        if has_path(more, &file.name) || !is_clean(alloc, cwd, &file.name)? {
+    let files = files.as_slice();
+    let mut later = IndexSet::new(alloc);
+    let mut left = files.len();
+    'files: while left > 0 {
+        left -= 1;
+        let path = &files[left].name;
+        let is_new = later.insert(Vec::from_slice(alloc, path.bytes())?)?;
+        if !is_new || !is_clean(alloc, cwd, path)? {
             return Ok(false);
         }
-        rest = more;
     }
     Ok(true)
 }

@@ -1,10 +1,14 @@
-use Rattle.std.proofs.Common.{◌≡◌, length}
-use Rattle.mk_memworld.specs.Base.{are_clean}
+use Rattle.std.proofs.Common.{◌≡◌, ◌≤◌, ℕ, true, drop, length}
+use Rattle.mk_memworld.specs.Base.{Holds, are_clean}
 use Rattle.mk_memworld.proofs.base.are_clean.Given as goal
 
--- the rest decides
-abbrev pub invariant-loop-rest : goal.invariant-loop-rest
-invariant-loop-rest l = are_clean l.cwd l.rest ≡ are_clean l.cwd l.initial.rest
+-- the files that are left stand before these, whose paths the set holds
+abbrev pub invariant-files : goal.invariant-files
+invariant-files l = record {
+  within : l.left ≤ length l.files;
+  holds : Holds l.later.keys (drop l.left l.files);
+  clean : are_clean l.cwd (drop l.left l.files) ≡ true;
+}
 
-abbrev pub decreases-loop-rest : goal.decreases-loop-rest
-decreases-loop-rest l = length l.rest
+abbrev pub decreases-files : goal.decreases-files
+decreases-files l = l.left
