@@ -1,0 +1,16 @@
+//! What holds of jobs, and of targets that are kept.
+ghost use Rattle.mk_clean.specs.Jobs.{SameJobs};
+ghost use Rattle.mk_clean.specs.Kept.{KeptTargetsStand};
+
+/// Two sets of files that agree on what a job takes from outside itself let it do the same.
+pub fn jobs_with_the_same_reads_are_the_same()
+    ensures { SameJobs }
+{}
+
+/// Where a meta file tells what happened, its target was left alone since it was written, and what its
+/// job found outside is older than the job, and what it missed is missing, the job would do now what it
+/// did then, and its target stands as it would leave it. The looks at these paths may stand at moments of
+/// their own.
+pub fn targets_without_a_reason_stand()
+    ensures { KeptTargetsStand }
+{}
