@@ -25,7 +25,7 @@ use Rattle.mk_reader.specs.Moments.{Doing, Moment, moment_of}
 use Rattle.mk_reader.specs.Notes.{question_of, questions_in}
 use Rattle.mk_reader.specs.Questions.{Answers, AreAsked, IsAsked, Question, cuts_in}
 use Rattle.mk_reader.specs.Refusals.{of_expand, of_world, sorted}
-use Rattle.mk_reader.specs.Ties.{Evaluated, IsWhole, Leads, Outer, acts_at, did, did_part, ended, has_answered, idle}
+use Rattle.mk_reader.specs.Ties.{cut_last-none, Evaluated, IsWhole, Leads, Outer, acts_at, did, did_part, ended, has_answered, idle}
 use Rattle.mk_reader.specs.Ties.{no_cause, reader_ties}
 use Rattle.mk_reader.specs.declared.fault.Outside.{Outside}
 use Rattle.mk_reader.specs.declared.fault.Outside.TheVariants as outside
@@ -233,7 +233,7 @@ module _ {W S : Type 0} (o : Outer W S) where
   pub whole_anyway : (failure : Option Outside) (questions : List Question)
       → cuts_in questions ≡ [] → IsWhole failure questions
   whole_anyway None questions none = none
-  whole_anyway (Some failure) questions none = tt
+  whole_anyway (Some failure) questions none = cut_last-none questions none
 
   -- the same references to the same outside, and the same order
   pub record Stays (x y : Reader W S) : Type 0 where

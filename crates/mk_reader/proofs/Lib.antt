@@ -5,6 +5,7 @@ mod FirstLemmas
 mod GaveLemmas
 mod LineLemmas
 mod ListLemmas
+mod MapLemmas
 mod ModeLemmas
 mod MomentLemmas
 mod QuestionLemmas

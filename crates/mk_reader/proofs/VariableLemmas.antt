@@ -1,5 +1,5 @@
 -- Names of variables.
-use Rattle.std.proofs.Common.{◌≡◌, ℕ, ◌+◌, nat_lt, true, false, List, [], ◌∷◌, length, refl, arith}
+use Rattle.std.proofs.Common.{◌≡◌, ℕ, ◌+◌, nat_lt, true, false, List, [], ◌∷◌, length, refl, ap, arith}
 use Rattle.std.proofs.lemmas.Bool.Decides.{nat_tests}
 use Rattle.mk_expand.specs.Limits.{max_text}
 use Rattle.mk_expand.specs.Locals.{no_locals}
@@ -26,8 +26,8 @@ variable_name-own answers (byte ∷ name) s own =
     let none : has_dollar text ≡ false = grind (arith, nat_tests) in
     let fits : nat_lt max_text (length {A = ℕ} [] + length text) ≡ false = grind (arith, nat_tests) in
     rw (
-      text_value-plain finder
+      ap (λ one. one.answer) (text_value-plain finder
           (context s.made.scopes no_locals (lists_at s) answers.exists false)
-          (progress 0 s.asked) text none,
+          (progress 0 s.asked) text none),
       fits,
     ) refl

@@ -12,6 +12,7 @@ pub mod Messages
 pub mod Modes
 pub mod Moments
 pub mod Notes
+pub mod OnMaps
 pub mod Orders
 pub mod Questions
 pub mod ReadFaults

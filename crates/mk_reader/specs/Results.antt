@@ -11,7 +11,8 @@ use Rattle.mk_graph.specs.declared.mode.Mode.{Mode}
 use Rattle.mk_reader.specs.Acts.{Did, DidPart, acts_of}
 use Rattle.mk_reader.specs.Moments.{Moment, moment_of}
 use Rattle.mk_reader.specs.Reading.{run_read}
-use Rattle.mk_reader.specs.Questions.{Answered, Answers, AreAsked, Question}
+use Rattle.mk_expand.specs.declared.facts.Asked.{Asked}
+use Rattle.mk_reader.specs.Questions.{Answered, Answers, AreAsked, Question, cuts_in, times_in}
 use Rattle.mk_reader.specs.ReadFaults.{Reads, sorted}
 use Rattle.mk_reader.specs.Ties.{IsWhole, Outer, reader_ties}
 use Rattle.mk_reader.specs.declared.fault.Outside.{Outside}
@@ -78,7 +79,8 @@ Gave before after asked (Err fault) defined = Refused before after asked fault d
 -- The world was asked these questions in order, each answered with what stood there at its moment, and
 -- nothing else happened in it. What is given is defined by the answers, whatever other questions would
 -- be answered, and the files and commands among the questions are those of the definition: no more, no
--- fewer, in its order. A command may have gone without an answer where the outside failed.
+-- fewer, in its order. Where the outside failed, or memory ran out, the last question may be that of a
+-- command without an answer.
 pub record ReadBy {A : Type 0} (meaning : Meaning) (before after : Option History)
     (held held_after : Option (List ℕ)) (answer : Result A ReadFault)
     (defined : Answers → Reads A) : Type 0
@@ -88,3 +90,14 @@ pub record ReadBy {A : Type 0} (meaning : Meaning) (before after : Option Histor
     pub whole : IsWhole (failure_in answer) questions
     pub gave : (answers : Answers) → Answered answers questions
         → Gave held held_after (acts_of questions) answer (defined answers)
+
+-- The world was asked these questions in order, and nothing else happened in it. The times among them
+-- are those that the conditions ask for by the answers: no more, no fewer, in their order.
+pub record LooksBy (meaning : Meaning) (before after : Option History)
+    (looks : Answers → List Asked) : Type 0
+  where
+    pub questions : List Question
+    pub asked : Told before after (AreAsked meaning questions)
+    pub whole : cuts_in questions ≡ []
+    pub times : (answers : Answers) → Answered answers questions
+        → looks answers ≡ times_in questions

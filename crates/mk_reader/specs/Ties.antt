@@ -21,6 +21,7 @@ use Rattle.mk_reader.specs.Leads.{Led, told-none, told_both}
 use Rattle.mk_reader.specs.Moments.{Doing, Moment, moment_of}
 use Rattle.mk_reader.specs.Notes.{asked_by, question_of, questions_in}
 use Rattle.mk_reader.specs.Questions.{Answered, Answers, AreAsked, Question}
+use Rattle.mk_reader.specs.Questions.{bytes_of, cut, output_of, time_of}
 use Rattle.mk_reader.specs.Questions.{cuts_in, cuts_in-append, readings_in, runnings_in, times_in}
 use Rattle.mk_reader.specs.Questions.{readings_in-append, runnings_in-append, times_in-append}
 use Rattle.mk_reader.specs.declared.fault.Outside.{Outside}
@@ -41,20 +42,50 @@ pub record Outer (W S : Type 0) : Type 1 where
   pub held : S → Option (List ℕ)
   pub lost : S → ℕ
 
--- Where nothing failed, each command was answered.
+-- no question but the last is that of a command without an answer
+abbrev pub IsCutLast : List Question → Type 0
+IsCutLast [] = Unit {0}
+IsCutLast (last ∷ []) = Unit {0}
+IsCutLast (first ∷ next ∷ more) = (cuts_in (first ∷ []) ≡ []) × IsCutLast (next ∷ more)
+
+-- Where nothing failed, each command was answered. Else the last question alone may be that of a command
+-- without an answer.
 abbrev pub IsWhole : Option Outside → List Question → Type 0
 IsWhole None questions = cuts_in questions ≡ []
-IsWhole (Some failure) questions = Unit {0}
+IsWhole (Some failure) questions = IsCutLast questions
 
 -- how a call ended
 abbrev pub ended : Option Outside → Result (Unit {0}) Outside
 ended None = Ok tt
 ended (Some failure) = Err failure
 
+cuts_first : (question : Question) (more : List Question) → cuts_in (question ∷ more) ≡ []
+    → (cuts_in (question ∷ []) ≡ []) × (cuts_in more ≡ [])
+cuts_first (cut cmd) more none = absurd cc
+cuts_first (bytes_of path found) more none = (refl, none)
+cuts_first (time_of path when) more none = (refl, none)
+cuts_first (output_of cmd ended) more none = (refl, none)
+
+cut_last_both : (first second : List Question) → cuts_in first ≡ [] → IsCutLast second
+    → IsCutLast (first ++ second)
+cut_last_both [] second none last = last
+cut_last_both (one ∷ []) [] none last = tt
+cut_last_both (one ∷ []) (next ∷ more) none last = ((cuts_first one [] none).0, last)
+cut_last_both (one ∷ other ∷ first) second none last =
+    let parts = cuts_first one (other ∷ first) none in
+    (parts.0, cut_last_both (other ∷ first) second parts.1 last)
+
+pub cut_last-none : (questions : List Question) → cuts_in questions ≡ [] → IsCutLast questions
+cut_last-none [] none = tt
+cut_last-none (last ∷ []) none = tt
+cut_last-none (first ∷ next ∷ more) none =
+    let parts = cuts_first first (next ∷ more) none in
+    (parts.0, cut_last-none (next ∷ more) parts.1)
+
 whole_both : (failure : Option Outside) (first second : List Question) → cuts_in first ≡ []
     → IsWhole failure second → IsWhole failure (first ++ second)
 whole_both None first second none whole = cuts_in-append first second ∙ rw (none, whole) refl
-whole_both (Some failure) first second none whole = tt
+whole_both (Some failure) first second none whole = cut_last_both first second none whole
 
 pub no_cause : (failed : Outside) (count : ℕ) → HasCause failed count count (ended None)
 no_cause failed count = record {

@@ -10,6 +10,7 @@ mod fault;
 mod inclusion;
 mod kind;
 mod language;
+mod law;
 mod message;
 mod note;
 mod order;
@@ -20,4 +21,5 @@ mod step;
 mod variable;
 
 pub use fault::{ReadFault, What};
+pub use law::readings_of_maps;
 pub use reading::read;

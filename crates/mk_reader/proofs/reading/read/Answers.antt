@@ -10,7 +10,8 @@ use Rattle.mk_reader.specs.Reading.{reading, run_read}
 use Rattle.mk_reader.specs.Results.{standing}
 use Rattle.mk_reader.specs.Ties.{outer}
 use Rattle.mk_reader.specs.declared.fault.Stop.TheVariants as stop
-use Rattle.mk_reader.proofs.ReadByLemmas.{read_err, read_nothing, read_ok, sink_by, sink_ok, world_by, world_ok}
+use Rattle.mk_reader.proofs.ReadByLemmas.{looks_ok, read_err, read_nothing, read_ok, sink_by, sink_ok, world_by}
+use Rattle.mk_reader.proofs.ReadByLemmas.{world_ok}
 use Rattle.mk_reader.proofs.TieLemmas.{does-as, first-refused, first-then, still-given, still-want}
 use Rattle.mk_reader.proofs.reading.read.Goals as goal
 
@@ -142,6 +143,27 @@ returns-clause-reading g c =
     )
     (rw (same.world, same.err) at
     (read_ok o (made_at c.in_ok-mode.mode (standing c.read_to_end.new.self)) none idle whole))
+
+pub returns-clause-looks : goal.returns-clause-looks
+returns-clause-looks g c =
+    let same = c.new-reader.ensures in
+    let went = c.in_ok-mode.ensures in
+    let o = outer g.W.World.meaning g.W.World.history g.W.World.faults g.W.World.runs g.S.Sink.held
+    g.S.Sink.faults in
+    let start : standing c.new-reader.result ≡ first_moment c.args.env.now c.args.order.now =
+    rw (
+      same.state,
+      same.order,
+      c.in_ok-new.ensures,
+      c.in_ok-new-2.ensures,
+      c.new-3.ensures,
+      c.new-4.ensures.items,
+    ) refl in
+    let none : c.new-reader.result.state.now.notes.items ≡ [] = rw same.state c.new-4.ensures.items in
+    let idle = rw (← same.world) at c.requires.idle in
+    rw (c.world-1.given.1 (sym (went.leads.world ∙ same.same_world)))
+    (rw same.world at
+    (looks_ok o c.in_ok-mode.mode (first_moment c.args.env.now c.args.order.now) start none idle went))
 
 pub returns-clause-world_cause : goal.returns-clause-world_cause
 returns-clause-world_cause g c =

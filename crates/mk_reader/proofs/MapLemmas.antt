@@ -1,0 +1,135 @@
+-- What is answered where the files stay as they are.
+use Rattle.std.proofs.Common.{◌≡◌, ℕ, zero, suc, List, [], ◌∷◌, ◌++◌, Option, Some, None, is_some, slice_get}
+use Rattle.std.proofs.Common.{refl, sym, ap, subst, ◌∙◌, map}
+use Rattle.std.specs.Option.{option_map}
+use Rattle.mk_expand.specs.declared.facts.Asked.{Asked}
+use Rattle.mk_world.proofs.CallLemmas.{after_all-append}
+use Rattle.mk_world.specs.Calls.{when_of}
+use Rattle.mk_world.specs.Deeds.{Store}
+use Rattle.mk_world.specs.History.{Filed, after_all, contents, files_of, first_state, state_of}
+use Rattle.mk_world.specs.Talks.{Meaning, after_doing, does}
+use Rattle.mk_world.specs.declared.command.Cmd.{Cmd}
+use Rattle.mk_world.specs.declared.history.Happening.{Happening}
+use Rattle.mk_world.specs.declared.history.Happening.TheVariants.{Look}
+use Rattle.mk_world.specs.declared.history.History.{History}
+use Rattle.mk_world.specs.declared.step.Ended.{Ended}
+use Rattle.mk_world.specs.declared.time.When.{When}
+use Rattle.mk_reader.specs.OnMaps.{LeaveAll, ReadsTheMap, answers_on}
+use Rattle.mk_reader.specs.Questions.{Answered, AreAsked, IsAsked, Question, Reading, Running, is_there}
+use Rattle.mk_reader.specs.Questions.{bytes_of, cut, output_of, time_of}
+use Rattle.mk_reader.specs.Questions.{cuts_in, readings_in, runnings_in, times_in}
+
+-- a look changes no file
+looked-files : (old new : History) (path : List ℕ) → new.base ≡ old.base
+    → new.events ≡ old.events ++ Look path ∷ [] → files_of new ≡ files_of old
+looked-files old new path base events =
+    ap (λ base. contents (after_all (first_state base) new.events).files) base
+    ∙ ap (λ events. contents (after_all (first_state old.base) events).files) events
+    ∙ ap (λ s. contents s.files) (after_all-append (first_state old.base) old.events (Look path ∷ []))
+
+-- the files after a question are those before it
+kept : (meaning : Meaning) (store : Store) (question : Question) (more : List Question)
+    (old mid : History)
+    → files_of old ≡ store → IsAsked meaning question old mid → cuts_in (question ∷ more) ≡ []
+    → LeaveAll meaning store (runnings_in (question ∷ more))
+    → (files_of mid ≡ store) × (cuts_in more ≡ []) × LeaveAll meaning store (runnings_in more)
+kept meaning store (bytes_of path found) more old mid is asked none leave =
+    (looked-files old mid path asked.base asked.event ∙ is, none, leave)
+kept meaning store (time_of path when) more old mid is asked none leave =
+    (looked-files old mid path asked.base asked.event ∙ is, none, leave)
+kept meaning store (output_of cmd ended) more old mid is asked none leave =
+    (asked.ran.files ∙ ap (after_doing meaning cmd) is ∙ leave.0, none, leave.1)
+kept meaning store (cut cmd) more old mid is asked none leave = absurd cc
+
+pub files-kept : (meaning : Meaning) (store : Store) (questions : List Question) (old new : History)
+    → files_of old ≡ store → AreAsked meaning questions old new → cuts_in questions ≡ []
+    → LeaveAll meaning store (runnings_in questions) → files_of new ≡ store
+files-kept meaning store [] old new is asked none leave = ap files_of asked ∙ is
+files-kept meaning store (question ∷ more) old new is asked none leave =
+    let next = kept meaning store question more old asked.0 is asked.1 none leave in
+    files-kept meaning store more asked.0 new next.0 asked.2 next.1 next.2
+
+is_there-of : (file : Option Filed) → is_there (when_of file) ≡ is_some (option_map (λ one. one.bytes) file)
+is_there-of None = refl
+is_there-of (Some file) = refl
+
+timed : (meaning : Meaning) (store : Store) (questions : List Question) (old new : History)
+    → files_of old ≡ store → AreAsked meaning questions old new → cuts_in questions ≡ []
+    → LeaveAll meaning store (runnings_in questions)
+    → (place : ℕ) (one : Asked) → slice_get (times_in questions) place ≡ Some one
+    → one.answer ≡ is_some (store one.path)
+timed meaning store [] old new is asked none leave place one at = absurd cc
+timed meaning store (time_of path when ∷ more) old new is asked none leave zero one at =
+    let same : record { path = path; answer = is_there when } ≡ one = cc in
+    subst (λ (it : Asked). it.answer ≡ is_some (store it.path)) same
+    (ap is_there asked.1.told ∙ is_there-of ((state_of old).files path)
+    ∙ ap (λ (files : Store). is_some (files path)) is)
+timed meaning store (time_of path when ∷ more) old new is asked none leave (suc place) one at =
+    let next = kept meaning store (time_of path when) more old asked.0 is asked.1 none leave in
+    timed meaning store more asked.0 new next.0 asked.2 next.1 next.2 place one at
+timed meaning store (bytes_of path found ∷ more) old new is asked none leave place one at =
+    let next = kept meaning store (bytes_of path found) more old asked.0 is asked.1 none leave in
+    timed meaning store more asked.0 new next.0 asked.2 next.1 next.2 place one at
+timed meaning store (output_of cmd ended ∷ more) old new is asked none leave place one at =
+    let next = kept meaning store (output_of cmd ended) more old asked.0 is asked.1 none leave in
+    timed meaning store more asked.0 new next.0 asked.2 next.1 next.2 place one at
+timed meaning store (cut cmd ∷ more) old new is asked none leave place one at = absurd cc
+
+found_at : (meaning : Meaning) (store : Store) (questions : List Question) (old new : History)
+    → files_of old ≡ store → AreAsked meaning questions old new → cuts_in questions ≡ []
+    → LeaveAll meaning store (runnings_in questions)
+    → (place : ℕ) (one : Reading) → slice_get (readings_in questions) place ≡ Some one
+    → one.found ≡ store one.path
+found_at meaning store [] old new is asked none leave place one at = absurd cc
+found_at meaning store (bytes_of path found ∷ more) old new is asked none leave zero one at =
+    let same : record { path = path; found = found } ≡ one = cc in
+    subst (λ (it : Reading). it.found ≡ store it.path) same
+    (asked.1.answered ∙ ap (λ (files : Store). files path) is)
+found_at meaning store (bytes_of path found ∷ more) old new is asked none leave (suc place) one at =
+    let next = kept meaning store (bytes_of path found) more old asked.0 is asked.1 none leave in
+    found_at meaning store more asked.0 new next.0 asked.2 next.1 next.2 place one at
+found_at meaning store (time_of path when ∷ more) old new is asked none leave place one at =
+    let next = kept meaning store (time_of path when) more old asked.0 is asked.1 none leave in
+    found_at meaning store more asked.0 new next.0 asked.2 next.1 next.2 place one at
+found_at meaning store (output_of cmd ended ∷ more) old new is asked none leave place one at =
+    let next = kept meaning store (output_of cmd ended) more old asked.0 is asked.1 none leave in
+    found_at meaning store more asked.0 new next.0 asked.2 next.1 next.2 place one at
+found_at meaning store (cut cmd ∷ more) old new is asked none leave place one at = absurd cc
+
+printed : (meaning : Meaning) (store : Store) (questions : List Question) (old new : History)
+    → files_of old ≡ store → AreAsked meaning questions old new → cuts_in questions ≡ []
+    → LeaveAll meaning store (runnings_in questions)
+    → (place : ℕ) (one : Running) → slice_get (runnings_in questions) place ≡ Some one
+    → one.ended.output ≡ (does meaning one.cmd store).output
+printed meaning store [] old new is asked none leave place one at = absurd cc
+printed meaning store (output_of cmd ended ∷ more) old new is asked none leave zero one at =
+    let same : record { cmd = cmd; ended = ended } ≡ one = cc in
+    subst (λ (it : Running). it.ended.output ≡ (does meaning it.cmd store).output) same
+    (asked.1.answered.output ∙ ap (λ (files : Store). (does meaning cmd files).output) is)
+printed meaning store (output_of cmd ended ∷ more) old new is asked none leave (suc place) one at =
+    let next = kept meaning store (output_of cmd ended) more old asked.0 is asked.1 none leave in
+    printed meaning store more asked.0 new next.0 asked.2 next.1 next.2 place one at
+printed meaning store (bytes_of path found ∷ more) old new is asked none leave place one at =
+    let next = kept meaning store (bytes_of path found) more old asked.0 is asked.1 none leave in
+    printed meaning store more asked.0 new next.0 asked.2 next.1 next.2 place one at
+printed meaning store (time_of path when ∷ more) old new is asked none leave place one at =
+    let next = kept meaning store (time_of path when) more old asked.0 is asked.1 none leave in
+    printed meaning store more asked.0 new next.0 asked.2 next.1 next.2 place one at
+printed meaning store (cut cmd ∷ more) old new is asked none leave place one at = absurd cc
+
+answered : (meaning : Meaning) (questions : List Question) (old new : History)
+    → AreAsked meaning questions old new → cuts_in questions ≡ []
+    → LeaveAll meaning (files_of old) (runnings_in questions)
+    → Answered (answers_on meaning (files_of old)) questions
+answered meaning questions old new asked none leave = record {
+  exists = timed meaning (files_of old) questions old new refl asked none leave;
+  contents = found_at meaning (files_of old) questions old new refl asked none leave;
+  outputs = printed meaning (files_of old) questions old new refl asked none leave;
+}
+
+pub reads_the_map : ReadsTheMap
+reads_the_map meaning old new held held_after answer env order read none leave = (
+  read.gave (answers_on meaning (files_of old))
+      (answered meaning read.questions old new read.asked none leave),
+  files-kept meaning (files_of old) read.questions old new refl read.asked none leave,
+)

@@ -1,0 +1,47 @@
+-- Reading a map of files that no command changes.
+use Rattle.std.specs.Prelude.{◌≡◌, ℕ, List, [], ◌∷◌, Option, Some, Result, is_some}
+use Rattle.mk_cli.specs.declared.order.Order.{Order}
+use Rattle.mk_graph.specs.declared.Made.{Made}
+use Rattle.mk_scopes.specs.declared.scopes.Env.{Env}
+use Rattle.mk_world.specs.Deeds.{Store}
+use Rattle.mk_world.specs.History.{files_of}
+use Rattle.mk_world.specs.Talks.{Meaning, after_doing, does}
+use Rattle.mk_world.specs.declared.history.History.{History}
+use Rattle.mk_reader.specs.Acts.{acts_of}
+use Rattle.mk_reader.specs.Questions.{Answers, Running, cuts_in, runnings_in}
+use Rattle.mk_reader.specs.ReadFaults.{Reads}
+use Rattle.mk_reader.specs.Reading.{reading}
+use Rattle.mk_reader.specs.Results.{Gave, ReadBy}
+use Rattle.mk_reader.specs.declared.fault.ReadFault.{ReadFault}
+
+-- what the outside answers where these are the files whenever it is asked
+abbrev pub answers_on : Meaning → Store → Answers
+answers_on meaning store = record {
+  exists = λ place path. is_some (store path);
+  contents = λ place path. store path;
+  outputs = λ place cmd. (does meaning cmd store).output;
+}
+
+-- The reading of a map of files, where no command of it changes the map.
+abbrev pub reading_on : Meaning → Store → Env → Order → Reads Made
+reading_on meaning store env order = reading (answers_on meaning store) env order
+
+-- these commands change nothing of the map
+abbrev pub LeaveAll : Meaning → Store → List Running → Type 0
+LeaveAll meaning store [] = Unit {0}
+LeaveAll meaning store (one ∷ more) =
+    (after_doing meaning one.cmd store ≡ store) × LeaveAll meaning store more
+
+-- Where each command of a reading was answered and changed nothing of the files that stood at its
+-- beginning, what was read is the reading of that map, and the same files stand at its end.
+abbrev pub ReadsTheMap : Type 0
+ReadsTheMap =
+    (meaning : Meaning) (old new : History) (held held_after : Option (List ℕ))
+    (answer : Result Made ReadFault) (env : Env) (order : Order)
+    (read : ReadBy meaning (Some old) (Some new) held held_after answer
+    (λ answers. reading answers env order))
+    → cuts_in read.questions ≡ []
+    → LeaveAll meaning (files_of old) (runnings_in read.questions)
+    → Gave held held_after (acts_of read.questions) answer
+    (reading_on meaning (files_of old) env order)
+    × (files_of new ≡ files_of old)
