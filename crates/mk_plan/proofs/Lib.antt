@@ -1,6 +1,7 @@
 pub mod OodateLemmas
 pub mod AskingLemmas
 pub mod LookLemmas
+pub mod NewerLemmas
 pub mod PlanLemmas
 pub mod PlanRows
 pub mod TaskLemmas

@@ -12,7 +12,8 @@ use Rattle.mk_world.specs.declared.command.Task.{Task}
 use Rattle.mk_world.specs.declared.command.TaskLine.{TaskLine}
 use Rattle.mk_plan.specs.Refusals.{IsTaskFault}
 use Rattle.mk_plan.specs.Plans.{node_at}
-use Rattle.mk_plan.specs.Tasks.{Setting, at_line, line_of, lines_from, locals_of, manner_of, task_of, task_with}
+use Rattle.mk_plan.specs.Tasks.{Setting, at_line, line_of, line_questions, lines_from, locals_of, manner_of, questions_from}
+use Rattle.mk_plan.specs.Tasks.{task_of, task_with}
 use Rattle.mk_plan.specs.declared.plan.PlanNode.{PlanNode}
 use Rattle.mk_plan.specs.declared.tasks.Manner.{Manner}
 use Rattle.mk_plan.specs.declared.fault.TaskFault.{TaskFault}
@@ -41,6 +42,32 @@ pub lines_from-fault : (s : Setting) (l : Locals) (m : Manner) (lines : List Tas
 unfolding lines_from
 lines_from-fault s l m lines number asked rest raw more what are (inl free) = inl free
 lines_from-fault s l m lines number asked rest raw more what are (inr is) = rw (are, is) (inr refl)
+
+pub questions_from-end : (s : Setting) (l : Locals) (m : Manner) (asked : List Asked)
+    → questions_from s l m asked [] ≡ asked
+unfolding questions_from
+questions_from-end s l m asked = refl
+
+-- the questions behind one line more
+pub questions_from-line : (s : Setting) (l : Locals) (m : Manner) (asked now : List Asked)
+    (rest : List (List ℕ)) (raw : List ℕ) (more : List (List ℕ)) (line : TaskLine)
+    → rest ≡ raw ∷ more → line_of s l m asked raw ≡ Ok (line, now)
+    → questions_from s l m asked rest ≡ questions_from s l m now more
+unfolding questions_from
+questions_from-line s l m asked now rest raw more line are is = rw (are, is) refl
+
+-- those behind a line's fault are those behind all lines
+pub questions_from-fault : (s : Setting) (l : Locals) (m : Manner) (asked now : List Asked)
+    (rest : List (List ℕ)) (raw : List ℕ) (more : List (List ℕ)) (what : ExpandFault)
+    → rest ≡ raw ∷ more
+    → IsOutside what ⊎ (line_of s l m asked raw ≡ Err what)
+    → IsOutside what ⊎ (line_questions s l asked raw ≡ now)
+    → IsOutside what ⊎ (questions_from s l m asked rest ≡ now)
+unfolding questions_from
+questions_from-fault s l m asked now rest raw more what are (inl free) told = inl free
+questions_from-fault s l m asked now rest raw more what are (inr is) (inl free) = inl free
+questions_from-fault s l m asked now rest raw more what are (inr is) (inr told) =
+    inr (rw (are, is) told)
 
 bind-ok : {A B E : Type 0} (first : Result A E) (next : A → Result B E) (value : B)
     → (first >>= next) ≡ Ok value → (given : A) × (first ≡ Ok given) × (next given ≡ Ok value)

@@ -3,6 +3,7 @@ pub mod Deciding
 pub mod Facts
 pub mod Lists
 pub mod Looks
+pub mod Newer
 pub mod Oodate
 pub mod Plans
 pub mod Refusals

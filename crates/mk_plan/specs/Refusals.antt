@@ -68,6 +68,13 @@ MeansLines asked view answer defined =
     (answers : Answers) → AnsweredBy answers asked
     → AgreesBut IsFree view answer (defined answers)
 
+-- Where a call on lines is refused, and not by the outside, it has asked these questions.
+abbrev pub RefusedBehind : {X : Type 0} → List Asked → Result X TaskFault → (Answers → List Asked)
+    → Type 0
+RefusedBehind asked (Ok given) questions = Unit {0}
+RefusedBehind asked (Err fault) questions =
+    (answers : Answers) → AnsweredBy answers asked → IsFree fault ⊎ (questions answers ≡ asked)
+
 -- what is wrong with a line, without its number
 abbrev pub without_line : {A : Type 0} → Result A TaskFault → Result A ExpandFault
 without_line (Ok given) = Ok given

@@ -1,11 +1,12 @@
 -- Tasks: the command lines of a node, expanded.
 use Rattle.std.specs.Prelude.{ℕ, ◌+◌, ◌==◌, ◌||◌, Bool, true, false, not, List, [], ◌∷◌, ◌++◌, length, take, drop, position, unwrap_or, Result, Ok, Err}
 use Rattle.std.specs.List.{list_any}
+use Rattle.mk_ast.specs.Tree.{Tree}
 use Rattle.mk_bytes.specs.Agrees.{◌>>=◌}
 use Rattle.mk_bytes.specs.Bytes.{at_sign, minus, plus, is_blank}
 use Rattle.mk_expand.specs.Texts.{parsed}
 use Rattle.mk_expand.specs.Facts.{Answers, Lists}
-use Rattle.mk_expand.specs.Value.{value}
+use Rattle.mk_expand.specs.Value.{of_tree, questions_of, value}
 use Rattle.mk_expand.specs.declared.facts.Asked.{Asked}
 use Rattle.mk_expand.specs.declared.fault.ExpandFault.{ExpandFault}
 use Rattle.mk_expand.specs.declared.local.Locals.{Locals}
@@ -63,12 +64,24 @@ setting_of variables lists answers = record { variables = variables; lists = lis
 
 -- A line whose raw text refers to the newer sources by that name is not compared: it has another
 -- text in each build. All others are. Behind it stand the questions of `exists` so far.
+abbrev pub line_of_tree : Setting → Locals → Manner → List Asked → Tree
+    → Result (TaskLine × List Asked) ExpandFault
+line_of_tree k locals manner asked tree =
+    value k.variables locals k.lists k.answers false asked tree
+    >>= λ v. Ok (line_as manner (not (refers tree)) v.0, v.1)
+
 abbrev pub line_of : Setting → Locals → Manner → List Asked → List ℕ
     → Result (TaskLine × List Asked) ExpandFault
-line_of k locals manner asked raw =
-    parsed raw
-    >>= λ tree. value k.variables locals k.lists k.answers false asked tree
-    >>= λ v. Ok (line_as manner (not (refers tree)) v.0, v.1)
+line_of k locals manner asked raw = parsed raw >>= line_of_tree k locals manner asked
+
+-- The questions behind a line, also behind its fault.
+abbrev pub tree_questions : Setting → Locals → List Asked → Result Tree ExpandFault → List Asked
+tree_questions k locals asked (Ok tree) =
+    questions_of (of_tree k.variables locals k.lists k.answers false asked tree).answer
+tree_questions k locals asked (Err fault) = asked
+
+abbrev pub line_questions : Setting → Locals → List Asked → List ℕ → List Asked
+line_questions k locals asked raw = tree_questions k locals asked (parsed raw)
 
 -- the fault of a line has its number
 abbrev pub at_line : {A : Type 0} → ℕ → Result A ExpandFault → Result A TaskFault
@@ -82,6 +95,18 @@ lines_from k locals manner lines number asked [] = Ok (lines, asked)
 lines_from k locals manner lines number asked (raw ∷ more) =
     at_line number (line_of k locals manner asked raw)
     >>= λ line. lines_from k locals manner (lines ++ line.0 ∷ []) (number + 1) line.1 more
+
+-- The questions behind the lines, also behind the first fault.
+abbrev pub questions_behind : Result (TaskLine × List Asked) ExpandFault → List Asked
+    → (List Asked → List Asked) → List Asked
+questions_behind (Ok line) questions next = next line.1
+questions_behind (Err fault) questions next = questions
+
+unfoldable pub questions_from : Setting → Locals → Manner → List Asked → List (List ℕ) → List Asked
+questions_from k locals manner asked [] = asked
+questions_from k locals manner asked (raw ∷ more) =
+    questions_behind (line_of k locals manner asked raw) (line_questions k locals asked raw)
+    (λ now. questions_from k locals manner now more)
 
 abbrev pub names_at : List PlanNode → List ℕ → List (List ℕ)
 names_at nodes [] = []
@@ -111,3 +136,10 @@ task_of k suffixes nodes n oodate flags asked =
     lines_from k (locals_of suffixes nodes n oodate) (manner_of flags (node_at nodes n).marks) [] 1 asked
     (node_at nodes n).commands
     >>= λ lines. Ok (task_with k.variables (node_at nodes n).name lines.0, lines.1)
+
+-- The questions of `exists` behind it, also behind its fault.
+abbrev pub task_questions : Setting → List (List ℕ) → List PlanNode → ℕ → List (List ℕ) → Flags
+    → List Asked → List Asked
+task_questions k suffixes nodes n oodate flags asked =
+    questions_from k (locals_of suffixes nodes n oodate) (manner_of flags (node_at nodes n).marks) asked
+    (node_at nodes n).commands

@@ -7,6 +7,7 @@
 mod copies;
 mod facts;
 mod fault;
+mod law;
 mod look;
 mod making;
 mod oodate;
@@ -16,6 +17,7 @@ mod tasks;
 
 pub use facts::MadeFacts;
 pub use fault::{PlanFault, TaskFault};
+pub use law::newer_sources_do_not_count;
 pub use making::make_plan;
 pub use plan::{NodeState, Nodes, Plan, PlanNode};
 pub use plan_law::{

@@ -2,10 +2,10 @@
 ghost use Rattle.std.specs.Prelude.{◌≡◌, ◌<◌, ◌+◌, ◌^◌, [], length, position, Ok, IfSome, IfOk, IfErr, if◌then◌else◌};
 ghost use Rattle.mk_bytes.specs.Agrees.{Agrees};
 ghost use Rattle.mk_expand.specs.Calls.{Asks};
-ghost use Rattle.mk_expand.specs.Facts.{Means};
+ghost use Rattle.mk_expand.specs.Facts.{Means, RefusedBehind as RefusedText};
 ghost use Rattle.mk_expand.specs.declared.fault.ExpandFault.TheVariants.{NoMemory as no_memory};
 ghost use Rattle.mk_plan.specs.Plans.{node_at};
-ghost use Rattle.mk_plan.specs.Refusals.{MeansLines, without_line};
+ghost use Rattle.mk_plan.specs.Refusals.{MeansLines, RefusedBehind, without_line};
 ghost use Rattle.mk_plan.specs.Tasks as spec;
 ghost use Rattle.mk_plan.specs.Tasks.{setting_of};
 
@@ -90,6 +90,9 @@ fn line_of<F: Facts>(
     ensures line { Means (F.asked facts.new) (λ line. (line, F.asked facts.new)) result
         (λ answers. spec.line_of (setting_of scopes.now (F.lists facts.old) answers) locals.now manner
         (F.asked facts.old) raw.now) }
+    ensures questions { RefusedText (F.asked facts.new) result
+        (λ answers. spec.line_questions (setting_of scopes.now (F.lists facts.old) answers) locals.now
+        (F.asked facts.old) raw.now) }
     ensures facts { Asks (F.leads facts.old facts.new) (F.lists facts.old) (F.lists facts.new)
         (F.asked facts.old) (F.asked facts.new) (F.faults facts.old) (F.faults facts.new) result }
 {
@@ -109,6 +112,9 @@ fn lines_of<F: Facts>(
     ensures lines { MeansLines (F.asked facts.new) (λ lines. (lines, F.asked facts.new)) result
         (λ answers. spec.lines_from (setting_of scopes.now (F.lists facts.old) answers) locals.now
         manner [] 1 (F.asked facts.old) commands.now) }
+    ensures questions { RefusedBehind (F.asked facts.new) result
+        (λ answers. spec.questions_from (setting_of scopes.now (F.lists facts.old) answers) locals.now
+        manner (F.asked facts.old) commands.now) }
     ensures facts { Asks (F.leads facts.old facts.new) (F.lists facts.old) (F.lists facts.new)
         (F.asked facts.old) (F.asked facts.new) (F.faults facts.old) (F.faults facts.new)
         (without_line result) }
@@ -165,7 +171,8 @@ fn locals_of(
 /// that of another build.
 ///
 /// A fault has the number of its line, the first such, counted from 1; it is `Failed` only where the
-/// count of the facts rose in this call or is at its end.
+/// count of the facts rose in this call or is at its end. The paths that `exists` is asked of are those
+/// of the definition, also before a fault of the makefiles.
 pub fn task<F: Facts>(
     alloc: Global,
     plan: &Plan,
@@ -178,6 +185,9 @@ pub fn task<F: Facts>(
     requires { n < length plan.now }
     ensures task { MeansLines (F.asked facts.new) (λ task. (task, F.asked facts.new)) result
         (λ answers. spec.task_of (setting_of made.now.scopes (F.lists facts.old) answers)
+        made.now.suffixes plan.now n oodate.now flags.now (F.asked facts.old)) }
+    ensures questions { RefusedBehind (F.asked facts.new) result
+        (λ answers. spec.task_questions (setting_of made.now.scopes (F.lists facts.old) answers)
         made.now.suffixes plan.now n oodate.now flags.now (F.asked facts.old)) }
     ensures facts { Asks (F.leads facts.old facts.new) (F.lists facts.old) (F.lists facts.new)
         (F.asked facts.old) (F.asked facts.new) (F.faults facts.old) (F.faults facts.new)

@@ -13,6 +13,11 @@ invariant-loop-place g l = record {
       [] 1 (g.F.Facts.asked l.initial.facts) l.commands
       ≡ spec.lines_from (setting_of l.scopes (g.F.Facts.lists l.initial.facts) answers) l.locals l.manner
       l.lines (l.place + 1) (g.F.Facts.asked l.facts) (drop l.place l.commands);
+  questions : (answers : Answers) → AnsweredBy answers (g.F.Facts.asked l.facts)
+      → spec.questions_from (setting_of l.scopes (g.F.Facts.lists l.initial.facts) answers) l.locals
+      l.manner (g.F.Facts.asked l.initial.facts) l.commands
+      ≡ spec.questions_from (setting_of l.scopes (g.F.Facts.lists l.initial.facts) answers) l.locals
+      l.manner (g.F.Facts.asked l.facts) (drop l.place l.commands);
   facts : Asks {A = Unit {0}} (g.F.Facts.leads l.initial.facts l.facts)
       (g.F.Facts.lists l.initial.facts) (g.F.Facts.lists l.facts)
       (g.F.Facts.asked l.initial.facts) (g.F.Facts.asked l.facts)
