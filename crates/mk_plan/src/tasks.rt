@@ -171,8 +171,7 @@ fn locals_of(
 /// that of another build.
 ///
 /// A fault has the number of its line, the first such, counted from 1; it is `Failed` only where the
-/// count of the facts rose in this call or is at its end. The paths that `exists` is asked of are those
-/// of the definition, also before a fault of the makefiles.
+/// count of the facts rose in this call or is at its end.
 pub fn task<F: Facts>(
     alloc: Global,
     plan: &Plan,
@@ -185,9 +184,6 @@ pub fn task<F: Facts>(
     requires { n < length plan.now }
     ensures task { MeansLines (F.asked facts.new) (λ task. (task, F.asked facts.new)) result
         (λ answers. spec.task_of (setting_of made.now.scopes (F.lists facts.old) answers)
-        made.now.suffixes plan.now n oodate.now flags.now (F.asked facts.old)) }
-    ensures questions { RefusedBehind (F.asked facts.new) result
-        (λ answers. spec.task_questions (setting_of made.now.scopes (F.lists facts.old) answers)
         made.now.suffixes plan.now n oodate.now flags.now (F.asked facts.old)) }
     ensures facts { Asks (F.leads facts.old facts.new) (F.lists facts.old) (F.lists facts.new)
         (F.asked facts.old) (F.asked facts.new) (F.faults facts.old) (F.faults facts.new)
