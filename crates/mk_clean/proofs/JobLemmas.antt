@@ -1,11 +1,10 @@
 -- A job on files is the one talk of its lines that finds them so.
-use Rattle.std.proofs.Common.{◌≡◌, ◌∙◌, ◌⊎◌, ℕ, ◌==◌, ◌||◌, List, [], ◌∷◌, ◌++◌, Bool, true, false, if◌then◌else◌, inl, inr, refl, sym, ap₂, subst, eq-eqb}
+use Rattle.std.proofs.Common.{◌≡◌, ◌∙◌, List, [], ◌∷◌, ◌++◌, Bool, true, false, if◌then◌else◌, refl, sym, ap₂, subst}
 use Rattle.std.proofs.lemmas.Bool.{false≢true}
-use Rattle.std.specs.List.{AllZip}
 use Rattle.mk_clean.specs.Jobs.{goes_on, job, SameJobs}
 use Rattle.mk_meta.specs.TrueHistory.{deeds_of_job}
 use Rattle.mk_world.specs.Deeds.{Store, Meets, after_deed, after_deeds}
-use Rattle.mk_world.specs.Outer.{nothing_over, outer, AgreeOn}
+use Rattle.mk_world.specs.Outer.{nothing_over}
 use Rattle.mk_world.specs.Talks.{NextOf, Talks, Doing, Meaning, does}
 use Rattle.mk_world.specs.declared.command.Cmd.{Cmd}
 use Rattle.mk_world.specs.declared.command.TaskLine.{TaskLine}

@@ -1,31 +1,27 @@
 -- A target that is kept stands as its job would leave it.
-use Rattle.std.proofs.Common.{◌≡◌, ◌∙◌, ◌⊎◌, ℕ, zero, suc, ◌+◌, ◌<◌, ◌≤◌, ◌==◌, ◌||◌, List, [], ◌∷◌, ◌++◌, map, flat_map, filter, not, length, get_or, Option, Some, None, IfSome, Bool, true, false, if◌then◌else◌, cond, inl, inr, refl, sym, ap, subst, arith, le_refl, eq-eqb, append_assoc}
-use Rattle.std.proofs.lemmas.Bool.{cond_both, false≢true}
+use Rattle.std.proofs.Common.{◌≡◌, ◌∙◌, ◌⊎◌, ℕ, zero, suc, ◌+◌, ◌<◌, ◌==◌, ◌||◌, List, [], ◌∷◌, ◌++◌, map, not, Option, Some, None, IfSome, Bool, true, false, cond, inl, inr, refl, sym, ap, subst, arith, le_refl, eq-eqb}
+use Rattle.std.proofs.lemmas.Bool.{false≢true}
 use Rattle.std.proofs.lemmas.List.{map-append}
-use Rattle.std.proofs.lemmas.Slice.Eq.{bytes_eq-Decides}
-use Rattle.std.specs.List.{AllByRecursion, AllZip, All, Contains}
+use Rattle.std.specs.List.{AllZip, Contains}
 use Rattle.std.specs.Option.{option_map}
-use Rattle.std.specs.Str.{bytes_eq}
 use Rattle.mk_clean.proofs.JobLemmas.{JobTalks, job_told}
-use Rattle.mk_clean.proofs.WalkLemmas.{files_after, files-after_all, RightAll, lawful_right, From, FromAll, lawful_from, older, Covers, CoversSpots, Found, FoundAt, own_deeds, walk}
+use Rattle.mk_clean.proofs.WalkLemmas.{files_after, files-after_all, RightAll, lawful_right, FromAll, lawful_from, older, Covers, CoversSpots, Found, FoundAt, own_deeds, walk}
 use Rattle.mk_clean.specs.Jobs.{goes_on, job}
 use Rattle.mk_clean.specs.Kept.{until, seen_at, AreLooksAt, KeptTargetsStand}
 use Rattle.mk_filemon.proofs.LookLemmas.{tell_looks}
-use Rattle.mk_filemon.specs.Outer.{counted, is_ignored, ops_of, outer_found, outer_missed}
-use Rattle.mk_filemon.specs.Steps.{EachLook, LookAt, IsToldBy, TellLooks}
+use Rattle.mk_filemon.specs.Outer.{counted, ops_of, outer_found, outer_missed}
+use Rattle.mk_filemon.specs.Steps.{EachLook, LookAt, IsToldBy}
 use Rattle.mk_filemon.specs.declared.record.Rec.{Rec}
-use Rattle.mk_meta.specs.Jobs.{command_in, commands_of, is_empty, numbered, records_from, records_of_job, working}
+use Rattle.mk_meta.specs.Jobs.{command_in, is_empty, numbered, records_from, records_of_job, working}
 use Rattle.mk_meta.specs.Texts.{meta_text}
-use Rattle.mk_meta.specs.TrueHistory.{JobEvent, begun, did, ended, job_events, one_by_one, deeds_of_job, changed_paths, WentWell, ops_of_children, meta_path, IsTrue, Alone}
+use Rattle.mk_meta.specs.TrueHistory.{JobEvent, did, ended, job_events, one_by_one, deeds_of_job, changed_paths, WentWell, ops_of_children, meta_path, IsTrue}
 use Rattle.mk_meta.specs.declared.meta.Meta.{Meta}
 use Rattle.mk_oodate.specs.Fresh.{IsOlderThan, Looks, PathsAreFresh, EachSaw, Saw}
-use Rattle.mk_oodate.specs.Lists.{read_paths, missed_paths}
 use Rattle.mk_world.specs.Calls.{op_of, when_of}
 use Rattle.mk_world.specs.Deeds.{Spot, changes, saw, Meets}
-use Rattle.mk_world.specs.History.{Filed, FileMap, Effect, State, effects, effected, effected_all, filed, contents, after, after_all, first_state, MayAll}
+use Rattle.mk_world.specs.History.{Filed, FileMap, State, effects, effected_all, contents, after, after_all, first_state, MayAll}
 use Rattle.mk_world.specs.Outer.{Over, nothing_over, over_deed, over_deeds}
-use Rattle.mk_world.specs.Talks.{Doing, Meaning, NextOf, Talks}
-use Rattle.mk_world.specs.declared.command.Cmd.{Cmd}
+use Rattle.mk_world.specs.Talks.{Doing, Meaning, NextOf}
 use Rattle.mk_world.specs.declared.command.TaskLine.{TaskLine}
 use Rattle.mk_world.specs.declared.history.File.{File}
 use Rattle.mk_world.specs.declared.history.Happening.{Happening}

@@ -1,3 +1,5 @@
+pub mod BesideLemmas
+pub mod CleanLemmas
 pub mod JobLemmas
 pub mod KeptLemmas
 pub mod WalkLemmas

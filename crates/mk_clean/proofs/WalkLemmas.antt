@@ -1,12 +1,12 @@
 -- Through the events of a job: its steps find what stands at the end.
-use Rattle.std.proofs.Common.{◌≡◌, ◌≢◌, ◌∙◌, ◌⊎◌, ℕ, ◌<◌, ◌≤◌, ◌==◌, List, [], ◌∷◌, ◌++◌, Option, Some, None, Bool, true, false, if◌then◌else◌, inl, inr, refl, sym, ap, subst, arith, le_refl, lt_irrefl, lt_of_lt_of_le, le_trans, le_of_lt}
+use Rattle.std.proofs.Common.{◌≡◌, ◌∙◌, ◌⊎◌, ℕ, ◌<◌, ◌≤◌, ◌==◌, List, [], ◌∷◌, ◌++◌, Option, Some, None, Bool, true, false, if◌then◌else◌, inl, inr, refl, sym, ap, subst, lt_irrefl, lt_of_lt_of_le, le_trans, le_of_lt}
 use Rattle.std.proofs.lemmas.Bool.{false_from_ne_true}
 use Rattle.std.proofs.lemmas.Slice.Eq.{bytes_eq-Decides}
-use Rattle.std.specs.List.{AllByRecursion, Contains}
+use Rattle.std.specs.List.{Contains}
 use Rattle.std.specs.Option.{option_map}
 use Rattle.std.specs.Str.{bytes_eq}
 use Rattle.mk_filemon.specs.Steps.{EachLook, LookAt}
-use Rattle.mk_meta.specs.TrueHistory.{JobEvent, begun, did, ended, if_same, job_event, job_events, LeavesAlone, NoneChanges, Alone}
+use Rattle.mk_meta.specs.TrueHistory.{JobEvent, begun, did, ended, if_same, job_event, job_events, LeavesAlone, Alone}
 use Rattle.mk_world.specs.Deeds.{Spot, saw, changes, Holds, IsRight, Meets}
 use Rattle.mk_world.specs.History.{Filed, FileMap, Effect, State, effects, at_time, filed, effected, effected_all, contents, last_time, after, after_all, IsRising, NotEarlier, MayStep, MayAll}
 use Rattle.mk_world.specs.Outer.{Over, over_spot, over_spots, over_deed, over_deeds, or_stood, on}

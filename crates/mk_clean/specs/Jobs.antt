@@ -1,5 +1,5 @@
 -- What the lines of a job do on files, one after the other.
-use Rattle.std.specs.Prelude.{◌≡◌, ℕ, Bool, ◌||◌, ◌==◌, List, [], ◌∷◌, flat_map, if◌then◌else◌}
+use Rattle.std.specs.Prelude.{◌≡◌, Bool, ◌||◌, ◌==◌, List, [], ◌∷◌, if◌then◌else◌}
 use Rattle.mk_meta.specs.TrueHistory.{deeds_of_job}
 use Rattle.mk_world.specs.Deeds.{Store, after_deeds}
 use Rattle.mk_world.specs.Outer.{AgreeOn, nothing_over, outer}

@@ -1,2 +1,6 @@
+pub mod Clean
+pub mod Declared
 pub mod Jobs
 pub mod Kept
+pub mod Same
+pub mod Turns

@@ -1,6 +1,7 @@
-//! What holds of jobs, and of targets that are kept.
+//! What holds of jobs, of targets that are kept, and of builds beside the clean one.
 ghost use Rattle.mk_clean.specs.Jobs.{SameJobs};
 ghost use Rattle.mk_clean.specs.Kept.{KeptTargetsStand};
+ghost use Rattle.mk_clean.specs.Same.{BuildsAreClean};
 
 /// Two sets of files that agree on what a job takes from outside itself let it do the same.
 pub fn jobs_with_the_same_reads_are_the_same()
@@ -13,4 +14,11 @@ pub fn jobs_with_the_same_reads_are_the_same()
 /// their own.
 pub fn targets_without_a_reason_stand()
     ensures { KeptTargetsStand }
+{}
+
+/// Where what the jobs of a plan read and change is declared, a build of it in which all is settled has
+/// the files that a clean build gives, whatever it kept by looks, whichever nodes it made, and in whatever
+/// order its children did their steps; and the clean build goes well.
+pub fn settled_builds_have_the_clean_files()
+    ensures { BuildsAreClean }
 {}
