@@ -34,7 +34,7 @@ use Rattle.mk_world.specs.declared.time.Time.{Time}
 
 -- the lines that a true meta file tells of are a job
 
-went_on : (next : NextOf) (meta : Meta) (line : TaskLine) (doing : Doing) → WentWell next meta line doing
+pub went_on : (next : NextOf) (meta : Meta) (line : TaskLine) (doing : Doing) → WentWell next meta line doing
     → goes_on line doing ≡ true
 went_on next meta line doing went = by went.well
   where

@@ -2,4 +2,5 @@ pub mod BesideLemmas
 pub mod CleanLemmas
 pub mod JobLemmas
 pub mod KeptLemmas
+pub mod TestedLemmas
 pub mod WalkLemmas

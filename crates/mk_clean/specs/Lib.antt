@@ -3,4 +3,5 @@ pub mod Declared
 pub mod Jobs
 pub mod Kept
 pub mod Same
+pub mod Tested
 pub mod Turns

@@ -2,6 +2,7 @@
 ghost use Rattle.mk_clean.specs.Jobs.{SameJobs};
 ghost use Rattle.mk_clean.specs.Kept.{KeptTargetsStand};
 ghost use Rattle.mk_clean.specs.Same.{BuildsAreClean};
+ghost use Rattle.mk_clean.specs.Tested.{NoReasonMayKeep};
 
 /// Two sets of files that agree on what a job takes from outside itself let it do the same.
 pub fn jobs_with_the_same_reads_are_the_same()
@@ -14,6 +15,13 @@ pub fn jobs_with_the_same_reads_are_the_same()
 /// their own.
 pub fn targets_without_a_reason_stand()
     ensures { KeptTargetsStand }
+{}
+
+/// Where the test gives no reason to make a node again, in a build that goes by records, and the node's meta
+/// file tells what happened, its job would go well on the files that the looks saw, and what it leaves at
+/// the node's path stands there. So the node may be kept.
+pub fn nodes_without_a_reason_may_be_kept()
+    ensures { NoReasonMayKeep }
 {}
 
 /// Where what the jobs of a plan read and change is declared, a build of it in which all is settled has
