@@ -203,11 +203,11 @@ option_two : (over : Option (Option (List ℕ))) → IsOver_ over
 option_two None = inr refl
 option_two (Some bytes) = inl (bytes, refl)
 
-stage_other : (node other : ℕ) (stage : Stage) (stages : ℕ → Stage) → (node == other) ≡ false
+pub stage_other : (node other : ℕ) (stage : Stage) (stages : ℕ → Stage) → (node == other) ≡ false
     → with_stage node stage stages other ≡ stages other
 stage_other node other stage stages differ = ap (λ here. if here then stage else stages other) differ
 
-stage_own : (node other : ℕ) (stage : Stage) (stages : ℕ → Stage) → (node == other) ≡ true
+pub stage_own : (node other : ℕ) (stage : Stage) (stages : ℕ → Stage) → (node == other) ≡ true
     → with_stage node stage stages other ≡ stage
 stage_own node other stage stages same = ap (λ here. if here then stage else stages other) same
 
@@ -269,7 +269,7 @@ stands_put over store (spot ∷ spots) stands =
     (λ path bytes is.
     stands_at (bytes_eq spot.path path) spot.bytes bytes (over path) (store path) (stands path bytes) is)
 
-job_nil : (next : NextOf) (command : TaskLine → Cmd) (rest : List Doing)
+pub job_nil : (next : NextOf) (command : TaskLine → Cmd) (rest : List Doing)
     → JobTalks next command [] rest → rest ≡ []
 job_nil next command [] talks = refl
 job_nil next command (one ∷ rest) talks = absurd talks
@@ -280,10 +280,10 @@ module _ (meaning : Meaning) (plan : Plan) (store : Store)
     (declared : IsDeclared plan (clean_build meaning plan store))
     (distinct : AreDistinct plan (clean_build meaning plan store))
   where
-    abbrev all : List CleanJob
+    abbrev pub all : List CleanJob
     all = clean_build meaning plan store
 
-    abbrev IsBeside : Build → Type 0
+    abbrev pub IsBeside : Build → Type 0
     IsBeside build = Beside meaning.next plan store all build
 
     -- no two jobs change one path
@@ -533,7 +533,7 @@ module _ (meaning : Meaning) (plan : Plan) (store : Store)
               success = λ well. well;
             }
 
-    job_at : (build : Build) → IsBeside build → (node : ℕ) (stage : Stage) → build.stage node ≡ stage
+    pub job_at : (build : Build) → IsBeside build → (node : ℕ) (stage : Stage) → build.stage node ≡ stage
         → (one : CleanJob) → IsAmong one all → one.node ≡ node → JobIs meaning.next plan build one stage
     job_at build beside node stage at one among is =
         subst (JobIs meaning.next plan build one) (ap build.stage is ∙ at) (beside.jobs one among)
@@ -776,7 +776,7 @@ module _ (meaning : Meaning) (plan : Plan) (store : Store)
             absurd (no_meta (ap plan.is_meta (sym ((bytes_eq-Decides path at).0 same)) ∙ may))
         away at no_meta (inr differ) = ap (λ here. if here then bytes else build.files at) differ
 
-    turn_keeps : (build : Build) (turn : Turn) → IsBeside build → MayTurn meaning plan build turn
+    pub turn_keeps : (build : Build) (turn : Turn) → IsBeside build → MayTurn meaning plan build turn
         → IsBeside (after_turn plan build turn)
     turn_keeps build (looks_at node path) beside may = looks_turn build node path beside may
     turn_keeps build (keeps node) beside may = keeps_turn build node beside may
@@ -787,13 +787,13 @@ module _ (meaning : Meaning) (plan : Plan) (store : Store)
     turn_keeps build (settles node) beside may = settles_turn build node beside may
     turn_keeps build (puts_meta path bytes) beside may = puts_turn build path bytes beside may
 
-    turns_keep : (build : Build) (turns : List Turn) → IsBeside build
+    pub turns_keep : (build : Build) (turns : List Turn) → IsBeside build
         → MayTurns meaning plan build turns → IsBeside (after_turns plan build turns)
     turns_keep build [] beside may = beside
     turns_keep build (turn ∷ turns) beside may =
         turns_keep (after_turn plan build turn) turns (turn_keeps build turn beside may.0) may.1
 
-    at_first : IsBeside (first_build store)
+    pub at_first : IsBeside (first_build store)
     at_first = record {
       jobs = λ one among. tt;
       sources = λ path leave no_meta. refl;

@@ -2,5 +2,6 @@ pub mod BesideLemmas
 pub mod CleanLemmas
 pub mod JobLemmas
 pub mod KeptLemmas
+pub mod StepLemmas
 pub mod TestedLemmas
 pub mod WalkLemmas

@@ -1,7 +1,7 @@
 //! What holds of jobs, of targets that are kept, and of builds beside the clean one.
 ghost use Rattle.mk_clean.specs.Jobs.{SameJobs};
 ghost use Rattle.mk_clean.specs.Kept.{KeptTargetsStand};
-ghost use Rattle.mk_clean.specs.Same.{BuildsAreClean};
+ghost use Rattle.mk_clean.specs.Same.{BuildsAreClean, StepsAreClean};
 ghost use Rattle.mk_clean.specs.Tested.{NoReasonMayKeep};
 
 /// Two sets of files that agree on what a job takes from outside itself let it do the same.
@@ -29,4 +29,11 @@ pub fn nodes_without_a_reason_may_be_kept()
 /// order its children did their steps; and the clean build goes well.
 pub fn settled_builds_have_the_clean_files()
     ensures { BuildsAreClean }
+{}
+
+/// Where what the jobs of a plan read and change is declared, each step of a build is a step of the same
+/// node in the clean build: at every moment a node's job has done nothing, or the first steps that it does
+/// there; and where the node is settled, nothing or all of them.
+pub fn steps_are_those_of_the_clean_build()
+    ensures { StepsAreClean }
 {}
