@@ -13,6 +13,7 @@ use Rattle.mk_blocks.specs.Skips.{outside_of}
 use Rattle.mk_blocks.specs.Ties.{Ties}
 use Rattle.mk_blocks.specs.Turns.{Turn, loop_turns, turn_count}
 use Rattle.mk_blocks.specs.declared.fault.FileFault.TheVariants.{TooManyLines}
+use Rattle.mk_blocks.specs.declared.kind.LineKind.{LineKind}
 use Rattle.mk_blocks.specs.declared.line.OpenFile.{OpenFile}
 use Rattle.mk_blocks.specs.declared.place.OpenLoop.{OpenLoop}
 use Rattle.mk_blocks.specs.declared.place.Place.{Place}
@@ -20,6 +21,15 @@ use Rattle.mk_blocks.proofs.FitLemmas.{Fits-turn}
 use Rattle.mk_blocks.proofs.PlaceLemmas as place
 use Rattle.mk_blocks.proofs.RunLemmas.{counted-then}
 use Rattle.mk_blocks.proofs.TurnLemmas.{last-turn, turns-none}
+
+-- the beginning of a turn is a place
+pub begun-place : (kind : List ℕ → LineKind) {o : OpenLoop} {before now : Place} → Begins o before now
+    → IsInside kind before.loops o.depth (p.behind_body kind o)
+    → Fits before.loops o.depth (length o.body + 1) → IsPlace kind now
+unfolding outside_of
+begun-place kind {o = o} {before = before} begins inside fits =
+    rw (begins.cursor, begins.depth, begins.loops)
+    (record { inside = (refl, inside); fits = Fits-turn o before.loops fits })
 
 module _ {X W F : Type 0} (ties : Ties X W F) (file : OpenFile) where
   pub no-turns : (loops : List OpenLoop) (depth : ℕ) (q : Parsed) (names words : List (List ℕ))
@@ -56,14 +66,6 @@ module _ {X W F : Type 0} (ties : Ties X W F) (file : OpenFile) where
       (place.turns_left-turn (ties.meaning answers) (files_in ties file answers) file.name.now
       ties.kind o before.loops (run_at (ties.state x) count)
       ∙ counted-then (ties.state x) count more _ counts)
-
-  pub begun-place : {o : OpenLoop} {before now : Place} → Begins o before now
-      → IsInside ties.kind before.loops o.depth (p.behind_body ties.kind o)
-      → Fits before.loops o.depth (length o.body + 1) → IsPlace ties.kind now
-  unfolding outside_of
-  begun-place {o = o} {before = before} begins inside fits =
-      rw (begins.cursor, begins.depth, begins.loops)
-      (record { inside = (refl, inside); fits = Fits-turn o before.loops fits })
 
   -- behind the body of a loop
 

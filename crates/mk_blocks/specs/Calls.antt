@@ -1,12 +1,13 @@
 -- What calls of a reading leave to be done.
-use Rattle.std.specs.Prelude.{◌≡◌, ℕ, zero, suc, ◌+◌, ◌-◌, ◌<◌, ◌∷◌, List, length, Bool, true}
+use Rattle.std.specs.Prelude.{◌≡◌, ℕ, zero, suc, ◌+◌, ◌-◌, ◌<◌, ◌≤◌, ◌∷◌, List, length, Bool, true}
 use Rattle.std.specs.Prelude.{false, ◌&&◌, nat_lt}
 use Rattle.mk_lines.specs.declared.line.LogLine.{LogLine}
-use Rattle.mk_blocks.specs.Blocks.{Ending, Parsed, parse, put}
+use Rattle.mk_blocks.specs.Blocks.{Ending, Parsed, closed, parse, put}
 use Rattle.mk_blocks.specs.Meaning.{files_at}
 use Rattle.mk_blocks.specs.Runs.{After, Files, Reads, Run, after, run_at}
 use Rattle.mk_blocks.specs.Places as p
 use Rattle.mk_blocks.specs.Places.{Fits, IsInside, IsPlace, turns_in}
+use Rattle.mk_blocks.specs.Skips.{outside_of}
 use Rattle.mk_blocks.specs.Ties.{Ties}
 use Rattle.mk_blocks.specs.Turns.{Turn, turn_count}
 use Rattle.mk_blocks.specs.declared.kind.LineKind.{LineKind}
@@ -76,6 +77,14 @@ pub record Leaves (before now : Place) (given : Step) : Type 0 where
   pub step : given ≡ step_behind before.depth
   pub depth : now.depth ≡ before.depth - 1
   pub cursor : now.cursor ≡ before.cursor
+  pub loops : now.loops ≡ before.loops
+
+-- The place behind the rest of an if-block, of which a branch was read.
+pub record Passes (kind : List ℕ → LineKind) (before now : Place) (given : Step) : Type 0 where
+  pub step : given ≡ step_behind before.depth
+  pub depth : now.depth ≡ before.depth - 1
+  pub behind : parse kind now.cursor ≡ closed (outside_of zero (parse kind before.cursor).endings)
+  pub shorter : length now.cursor ≤ length before.cursor
   pub loops : now.loops ≡ before.loops
 
 -- the place at the beginning of a turn

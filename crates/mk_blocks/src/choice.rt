@@ -1,5 +1,5 @@
 //! If-blocks: the branch that is read, and the others.
-ghost use Rattle.std.specs.Prelude.{◌≡◌, ◌+◌, ◌^◌, ◌<◌, ◌≤◌, length, true, IfOk, OnOk};
+ghost use Rattle.std.specs.Prelude.{◌≡◌, ◌+◌, ◌^◌, ◌<◌, ◌≤◌, length, IfOk, OnOk};
 ghost use Rattle.mk_blocks.specs.Blocks.{parse, put};
 ghost use Rattle.mk_blocks.specs.Calls as spec;
 ghost use Rattle.mk_blocks.specs.Places.{Falls, IsReached, work};
@@ -8,13 +8,14 @@ ghost use Rattle.mk_blocks.specs.Ties.{Does, sorted};
 ghost use Rattle.mk_blocks.specs.declared.kind.LineKind.TheVariants.{If};
 
 use crate::fault::FileFault;
-use crate::kind::LineKind;
 use crate::language::Language;
 use crate::line::{OpenFile, condition, count_line};
 use crate::place::{OpenLoop, Place, Step};
 use crate::skip::{next_branch, skip_block};
 use crate::stack::Stack;
+use mk_bytes::NoMemory;
 use mk_lines::{LineCursor, LineRef};
+use std::alloc::Global;
 
 /// The line that begins an if-block.
 pub fn begin_if<L: Language>(
@@ -71,7 +72,7 @@ fn choose<L: Language>(
     ensures later { OnOk result (count.old ≤ count.new) }
 {
     count_line(count)?;
-    if condition(file, language, *count, loops, line)? {
+    if condition(file, language, loops, line)? {
         return Ok(depth + 1);
     }
     'branches: loop {
@@ -82,32 +83,23 @@ fn choose<L: Language>(
             return Ok(depth + 1);
         }
         count_line(count)?;
-        if condition(file, language, *count, loops, &branch.line)? {
+        if condition(file, language, loops, &branch.line)? {
             return Ok(depth + 1);
         }
     }
 }
 
-/// The line of another branch behind the one that was read: it is passed over with its block.
+/// Behind the line of another branch than the one that was read: the rest of the if-block is passed
+/// over.
 pub fn pass_branches<L: Language>(
-    file: &OpenFile<'_>,
+    alloc: Global,
     language: &L,
-    count: u32,
     place: &mut Place<'_>,
-    kind: LineKind,
-    line: &LineRef<'_>,
-) -> Result<Step, FileFault<L::What, L::Failure>>
-    requires stands { spec.Stands L.ties.kind kind line.now place.old }
-    requires branch { spec.begins_branch kind ≡ true }
-    ensures does { Does L.ties sorted language.now language.now
-        (λ answers step. spec.step_left L.ties file.now step place.new language.now count answers)
-        result (spec.left_in L.ties file.now place.old.loops place.old.depth
-        (put kind line.now (parse L.ties.kind place.old.cursor)) language.now count) }
-    ensures place { IfOk result (λ step. IsReached L.ties.kind step place.new) }
-    ensures falls { IfOk result (λ step.
-        Falls step (work count place.old + 1) (work count place.new)) }
+) -> Result<Step, NoMemory>
+    requires { length place.old.cursor < 2 ^ 32 }
+    ensures { IfOk result (λ step. spec.Passes L.ties.kind place.old place.new step) }
 {
-    skip_block(file.alloc, language, &mut place.cursor, 0)?;
+    skip_block(alloc, language, &mut place.cursor, 0)?;
     Ok(leave_block(place))
 }
 

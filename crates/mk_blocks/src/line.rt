@@ -1,5 +1,5 @@
 //! Questions about single lines.
-ghost use Rattle.std.specs.Prelude.{◌≡◌, ◌≤◌, OnOk, OnErr};
+ghost use Rattle.std.specs.Prelude.{◌≡◌, ℕ, ◌≤◌, OnOk, OnErr};
 ghost use Rattle.mk_blocks.specs.Meaning.{asked};
 ghost use Rattle.mk_blocks.specs.Runs.{IsCounted, max_lines, run_at};
 ghost use Rattle.mk_blocks.specs.Outcomes.{done};
@@ -63,11 +63,10 @@ fn placed<W: Drop, F>(
 pub fn step<L: Language>(
     file: &OpenFile<'_>,
     language: &mut L,
-    count: u32,
     loops: &Stack<OpenLoop<'_>>,
     line: &LineRef<'_>,
 ) -> Result<(), FileFault<L::What, L::Failure>>
-    ensures { Does L.ties sorted language.old language.new
+    ensures { (count : ℕ) → Does L.ties sorted language.old language.new
         (λ answers given. done (given, run_at (L.ties.state language.new) count)) result
         (λ answers. asked (L.ties.meaning answers).step file.now.name.now (turns_in loops.now)
         line.now (run_at (L.ties.state language.old) count)) }
@@ -85,11 +84,10 @@ pub fn step<L: Language>(
 pub fn condition<L: Language>(
     file: &OpenFile<'_>,
     language: &mut L,
-    count: u32,
     loops: &Stack<OpenLoop<'_>>,
     line: &LineRef<'_>,
 ) -> Result<bool, FileFault<L::What, L::Failure>>
-    ensures { Does L.ties sorted language.old language.new
+    ensures { (count : ℕ) → Does L.ties sorted language.old language.new
         (λ answers given. done (given, run_at (L.ties.state language.new) count)) result
         (λ answers. asked (L.ties.meaning answers).condition file.now.name.now (turns_in loops.now)
         line.now (run_at (L.ties.state language.old) count)) }
@@ -107,11 +105,10 @@ pub fn condition<L: Language>(
 pub fn turns<L: Language>(
     file: &OpenFile<'_>,
     language: &mut L,
-    count: u32,
     loops: &Stack<OpenLoop<'_>>,
     line: &LineRef<'_>,
 ) -> Result<Loop, FileFault<L::What, L::Failure>>
-    ensures { Does L.ties sorted language.old language.new
+    ensures { (count : ℕ) → Does L.ties sorted language.old language.new
         (λ answers given. done (
           loop_turns given.names given.words,
           run_at (L.ties.state language.new) count,
@@ -132,11 +129,10 @@ pub fn turns<L: Language>(
 pub fn included<L: Language>(
     file: &OpenFile<'_>,
     language: &mut L,
-    count: u32,
     loops: &Stack<OpenLoop<'_>>,
     line: &LineRef<'_>,
 ) -> Result<Option<IncludedFile>, FileFault<L::What, L::Failure>>
-    ensures { Does L.ties sorted language.old language.new
+    ensures { (count : ℕ) → Does L.ties sorted language.old language.new
         (λ answers given. done (given, run_at (L.ties.state language.new) count)) result
         (λ answers. asked (L.ties.meaning answers).included file.now.name.now (turns_in loops.now)
         line.now (run_at (L.ties.state language.old) count)) }

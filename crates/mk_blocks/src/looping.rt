@@ -1,11 +1,13 @@
 //! Loops: turns that begin, and what is behind them.
 ghost use Rattle.std.specs.Prelude.{◌≡◌, ◌+◌, ◌<◌, ◌≤◌, length, true, IfOk, OnOk};
+ghost use Rattle.mk_lines.specs.declared.line.LogLine.{LogLine};
 ghost use Rattle.mk_blocks.specs.Blocks.{closed, parse, put};
 ghost use Rattle.mk_blocks.specs.Calls as spec;
 ghost use Rattle.mk_blocks.specs.Places.{Falls, Fits, IsEnd, IsInside, IsPlace, IsReached, work};
 ghost use Rattle.mk_blocks.specs.Ties.{Does, sorted};
 ghost use Rattle.mk_blocks.specs.Turns.{loop_turns};
 ghost use Rattle.mk_blocks.specs.declared.kind.LineKind.TheVariants.{Break, For};
+ghost use Rattle.mk_blocks.specs.declared.line.OpenFile.{OpenFile as File};
 
 use crate::fault::FileFault;
 use crate::language::{Language, Loop};
@@ -36,7 +38,7 @@ pub fn begin_loop<L: Language>(
     ensures later { OnOk result (count.old ≤ count.new) }
 {
     count_line(count)?;
-    let header = turns(file, language, *count, &place.loops, line)?;
+    let header = turns(file, language, &place.loops, line)?;
     enter_loop(file, language, count, place, header)?;
     Ok(Step::On)
 }
@@ -91,14 +93,15 @@ pub fn stop<L: Language>(
     language: &L,
     count: &mut u32,
     place: &mut Place<'_>,
-    line: &LineRef<'_>,
 ) -> Result<Step, FileFault<L::What, L::Failure>>
-    requires { spec.Stands L.ties.kind Break line.now place.old }
-    ensures does { Does L.ties sorted language.now language.now
+    requires inside { IsInside L.ties.kind place.old.loops place.old.depth
+        (parse L.ties.kind place.old.cursor) }
+    requires fits { Fits place.old.loops place.old.depth (length place.old.cursor + 1) }
+    ensures does { (line : LogLine) → Does L.ties sorted language.now language.now
         (λ answers step.
         spec.step_left L.ties file.now step place.new language.now count.new answers)
         result (spec.left_in L.ties file.now place.old.loops place.old.depth
-        (put Break line.now (parse L.ties.kind place.old.cursor)) language.now count.old) }
+        (put Break line (parse L.ties.kind place.old.cursor)) language.now count.old) }
     ensures place { IfOk result (λ step. IsReached L.ties.kind step place.new) }
     ensures falls { IfOk result (λ step.
         Falls step (work count.old place.old + 1) (work count.new place.new)) }
@@ -112,17 +115,14 @@ pub fn stop<L: Language>(
 /// Behind the lines of a body: goes to the next turn of its loop, or behind the loop. False where
 /// no loop is open.
 pub fn leave_body<L: Language>(
-    file: &OpenFile<'_>,
-    language: &L,
     count: &mut u32,
     place: &mut Place<'_>,
     goes_on: bool,
 ) -> Result<bool, FileFault<L::What, L::Failure>>
     requires { IsEnd L.ties.kind place.old }
-    ensures does { Does L.ties sorted language.now language.now
-        (λ answers more.
-        spec.if_left L.ties file.now more place.new language.now count.new answers)
-        result (spec.behind_left L.ties file.now place.old.loops goes_on language.now count.old) }
+    ensures does { (file : File) (language : L) → Does L.ties sorted language language
+        (λ answers more. spec.if_left L.ties file more place.new language count.new answers)
+        result (spec.behind_left L.ties file place.old.loops goes_on language count.old) }
     ensures place { IfOk result (λ more. spec.IsLeft L.ties.kind more place.new) }
     ensures falls { IfOk result (λ more.
         spec.FallsIf more (work count.old place.old) (work count.new place.new)) }

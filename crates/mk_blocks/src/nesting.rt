@@ -1,5 +1,5 @@
 //! The blocks of a file that are open, and the first line that stands out of its place.
-ghost use Rattle.std.specs.Prelude.{◌≡◌, ◌^◌, ◌<◌, [], ◌∷◌, length, slice_get, IfOk, Ok};
+ghost use Rattle.std.specs.Prelude.{◌≡◌, ℕ, ◌^◌, ◌<◌, [], ◌∷◌, length, slice_get, IfOk, Ok};
 ghost use Rattle.mk_lines.specs.Lines.{lines_from};
 ghost use Rattle.mk_blocks.specs.OpenBlocks as spec;
 ghost use Rattle.mk_blocks.specs.Spelled.{IsOneBlock};
@@ -35,8 +35,9 @@ fn in_loop(blocks: &Stack<OpenBlock>) -> bool
 }
 
 // A line that needs an if-block whose `.else` has not come.
-fn branch(blocks: &Stack<OpenBlock>, number: u32) -> Option<BlockFault>
-    ensures { spec.blocks_behind kinds.ElseIf number blocks.now ≡ spec.answer_of result blocks.now }
+fn branch(blocks: &Stack<OpenBlock>) -> Option<BlockFault>
+    ensures { (number : ℕ) → spec.blocks_behind kinds.ElseIf number blocks.now
+        ≡ spec.answer_of result blocks.now }
 {
     match blocks.top() {
         Some(innermost) if may_branch(innermost.part) => None,
@@ -44,9 +45,9 @@ fn branch(blocks: &Stack<OpenBlock>, number: u32) -> Option<BlockFault>
     }
 }
 
-fn last_branch(blocks: &mut Stack<OpenBlock>, number: u32) -> Result<Option<BlockFault>, NoMemory>
-    ensures { IfOk result (λ fault.
-        spec.blocks_behind kinds.Else number blocks.old ≡ spec.answer_of fault blocks.new) }
+fn last_branch(blocks: &mut Stack<OpenBlock>) -> Result<Option<BlockFault>, NoMemory>
+    ensures { IfOk result (λ fault. (number : ℕ) → spec.blocks_behind kinds.Else number blocks.old
+        ≡ spec.answer_of fault blocks.new) }
 {
     let Some(innermost) = blocks.pop() else {
         return Ok(Some(BlockFault::Else));
@@ -61,8 +62,9 @@ fn last_branch(blocks: &mut Stack<OpenBlock>, number: u32) -> Result<Option<Bloc
     Ok(None)
 }
 
-fn end_if(blocks: &mut Stack<OpenBlock>, number: u32) -> Option<BlockFault>
-    ensures { spec.blocks_behind kinds.EndIf number blocks.old ≡ spec.answer_of result blocks.new }
+fn end_if(blocks: &mut Stack<OpenBlock>) -> Option<BlockFault>
+    ensures { (number : ℕ) → spec.blocks_behind kinds.EndIf number blocks.old
+        ≡ spec.answer_of result blocks.new }
 {
     match blocks.pop() {
         Some(innermost) if !is_body(innermost.part) => None,
@@ -70,8 +72,9 @@ fn end_if(blocks: &mut Stack<OpenBlock>, number: u32) -> Option<BlockFault>
     }
 }
 
-fn end_for(blocks: &mut Stack<OpenBlock>, number: u32) -> Option<BlockFault>
-    ensures { spec.blocks_behind kinds.EndFor number blocks.old ≡ spec.answer_of result blocks.new }
+fn end_for(blocks: &mut Stack<OpenBlock>) -> Option<BlockFault>
+    ensures { (number : ℕ) → spec.blocks_behind kinds.EndFor number blocks.old
+        ≡ spec.answer_of result blocks.new }
 {
     match blocks.pop() {
         Some(innermost) if is_body(innermost.part) => None,
@@ -79,8 +82,9 @@ fn end_for(blocks: &mut Stack<OpenBlock>, number: u32) -> Option<BlockFault>
     }
 }
 
-fn end_loop(blocks: &Stack<OpenBlock>, number: u32) -> Option<BlockFault>
-    ensures { spec.blocks_behind kinds.Break number blocks.now ≡ spec.answer_of result blocks.now }
+fn end_loop(blocks: &Stack<OpenBlock>) -> Option<BlockFault>
+    ensures { (number : ℕ) → spec.blocks_behind kinds.Break number blocks.now
+        ≡ spec.answer_of result blocks.now }
 {
     if in_loop(blocks) {
         return None;
@@ -116,11 +120,11 @@ fn take_line(
             })?;
             Ok(None)
         }
-        LineKind::ElseIf => Ok(branch(blocks, number)),
-        LineKind::Else => last_branch(blocks, number),
-        LineKind::EndIf => Ok(end_if(blocks, number)),
-        LineKind::EndFor => Ok(end_for(blocks, number)),
-        LineKind::Break => Ok(end_loop(blocks, number)),
+        LineKind::ElseIf => Ok(branch(blocks)),
+        LineKind::Else => last_branch(blocks),
+        LineKind::EndIf => Ok(end_if(blocks)),
+        LineKind::EndFor => Ok(end_for(blocks)),
+        LineKind::Break => Ok(end_loop(blocks)),
         LineKind::Plain => Ok(None),
         LineKind::Uncounted => Ok(None),
         LineKind::Include => Ok(None),

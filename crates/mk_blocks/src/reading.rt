@@ -1,5 +1,5 @@
 //! The reading of files, line by line.
-ghost use Rattle.std.specs.Prelude.{◌≡◌, ◌+◌, ◌^◌, ◌<◌, ◌≤◌, [], length, IfOk, OnOk};
+ghost use Rattle.std.specs.Prelude.{◌≡◌, ℕ, ◌+◌, ◌^◌, ◌<◌, ◌≤◌, [], length, IfOk, OnOk};
 ghost use Rattle.mk_blocks.specs.Blocks.{parse, put};
 ghost use Rattle.mk_blocks.specs.Calls as spec;
 ghost use Rattle.mk_blocks.specs.Meaning.{file_at, file_read};
@@ -125,8 +125,8 @@ fn read_on<L: Language>(
 {
     match read_line(file, language, count, place)? {
         Step::On => Ok(true),
-        Step::Ends => leave_body(file, language, count, place, true),
-        Step::Breaks => leave_body(file, language, count, place, false),
+        Step::Ends => leave_body::<L>(count, place, true),
+        Step::Breaks => leave_body::<L>(count, place, false),
     }
 }
 
@@ -178,14 +178,14 @@ fn process<L: Language>(
 {
     match kind {
         LineKind::Plain => plain_line(file, language, count, place, line),
-        LineKind::Uncounted => uncounted_line(file, language, *count, place, line),
+        LineKind::Uncounted => uncounted_line(file, language, place, line),
         LineKind::If => begin_if(file, language, count, place, line),
-        LineKind::ElseIf => pass_branches(file, language, *count, place, kind, line),
-        LineKind::Else => pass_branches(file, language, *count, place, kind, line),
+        LineKind::ElseIf => Ok(pass_branches(file.alloc, language, place)?),
+        LineKind::Else => Ok(pass_branches(file.alloc, language, place)?),
         LineKind::EndIf => Ok(leave_block(place)),
         LineKind::For => begin_loop(file, language, count, place, line),
         LineKind::EndFor => Ok(leave_block(place)),
-        LineKind::Break => stop(file, language, count, place, line),
+        LineKind::Break => stop(file, language, count, place),
         LineKind::Include => include_line(file, language, count, place, line),
     }
 }
@@ -210,7 +210,7 @@ fn plain_line<L: Language>(
     ensures later { OnOk result (count.old ≤ count.new) }
 {
     count_line(count)?;
-    step(file, language, *count, &place.loops, line)?;
+    step(file, language, &place.loops, line)?;
     Ok(Step::On)
 }
 
@@ -218,20 +218,19 @@ fn plain_line<L: Language>(
 fn uncounted_line<L: Language>(
     file: &OpenFile<'_>,
     language: &mut L,
-    count: u32,
     place: &Place<'_>,
     line: &LineRef<'_>,
 ) -> Result<Step, FileFault<L::What, L::Failure>>
     requires { spec.Stands L.ties.kind Uncounted line.now place.now }
-    ensures does { Does L.ties sorted language.old language.new
+    ensures does { (count : ℕ) → Does L.ties sorted language.old language.new
         (λ answers step. spec.step_left L.ties file.now step place.now language.new count answers)
         result (spec.left_in L.ties file.now place.now.loops place.now.depth
         (put Uncounted line.now (parse L.ties.kind place.now.cursor)) language.old count) }
     ensures place { IfOk result (λ step. IsReached L.ties.kind step place.now) }
-    ensures falls { IfOk result (λ step.
+    ensures falls { IfOk result (λ step. (count : ℕ) →
         Falls step (work count place.now + 1) (work count place.now)) }
 {
-    step(file, language, count, &place.loops, line)?;
+    step(file, language, &place.loops, line)?;
     Ok(Step::On)
 }
 
@@ -256,7 +255,7 @@ fn include_line<L: Language>(
     ensures later { OnOk result (count.old ≤ count.new) }
 {
     count_line(count)?;
-    let Some(wanted) = included(file, language, *count, &place.loops, line)? else {
+    let Some(wanted) = included(file, language, &place.loops, line)? else {
         return Ok(Step::On);
     };
     if file.room == 0 {

@@ -4,7 +4,7 @@ use Rattle.std.proofs.Common.{Option, Some, None, Ok, Err, if◌then◌else◌, 
 use Rattle.mk_bytes.specs.Agrees.{◌>>=◌, AgreesErr}
 use Rattle.mk_bytes.specs.declared.pair.Pair.{Pair}
 use Rattle.mk_expand.specs.Locals.{local_raw, local_value, part_form, raw_named}
-use Rattle.mk_expand.specs.Names.{last_value, or_below, raw_above}
+use Rattle.mk_expand.specs.Names.{last_value, raw_above}
 use Rattle.mk_expand.specs.declared.local.Local.{Local}
 use Rattle.mk_expand.specs.declared.local.Locals.{Locals}
 use Rattle.mk_mods.specs.Modifiers.{apply}
@@ -23,6 +23,7 @@ use Rattle.mk_expand.specs.Texts.{of_tree}
 use Rattle.mk_expand.specs.declared.fault.ExpandFault.{ExpandFault}
 use Rattle.mk_expand.specs.declared.fault.ExpandFault.TheVariants.{Failed, NoMemory, TooLong}
 use Rattle.mk_expand.proofs.FactLemmas.{NeverFails}
+use Rattle.mk_expand.proofs.NeverLemmas.{below-never, where-never}
 
 pub never-of_tree : (fault : AstFault) → of_tree fault ≡ Failed → ⊥
 never-of_tree (ast.Unclosed at) is = cc
@@ -77,19 +78,9 @@ never-named locals name None = λ is. cc
 never-named locals name (Some form) =
     never-within (apply form.1 (plain (local_value locals form.0)))
 
-never-where : (some : Bool) (raw : Result (Option (List ℕ)) ExpandFault) → NeverFails raw
-    → NeverFails (if some then raw else Ok None)
-never-where true raw never = never
-never-where false raw never = λ is. cc
-
-never-below : (raw : Option (List ℕ)) (below : Result (Option (List ℕ)) ExpandFault)
-    → NeverFails below → NeverFails (or_below raw below)
-never-below None below never = never
-never-below (Some raw) below never = λ is. cc
-
 pub never-raw_above : (locals : Locals) (bound : List Pair) (name : List ℕ)
     → NeverFails (raw_above locals bound name)
 never-raw_above locals bound name =
-    never-below (last_value bound name) (local_raw locals name)
-    (never-where locals.some (raw_named locals name (part_form name))
+    below-never Failed (last_value bound name) (local_raw locals name)
+    (where-never Failed locals.some (raw_named locals name (part_form name))
     (never-named locals name (part_form name)))

@@ -3,8 +3,10 @@ pub mod ConditionLemmas
 mod ConditionRows
 pub mod FactLemmas
 pub mod FaultLemmas
+pub mod HeldLemmas
 pub mod LookLemmas
 pub mod NameLemmas
+pub mod NeverLemmas
 pub mod NewerLemmas
 pub mod OuterLemmas
 pub mod PlainLemmas

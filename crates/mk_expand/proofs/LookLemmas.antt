@@ -1,25 +1,24 @@
 -- Each step of an evaluation is the same where the raw values of the names that are looked up are.
-use Rattle.std.proofs.Common.{ℕ, zero, suc, Bool, nat_lt, List, [], ◌∷◌, Option, Some, None, Result, Ok, Err}
+use Rattle.std.proofs.Common.{ℕ, zero, suc, nat_lt, List, [], ◌∷◌, Option, Some, None, Err}
 use Rattle.mk_ast.specs.Tree as tree
 use Rattle.mk_ast.specs.Tree.{Tree, Part, Mods, end, part, plain, escaped, double, lone, short, ref}
 use Rattle.mk_ast.specs.Tree.{no_mods, mod_then}
 use Rattle.mk_cond.specs.Cond.{Cond, Conds, Side, any, all, negate, test, alone, both, no_more, cond_then}
-use Rattle.mk_cond.specs.Truth.{truth, compare}
 use Rattle.mk_cond.specs.declared.cond.CmpOp.{CmpOp}
 use Rattle.mk_cond.specs.declared.cond.Fun.{Fun}
 use Rattle.mk_cond.specs.declared.cond.Fun.TheVariants.{Defined, Make, Empty, Exists, Target, Commands}
 use Rattle.mk_mods.specs.Results.{no_results, with_result}
-use Rattle.mk_mods.specs.State.{State, words_of, text_of}
+use Rattle.mk_mods.specs.State.{State, words_of}
 use Rattle.mk_mods.specs.declared.modifier.Mod.{Mod}
-use Rattle.mk_mods.specs.declared.modifier.Mod.TheVariants.{Keep, Without, Select, Range, Suffix}
+use Rattle.mk_mods.specs.declared.modifier.Mod.TheVariants.{Keep, Without, Select, Range}
 use Rattle.mk_expand.specs.Chains as chain
 use Rattle.mk_expand.specs.Chains.{Chain, substitution, given_as, applied, with_state, name_condition}
 use Rattle.mk_expand.specs.Chains.{chain_of, undefined, defined_as}
 use Rattle.mk_expand.specs.Conditions as cond
 use Rattle.mk_expand.specs.Conditions.{trimmed, lone_reference}
-use Rattle.mk_expand.specs.Evaluators.{Counted, Finder, Progress, either, gives, tried, with_reference}
-use Rattle.mk_expand.specs.Limits.{appended, max_open, max_references}
-use Rattle.mk_expand.specs.Looks.{AgreeOn, ConditionsAreByNames, Raw, TreesAreByNames, with_raw}
+use Rattle.mk_expand.specs.Evaluators.{Counted, Finder, Progress, gives, with_reference}
+use Rattle.mk_expand.specs.Limits.{max_open, max_references}
+use Rattle.mk_expand.specs.Looks.{ConditionsAreByNames, Raw, TreesAreByNames, with_raw}
 use Rattle.mk_expand.specs.ModFaults.{with_fault}
 use Rattle.mk_expand.specs.Names.{Context, in_name, is_among, is_defined, last_value, or_below}
 use Rattle.mk_expand.specs.Names.{while_bound, while_open}
@@ -30,7 +29,6 @@ use Rattle.mk_expand.specs.Texts.{parsed}
 use Rattle.mk_expand.specs.Value as value
 use Rattle.mk_expand.specs.Value.{finder, found_at}
 use Rattle.mk_expand.specs.declared.chain.Found.{Found}
-use Rattle.mk_expand.specs.declared.fault.ExpandFault.{ExpandFault}
 use Rattle.mk_expand.specs.declared.fault.ExpandFault.TheVariants.{Recursive, TooDeep, TooManyReferences}
 use Rattle.mk_expand.proofs.SameLemmas.{Same, Same-gives, Same-tried, Same-looking, Same-either, Same-then}
 

@@ -1,10 +1,9 @@
 -- The raw value of a name.
-use Rattle.std.proofs.Common.{◌≡◌, ◌⊎◌, ◌||◌, ◌&&◌, Bool, true, false, ℕ, inl, inr, List, Option, Some, None}
+use Rattle.std.proofs.Common.{◌≡◌, ◌||◌, ◌&&◌, Bool, true, false, ℕ, inl, inr, List, Option, Some, None}
 use Rattle.std.proofs.Common.{Result, Ok, Err, is_some, if◌then◌else◌, refl, sym, ap, ◌∙◌}
 use Rattle.std.specs.Option.{option_map}
 use Rattle.mk_bytes.specs.Agrees.{AgreesErr, ◌>>=◌}
 use Rattle.mk_bytes.specs.declared.pair.Pair.{Pair}
-use Rattle.mk_expand.specs.Facts.{IsOutside}
 use Rattle.mk_expand.specs.Locals.{is_local, local_named, local_raw, local_value, part_form}
 use Rattle.mk_expand.specs.Locals.{part_value, raw_named}
 use Rattle.mk_expand.specs.Names.{has_value, known, last_value, or_below, raw_above, raw_in}

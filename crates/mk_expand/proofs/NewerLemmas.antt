@@ -1,17 +1,16 @@
 -- Which names stand for the sources that are newer.
 use Rattle.std.proofs.Common.{◌≡◌, ℕ, ◌==◌, ◌||◌, ◌&&◌, Bool, true, false, List, [], ◌∷◌, Option, Some, None}
-use Rattle.std.proofs.Common.{Result, Ok, Err, if◌then◌else◌, refl, sym, ap, ◌∙◌, codes}
+use Rattle.std.proofs.Common.{Ok, if◌then◌else◌, refl, sym, ap, ◌∙◌, codes}
 use Rattle.std.proofs.lemmas.Bool.{or_parts}
 use Rattle.std.specs.Str.{bytes_eq}
 use Rattle.std.specs.Option.{option_map}
 use Rattle.mk_bytes.specs.Agrees.{◌>>=◌}
-use Rattle.mk_expand.specs.Locals.{is_either, local_named, local_raw, local_value, of_part, part_form}
-use Rattle.mk_expand.specs.Locals.{part_named, part_value, raw_named}
+use Rattle.mk_expand.specs.Locals.{is_either, local_named, local_value, of_part, part_form}
+use Rattle.mk_expand.specs.Locals.{part_value, raw_named}
 use Rattle.mk_expand.specs.Looks.{AgreeOn, NewerDoNotCount, is_newer_name, looks_for_newer, with_newer}
 use Rattle.mk_expand.specs.Names.{context, known, raw_in}
 use Rattle.mk_expand.specs.Evaluators.{progress}
 use Rattle.mk_expand.specs.Value.{names}
-use Rattle.mk_expand.specs.declared.fault.ExpandFault.{ExpandFault}
 use Rattle.mk_expand.specs.declared.local.Local.{Local}
 use Rattle.mk_expand.specs.declared.local.Local.TheVariants.{Target, All, Implied, Prefix, Oodate}
 use Rattle.mk_expand.specs.declared.local.Locals.{Locals}

@@ -1,6 +1,6 @@
 -- One step of an evaluation.
 use Rattle.std.proofs.Common.{◌≡◌, ℕ, zero, suc, ◌+◌, ◌-◌, ◌<◌, ◌≤◌, inl, inr, true, false, List, [], ◌∷◌}
-use Rattle.std.proofs.Common.{Result, Ok, Err, length, drop, get_or, refl, sym, ap, ◌∙◌, arith}
+use Rattle.std.proofs.Common.{Err, length, drop, get_or, refl, sym, ap, ◌∙◌, arith}
 use Rattle.std.proofs.Common.{nat_lt}
 use Rattle.std.proofs.lemmas.Bool.Decides.{nat_tests}
 use Rattle.std.proofs.lemmas.List.{drop_more, at_drop_all}
@@ -8,7 +8,7 @@ use Rattle.mk_ast.specs.Tree.{Tree, end, part, plain}
 use Rattle.mk_ast.specs.Tree as tree
 use Rattle.mk_ast.specs.View.{part_view, tree_view}
 use Rattle.mk_ast.specs.declared.tree.Part.{Part}
-use Rattle.mk_expand.specs.Evaluators.{Counted, Finder, Progress, ◌>>=◌, gives, progress, tried}
+use Rattle.mk_expand.specs.Evaluators.{Finder, Progress, ◌>>=◌, gives, progress, tried}
 use Rattle.mk_expand.specs.declared.facts.Asked.{Asked}
 use Rattle.mk_expand.specs.Limits.{MayOpen, MayNotOpen, appended}
 use Rattle.mk_expand.specs.Names.{Context}

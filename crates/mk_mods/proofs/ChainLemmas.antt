@@ -7,7 +7,7 @@ use Rattle.std.proofs.lemmas.List.Sorted.{IsPermutation-reverse}
 use Rattle.mk_bytes.specs.Agrees.{AgreesErr}
 use Rattle.mk_pool.specs.declared.region.Piece.{Piece}
 use Rattle.mk_mods.specs.Limits.{or_bad_place}
-use Rattle.mk_mods.specs.Modifiers.{is_whole}
+use Rattle.mk_mods.specs.Steps.{is_whole}
 use Rattle.mk_mods.specs.Pieces.{texts_of, bytes_of, furthest, places_no_words, Shows}
 use Rattle.std.specs.Str.{bytes_eq}
 use Rattle.mk_mods.specs.Places.{from_to, ends, chosen}

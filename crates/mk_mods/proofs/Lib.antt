@@ -7,4 +7,5 @@ pub mod ReplaceLemmas
 pub mod ResultLemmas
 mod Rows
 pub mod SearchLemmas
+pub mod StepLemmas
 pub mod TextLemmas

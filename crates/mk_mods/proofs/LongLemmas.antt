@@ -2,7 +2,7 @@
 use Rattle.std.proofs.Common.{◌≡◌, ℕ, ◌+◌, ◌<◌, ◌≤◌, Bool, true, false, List, [], ◌∷◌, length, length-append, Option, Some, None, option_map, unwrap_or, Err, refl, ap, ◌∙◌, arith}
 use Rattle.std.proofs.lemmas.Bool.Decides.{nat_tests}
 use Rattle.mk_mods.specs.Limits.{max_text, total, fits, limited, AreTooLong}
-use Rattle.mk_mods.specs.Modifiers.{items}
+use Rattle.mk_mods.specs.Steps.{items_behind}
 use Rattle.mk_mods.specs.State.{State, joined, behind, filled, with_words, with_items}
 use Rattle.mk_mods.specs.declared.fault.ModFault.TheVariants.{TooLong}
 use Rattle.mk_mods.specs.declared.modifier.Mod.{Mod}
@@ -35,9 +35,9 @@ too_long state long =
     let no : fits state ≡ false = grind (arith, nat_tests, long, more) in
     rw no refl
 
-pub items_long : (modifier : Mod) (state : State) → AreTooLong (items modifier state)
-    → limited (Some (with_items state (items modifier state))) ≡ Err TooLong
-items_long modifier state long = too_long (with_items state (items modifier state)) long
+pub items_long : (modifier : Mod) (state : State) → AreTooLong (items_behind modifier state)
+    → limited (Some (with_items state (items_behind modifier state))) ≡ Err TooLong
+items_long modifier state long = too_long (with_items state (items_behind modifier state)) long
 
 with_words-long : (state : State) (words : List (List ℕ)) (one_word : Bool)
     → state.one_word ≡ one_word → max_text < total words

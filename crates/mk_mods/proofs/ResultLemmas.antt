@@ -1,6 +1,6 @@
 -- One more item behind the printed text.
 use Rattle.std.proofs.Common.{◌≡◌, ℕ, ◌+◌, ◌-◌, ◌≤◌, List, [], ◌∷◌, ◌++◌, length, Option, Some, None}
-use Rattle.std.proofs.Common.{SomeIff, sym, ap, ◌∙◌, append_assoc, length-append, arith}
+use Rattle.std.proofs.Common.{SomeIff, append_assoc, length-append, arith}
 use Rattle.std.proofs.lemmas.List.{append-nil}
 use Rattle.mk_mods.specs.State.{between, behind, joined}
 use Rattle.mk_mods.specs.declared.val.Separator.{Separator}

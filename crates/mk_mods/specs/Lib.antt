@@ -8,4 +8,5 @@ pub mod Places
 pub mod Quotes
 pub mod Results
 pub mod State
+pub mod Steps
 pub mod Substitution

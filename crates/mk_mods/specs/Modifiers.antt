@@ -17,72 +17,29 @@ use Rattle.mk_mods.specs.declared.val.Separator.TheVariants.{Byte, Nothing}
 use Rattle.mk_mods.specs.declared.modifier.Mod.{Mod}
 use Rattle.mk_mods.specs.declared.modifier.Mod.TheVariants.{Keep, Without, Subst, Suffix, Head, Tail, Root, Extension, Sort, SortBack, Unique, Lower, Upper, Quote, QuoteDollar, Separator, OneWord, ManyWords, Select, Range}
 
-abbrev pub sign_of : Option ℕ → Sign
-sign_of None = Nothing
-sign_of (Some byte) = Byte byte
+-- the words of a state, each changed, or some of them, or in another order
+abbrev pub on_words : (List (List ℕ) → List (List ℕ)) → State → Option State
+on_words change state = Some (with_words state (change (words_of state)))
 
--- whether a word matches a pattern, or with `false` whether it does not
-abbrev pub is_wanted : List ℕ → Bool → List ℕ → Bool
-is_wanted pattern matching word =
-    if matching then matches pattern word else not (matches pattern word)
+-- the words at places, and nothing where there are no such places
+abbrev pub at_places : (List (List ℕ) → Option (List (List ℕ))) → State → Option State
+at_places choose state = option_map (with_words state) (choose (words_of state))
 
--- What becomes of the words of a modifier that chooses, cuts or orders them. Others leave them.
-abbrev pub choice : Mod → List (List ℕ) → List (List ℕ)
-choice (Keep pattern) words = filter (is_wanted pattern true) words
-choice (Without pattern) words = filter (is_wanted pattern false) words
-choice Head words = map head words
-choice Tail words = map tail words
-choice Root words = map root words
-choice Extension words = map extension words
-choice Sort words = sorted words
-choice SortBack words = reverse (sorted words)
-choice Unique words = dedup bytes_eq words
-choice _ words = words
+-- The words of a state, or the printed text as the one word.
+abbrev pub words_or_text : Bool → State → List (List ℕ)
+words_or_text whole state = if whole then text_of state ∷ [] else words_of state
 
--- what becomes of the words of a modifier that changes some, or chooses among them
-abbrev pub change : Mod → List (List ℕ) → List (List ℕ)
-change (Subst from to at_start at_end all once whole) words =
-    words_changed once (substituted from to at_start at_end all) words
-change (Suffix from to) words = words_changed false (suffixed from to) words
-change modifier words = choice modifier words
+abbrev pub on_words_or_text : Bool → (List (List ℕ) → List (List ℕ)) → State → Option State
+on_words_or_text whole change state =
+    Some (with_words state (change (words_or_text whole state)))
 
-abbrev pub is_change : Mod → Bool
-is_change (Subst _ _ _ _ _ _ _) = true
-is_change (Suffix _ _) = true
-is_change _ = false
+-- the items of a state, each changed
+abbrev pub on_items : (List (List ℕ) → List (List ℕ)) → State → Option State
+on_items change state = Some (with_items state (change state.items))
 
--- What becomes of the words that a modifier works on, and nothing where it names no places.
-abbrev pub of_words : Mod → List (List ℕ) → Option (List (List ℕ))
-of_words (Select text) words = chosen text words
-of_words (Range text) words = counted text words
-of_words modifier words = Some (change modifier words)
-
-abbrev pub one_text : State → List (List ℕ)
-one_text state = text_of state ∷ []
-
-abbrev pub words_with : Bool → State → List (List ℕ)
-words_with whole state = if whole then one_text state else words_of state
-
--- with the flag `W` of `:S` the printed text is the one word
-abbrev pub is_whole : Mod → Bool
-is_whole (Subst _ _ _ _ _ _ whole) = whole
-is_whole _ = false
-
-abbrev pub quoted_text : Bool → List ℕ → List ℕ
-quoted_text dollars text = quoted (if dollars then doubled text else text)
-
--- what becomes of the items, each changed or all in place of one
-abbrev pub items : Mod → State → List (List ℕ)
-items Lower state = words_changed false (recased true) state.items
-items Upper state = words_changed false (recased false) state.items
-items Quote state = quoted_text false (text_of state) ∷ []
-items QuoteDollar state = quoted_text true (text_of state) ∷ []
-items _ state = one_text state
-
--- the state in which the words that a modifier works on are changed
-abbrev pub worked : Mod → State → Option State
-worked modifier state =
-    option_map (with_words state) (of_words modifier (words_with (is_whole modifier) state))
+-- the printed text, changed, as the one item
+abbrev pub on_text : (List ℕ → List ℕ) → State → Option State
+on_text change state = Some (with_items state (change (text_of state) ∷ []))
 
 abbrev pub with_flag : Bool → State → State
 with_flag flag state =
@@ -92,18 +49,35 @@ abbrev pub with_sign : Sign → State → State
 with_sign sign state =
     record { items = state.items; separator = sign; one_word = state.one_word }
 
+abbrev pub sign_of : Option ℕ → Sign
+sign_of None = Nothing
+sign_of (Some byte) = Byte byte
+
 -- The state behind a modifier, whatever the limit, and nothing where it names no places.
-abbrev pub changed : Mod → State → Option State
-changed Lower state = Some (with_items state (items Lower state))
-changed Upper state = Some (with_items state (items Upper state))
-changed Quote state = Some (with_items state (items Quote state))
-changed QuoteDollar state = Some (with_items state (items QuoteDollar state))
-changed OneWord state = Some (with_flag true (with_items state (items OneWord state)))
-changed ManyWords state = Some (with_flag false state)
-changed (Separator byte) state =
-    option_map (with_sign (sign_of byte)) (worked (Separator byte) state)
-changed modifier state = worked modifier state
+abbrev pub state_behind : Mod → State → Option State
+state_behind (Keep pattern) = on_words (filter (λ word. matches pattern word))
+state_behind (Without pattern) = on_words (filter (λ word. not (matches pattern word)))
+state_behind (Subst from to at_start at_end all once whole) =
+    on_words_or_text whole (words_changed once (substituted from to at_start at_end all))
+state_behind (Suffix from to) = on_words (words_changed false (suffixed from to))
+state_behind Head = on_words (map head)
+state_behind Tail = on_words (map tail)
+state_behind Root = on_words (map root)
+state_behind Extension = on_words (map extension)
+state_behind Sort = on_words sorted
+state_behind SortBack = on_words (λ words. reverse (sorted words))
+state_behind Unique = on_words (dedup bytes_eq)
+state_behind Lower = on_items (words_changed false (recased true))
+state_behind Upper = on_items (words_changed false (recased false))
+state_behind Quote = on_text quoted
+state_behind QuoteDollar = on_text (λ text. quoted (doubled text))
+state_behind (Separator byte) = λ state.
+    option_map (with_sign (sign_of byte)) (on_words (λ words. words) state)
+state_behind OneWord = λ state. option_map (with_flag true) (on_text (λ text. text) state)
+state_behind ManyWords = λ state. Some (with_flag false state)
+state_behind (Select text) = at_places (chosen text)
+state_behind (Range text) = at_places (counted text)
 
 -- The state behind a modifier, or its fault.
 abbrev pub apply : Mod → State → Result State ModFault
-apply modifier state = limited (changed modifier state)
+apply modifier state = limited (state_behind modifier state)

@@ -7,6 +7,7 @@ ghost use Rattle.mk_mods.specs.Limits.{or_bad_place, limited, IsEarly, AreTooLon
 ghost use Rattle.mk_mods.specs.Modifiers as spec;
 ghost use Rattle.mk_mods.specs.Places as places;
 ghost use Rattle.mk_mods.specs.State as state;
+ghost use Rattle.mk_mods.specs.Steps as steps;
 ghost use Rattle.mk_mods.specs.Pieces.{seen, end_of, bytes_of, texts_of, furthest, has_words};
 ghost use Rattle.mk_mods.specs.Pieces.{places_no_words, places_nothing, Shows, Begins};
 ghost use Rattle.mk_mods.specs.declared.fault.ModFault.TheVariants.{
@@ -50,7 +51,7 @@ fn one_piece(alloc: Global, region: &mut Region, val: &Val) -> Result<Piece, NoM
 fn one_word(alloc: Global, region: &mut Region, val: &Val) -> Result<Vec<Piece>, NoMemory>
     requires { end_of val.now ≤ length region.old.bytes }
     ensures shown { IfOk result (λ words.
-        Shows region.new.bytes words.items (spec.one_text (seen region.old.bytes val.now))) }
+        Shows region.new.bytes words.items (steps.one_text (seen region.old.bytes val.now))) }
     ensures begins { Begins region.old.bytes region.new.bytes }
     ensures unchanged { length val.now.pieces.items ≤ 1 → region.new.bytes ≡ region.old.bytes }
 {
@@ -60,7 +61,7 @@ fn one_word(alloc: Global, region: &mut Region, val: &Val) -> Result<Vec<Piece>,
 }
 
 // The words that a modifier works on.
-fn words_for(
+fn words_or_text(
     alloc: Global,
     region: &mut Region,
     val: &Val,
@@ -68,7 +69,7 @@ fn words_for(
 ) -> Result<Vec<Piece>, NoMemory>
     requires { end_of val.now ≤ length region.old.bytes }
     ensures shown { IfOk result (λ words. Shows region.new.bytes words.items
-        (spec.words_with whole (seen region.old.bytes val.now))) }
+        (spec.words_or_text whole (seen region.old.bytes val.now))) }
     ensures begins { Begins region.old.bytes region.new.bytes }
     ensures unchanged { whole ≡ false → IsTrue (has_words val.now)
         → region.new.bytes ≡ region.old.bytes }
@@ -81,7 +82,7 @@ fn words_for(
 }
 
 // What becomes of words that are chosen, cut or ordered.
-fn choose(
+fn picked(
     alloc: Global,
     region: &Region,
     modifier: &Mod,
@@ -89,7 +90,7 @@ fn choose(
 ) -> Result<Vec<Piece>, NoMemory>
     requires { furthest words.items ≤ length region.now.bytes }
     ensures { IfOk result (λ new. Shows region.now.bytes new.items
-        (spec.choice modifier.now (texts_of region.now.bytes words.items))) }
+        (steps.picked modifier.now (texts_of region.now.bytes words.items))) }
 {
     match modifier {
         Mod::Keep(pattern) => Ok(matching(region, pattern.bytes(), true, words)),
@@ -152,7 +153,7 @@ fn range(
     Ok(place_numbers(alloc, region, count)?)
 }
 
-fn change(
+fn replaced_or_picked(
     alloc: Global,
     region: &mut Region,
     modifier: &Mod,
@@ -160,12 +161,12 @@ fn change(
 ) -> Result<Vec<Piece>, ModFault>
     requires { furthest words.items ≤ length region.old.bytes }
     ensures shown { IfOk result (λ new. Shows region.new.bytes new.items
-        (spec.change modifier.now (texts_of region.old.bytes words.items))) }
+        (steps.replaced_or_picked modifier.now (texts_of region.old.bytes words.items))) }
     ensures begins { Begins region.old.bytes region.new.bytes }
     ensures long { result ≡ Err too_long
-        → AreTooLong (spec.change modifier.now (texts_of region.old.bytes words.items)) }
+        → AreTooLong (steps.replaced_or_picked modifier.now (texts_of region.old.bytes words.items)) }
     ensures early { IfErr result IsEarly }
-    ensures unchanged { spec.is_change modifier.now ≡ false → region.new.bytes ≡ region.old.bytes }
+    ensures unchanged { steps.replaces modifier.now ≡ false → region.new.bytes ≡ region.old.bytes }
 {
     match modifier {
         Mod::Subst {
@@ -193,12 +194,12 @@ fn change(
             };
             change_words(alloc, region, change, false, words.as_slice())
         }
-        _ => Ok(choose(alloc, region, modifier, words)?),
+        _ => Ok(picked(alloc, region, modifier, words)?),
     }
 }
 
 // What becomes of the words that a modifier works on.
-fn of_words(
+fn words_behind(
     alloc: Global,
     region: &mut Region,
     modifier: &Mod,
@@ -206,10 +207,10 @@ fn of_words(
 ) -> Result<Vec<Piece>, ModFault>
     requires { furthest words.items ≤ length region.old.bytes }
     ensures shown { AgreesBut IsEarly (λ new. texts_of region.new.bytes new.items) result
-        (or_bad_place (spec.of_words modifier.now (texts_of region.old.bytes words.items))) }
+        (or_bad_place (steps.words_behind modifier.now (texts_of region.old.bytes words.items))) }
     ensures long { result ≡ Err too_long
         → AreTooLong (unwrap_or
-        (spec.of_words modifier.now (texts_of region.old.bytes words.items)) []) }
+        (steps.words_behind modifier.now (texts_of region.old.bytes words.items)) []) }
     ensures within { IfOk result (λ new. furthest new.items ≤ length region.new.bytes) }
     ensures begins { Begins region.old.bytes region.new.bytes }
     ensures unchanged { IsTrue (places_no_words modifier.now)
@@ -218,7 +219,7 @@ fn of_words(
     match modifier {
         Mod::Select(text) => select(alloc, region, text.bytes(), words.as_slice()),
         Mod::Range(text) => range(alloc, region, text.bytes(), words.as_slice()),
-        _ => change(alloc, region, modifier, words),
+        _ => replaced_or_picked(alloc, region, modifier, words),
     }
 }
 
@@ -241,7 +242,7 @@ fn with_words(region: &Region, separator: Separator, one_word: bool, words: Vec<
 }
 
 fn is_whole(modifier: &Mod) -> bool
-    ensures { result ≡ spec.is_whole modifier.now }
+    ensures { result ≡ steps.is_whole modifier.now }
 {
     match modifier {
         Mod::Subst { whole, .. } => *whole,
@@ -250,19 +251,24 @@ fn is_whole(modifier: &Mod) -> bool
 }
 
 // The state in which the words that a modifier works on are changed.
-fn worked(alloc: Global, region: &mut Region, val: Val, modifier: &Mod) -> Result<Val, ModFault>
+fn with_words_behind(
+    alloc: Global,
+    region: &mut Region,
+    val: Val,
+    modifier: &Mod,
+) -> Result<Val, ModFault>
     requires { end_of val ≤ length region.old.bytes }
     ensures shown { AgreesBut IsEarly (seen region.new.bytes) result
-        (or_bad_place (spec.worked modifier.now (seen region.old.bytes val))) }
+        (or_bad_place (steps.with_words_behind modifier.now (seen region.old.bytes val))) }
     ensures long { result ≡ Err too_long
-        → limited (spec.worked modifier.now (seen region.old.bytes val)) ≡ Err too_long }
+        → limited (steps.with_words_behind modifier.now (seen region.old.bytes val)) ≡ Err too_long }
     ensures within { IfOk result (λ new. end_of new ≤ length region.new.bytes) }
     ensures begins { Begins region.old.bytes region.new.bytes }
     ensures unchanged { IsTrue (places_no_words modifier.now) → IsTrue (has_words val)
         → region.new.bytes ≡ region.old.bytes }
 {
-    let words = words_for(alloc, region, &val, is_whole(modifier))?;
-    let words = of_words(alloc, region, modifier, words)?;
+    let words = words_or_text(alloc, region, &val, is_whole(modifier))?;
+    let words = words_behind(alloc, region, modifier, words)?;
     Ok(with_words(region, val.separator, val.one_word, words))
 }
 
@@ -274,7 +280,7 @@ fn quote(
     dollars: bool,
 ) -> Result<Vec<Piece>, NoMemory>
     ensures shown { IfOk result (λ items. Shows region.new.bytes items.items
-        (spec.quoted_text dollars (state.text_of (seen region.old.bytes val.now)) ∷ [])) }
+        (steps.quoted_text dollars (state.text_of (seen region.old.bytes val.now)) ∷ [])) }
     ensures begins { Begins region.old.bytes region.new.bytes }
 {
     let mut text = text(alloc, region, val)?;
@@ -296,7 +302,7 @@ fn sign_of(byte: Option<u8>) -> Separator
 }
 
 // The items of the text, where a modifier changes it as a whole.
-fn items(
+fn items_behind(
     alloc: Global,
     region: &mut Region,
     val: &Val,
@@ -304,9 +310,9 @@ fn items(
 ) -> Result<Vec<Piece>, ModFault>
     requires { end_of val.now ≤ length region.old.bytes }
     ensures shown { IfOk result (λ items. Shows region.new.bytes items.items
-        (spec.items modifier.now (seen region.old.bytes val.now))) }
+        (steps.items_behind modifier.now (seen region.old.bytes val.now))) }
     ensures long { result ≡ Err too_long
-        → limited (spec.changed modifier.now (seen region.old.bytes val.now)) ≡ Err too_long }
+        → limited (steps.state_by_steps modifier.now (seen region.old.bytes val.now)) ≡ Err too_long }
     ensures early { IfErr result IsEarly }
     ensures begins { Begins region.old.bytes region.new.bytes }
 {
@@ -321,12 +327,17 @@ fn items(
 }
 
 // The state behind a modifier, whatever the limit.
-fn changed(alloc: Global, region: &mut Region, val: Val, modifier: &Mod) -> Result<Val, ModFault>
+fn state_behind(
+    alloc: Global,
+    region: &mut Region,
+    val: Val,
+    modifier: &Mod,
+) -> Result<Val, ModFault>
     requires { end_of val ≤ length region.old.bytes }
     ensures shown { AgreesBut IsEarly (seen region.new.bytes) result
-        (or_bad_place (spec.changed modifier.now (seen region.old.bytes val))) }
+        (or_bad_place (steps.state_by_steps modifier.now (seen region.old.bytes val))) }
     ensures long { result ≡ Err too_long
-        → limited (spec.changed modifier.now (seen region.old.bytes val)) ≡ Err too_long }
+        → limited (steps.state_by_steps modifier.now (seen region.old.bytes val)) ≡ Err too_long }
     ensures within { IfOk result (λ new. end_of new ≤ length region.new.bytes) }
     ensures begins { Begins region.old.bytes region.new.bytes }
     ensures unchanged { IsTrue (places_nothing modifier.now val)
@@ -334,11 +345,11 @@ fn changed(alloc: Global, region: &mut Region, val: Val, modifier: &Mod) -> Resu
 {
     match modifier {
         Mod::Lower | Mod::Upper | Mod::Quote | Mod::QuoteDollar => {
-            let pieces = items(alloc, region, &val, modifier)?;
+            let pieces = items_behind(alloc, region, &val, modifier)?;
             Ok(Val { pieces, ..val })
         }
         Mod::OneWord => {
-            let pieces = items(alloc, region, &val, modifier)?;
+            let pieces = items_behind(alloc, region, &val, modifier)?;
             Ok(Val {
                 pieces,
                 separator: val.separator,
@@ -350,13 +361,13 @@ fn changed(alloc: Global, region: &mut Region, val: Val, modifier: &Mod) -> Resu
             ..val
         }),
         Mod::Separator(byte) => {
-            let words = words_for(alloc, region, &val, false)?;
+            let words = words_or_text(alloc, region, &val, false)?;
             Ok(Val {
                 separator: sign_of(*byte),
                 ..with_words(region, val.separator, val.one_word, words)
             })
         }
-        _ => worked(alloc, region, val, modifier),
+        _ => with_words_behind(alloc, region, val, modifier),
     }
 }
 
@@ -364,6 +375,7 @@ fn changed(alloc: Global, region: &mut Region, val: Val, modifier: &Mod) -> Resu
 /// 4,194,304 bytes, and `BadPlace` exactly where the text of `:[..]` or `:range=` is none of the
 /// stated forms. The state is given up on a refusal. Old bytes of the region stay its beginning,
 /// after refusals too.
+#[tactic(auto, using(crate::proofs::StepLemmas::steps_are_rows))]
 pub fn apply(alloc: Global, region: &mut Region, val: Val, modifier: &Mod) -> Result<Val, ModFault>
     requires { end_of val ≤ length region.old.bytes }
     ensures state { Agrees no_memory (seen region.new.bytes) result
@@ -375,9 +387,9 @@ pub fn apply(alloc: Global, region: &mut Region, val: Val, modifier: &Mod) -> Re
     ensures unchanged { IsTrue (places_nothing modifier.now val)
         → region.new.bytes ≡ region.old.bytes }
 {
-    let changed = changed(alloc, region, val, modifier)?;
-    if !has_fitting_text(region, &changed) {
+    let new = state_behind(alloc, region, val, modifier)?;
+    if !has_fitting_text(region, &new) {
         return Err(ModFault::TooLong);
     }
-    Ok(changed)
+    Ok(new)
 }

@@ -1,9 +1,9 @@
 //! The choice of words: by a pattern, and of those that are not empty.
 ghost use Rattle.std.specs.Prelude.{◌≡◌, ◌≤◌, length};
 ghost use Rattle.std.specs.List.{filter};
-ghost use Rattle.mk_mods.specs.Modifiers as spec;
 ghost use Rattle.mk_mods.specs.State.{filled};
 ghost use Rattle.mk_mods.specs.Pieces.{texts_of, furthest, Shows};
+ghost use Rattle.mk_mods.specs.Steps as steps;
 
 use crate::piece::shown;
 use mk_glob::matches;
@@ -22,7 +22,7 @@ pub fn keep_filled(region: &Region, words: &mut Vec<Piece>)
 pub fn matching(region: &Region, pattern: &[u8], wanted: bool, words: Vec<Piece>) -> Vec<Piece>
     requires { furthest words.items ≤ length region.now.bytes }
     ensures { Shows region.now.bytes result.items
-        (filter (spec.is_wanted pattern.now wanted) (texts_of region.now.bytes words.items)) }
+        (filter (steps.is_wanted pattern.now wanted) (texts_of region.now.bytes words.items)) }
 {
     let mut kept = words;
     kept.retain(|word| matches(pattern, shown(region, *word)) == wanted);

@@ -19,11 +19,11 @@ use Rattle.mk_expand.proofs.FactLemmas.{Keeps-then, Extends-then, fault_of_all, 
 use Rattle.mk_expand.proofs.FaultLemmas.{never-appended, never-raw_above, err_never, fault_never}
 use Rattle.mk_expand.specs.Evaluators.{gives}
 use Rattle.mk_expand.specs.Outer.{leaf_truth, step_size, weight}
-use Rattle.mk_expand.proofs.NameLemmas.{raw_of-above, raw_of-fault, raw_of-known}
+use Rattle.mk_expand.proofs.NameLemmas.{raw_of-above, raw_of-fault}
 use Rattle.mk_expand.proofs.OuterLemmas.{fault_inside, round_all-inside, round_all-push, weight-push}
 use Rattle.mk_expand.proofs.PlainLemmas.{opened_value-plain}
 use Rattle.mk_expand.proofs.PlainLemmas.{side_value-plain, text_value-plain, tree_value-plain}
-use Rattle.mk_expand.proofs.PlainLemmas.{variable-plain, variable-fault, variable-raw, variable-none}
+use Rattle.mk_expand.proofs.PlainLemmas.{variable-plain, variable-fault}
 use Rattle.mk_expand.proofs.ValueLemmas.{joined-part, joined-end, joined-new, joined-new-end}
 use Rattle.mk_expand.proofs.ValueLemmas.{found-not, found-may, old_text_start}
 use Rattle.mk_expand.proofs.+value.Goals as goal

@@ -41,7 +41,7 @@ returns-in_err-condition-clause-does g c =
     (if-counted ties c.args.file.now c.args.loops.now c.args.depth c.args.line.now q
     c.args.language.now
     c.args.count.now c.count_line.new.count c.in_ok-count_line.ensures.ok)
-    c.in_err-condition.ensures)
+    (c.in_err-condition.ensures c.count_line.new.count))
 
 pub returns-then-branch-clause-does : goal.returns-then-branch-clause-does
 returns-then-branch-clause-does g c =
@@ -54,7 +54,7 @@ returns-then-branch-clause-does g c =
     _ (if-true ties c.args.file.now c.args.loops.now c.args.depth c.args.line.now q
     c.args.language.now c.args.count.now c.condition.new.language c.count_line.new.count _
     c.if-branch.true)
-    c.in_ok-condition.ensures
+    (c.in_ok-condition.ensures c.count_line.new.count)
 
 pub branches-init : goal.branches-init
 branches-init g c =
@@ -68,7 +68,7 @@ branches-init g c =
           tt (if-false ties c.args.file.now c.args.loops.now c.args.depth c.args.line.now q
           c.args.language.now c.args.count.now c.condition.new.language c.count_line.new.count _
           c.if-branch.false)
-          c.in_ok-condition.ensures;
+          (c.in_ok-condition.ensures c.count_line.new.count);
       behind = refl;
       shorter = omega arith;
       later = omega (arith, c.in_ok-count_line.ensures.ok.1);
@@ -174,7 +174,7 @@ returns-in_err-condition-2-clause-does g c =
     (branch-counted ties c.args.file.now c.args.loops.now c.args.depth l p c.branches.language
     c.branches.count endings next c.count_line-in-branches.new.count
     c.in_ok-count_line-2.ensures.ok)
-    c.in_err-condition-2.ensures))
+    (c.in_err-condition-2.ensures c.count_line-in-branches.new.count)))
 
 pub returns-then-branch-3-clause-does : goal.returns-then-branch-3-clause-does
 returns-then-branch-3-clause-does g c =
@@ -195,7 +195,7 @@ returns-then-branch-3-clause-does g c =
     _ (if-true ties c.args.file.now c.args.loops.now c.args.depth l p c.branches.language
     c.branches.count c.condition-in-branches.new.language c.count_line-in-branches.new.count _
     c.if-branch-3.true)
-    c.in_ok-condition-2.ensures)
+    (c.in_ok-condition-2.ensures c.count_line-in-branches.new.count))
 
 pub returns-then-branch-3-clause-behind : goal.returns-then-branch-3-clause-behind
 unfolding skips.outside_of
@@ -231,7 +231,7 @@ branches-preserved-else-branch-3 g c =
           tt (if-false ties c.args.file.now c.args.loops.now c.args.depth l p c.branches.language
           c.branches.count c.condition-in-branches.new.language c.count_line-in-branches.new.count _
           c.if-branch-3.false)
-          c.in_ok-condition-2.ensures);
+          (c.in_ok-condition-2.ensures c.count_line-in-branches.new.count));
       behind = behind-branch endings (false, l) p next ∙ c.branches.invariant.behind;
       shorter = omega (arith, c.in_ok-branch.ensures.shorter);
       later = omega (arith, c.in_ok-count_line-2.ensures.ok.1);
@@ -257,7 +257,7 @@ branches-preserved g c =
           tt (if-false ties c.args.file.now c.args.loops.now c.args.depth l p c.branches.language
           c.branches.count c.condition-in-branches.new.language c.count_line-in-branches.new.count _
           c.if-branch-3.false)
-          c.in_ok-condition-2.ensures);
+          (c.in_ok-condition-2.ensures c.count_line-in-branches.new.count));
       behind = behind-branch endings (false, l) p next ∙ c.branches.invariant.behind;
       shorter = omega (arith, c.in_ok-branch.ensures.shorter);
       later = omega (arith, c.in_ok-count_line-2.ensures.ok.1);

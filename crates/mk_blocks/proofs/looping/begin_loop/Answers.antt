@@ -32,7 +32,7 @@ returns-in_err-header-clause-does g c =
     c.args.count.now)
     (for-counted ties c.args.file.now place.loops place.depth c.args.line.now q c.args.language.now
     c.args.count.now c.count_line.new.count c.in_ok-count_line.ensures.ok)
-    c.in_err-header.ensures)
+    (c.in_err-header.ensures c.count_line.new.count))
 
 pub enter_loop-requires-clause-inside : goal.enter_loop-requires-clause-inside
 enter_loop-requires-clause-inside g c =
@@ -53,7 +53,8 @@ returns-in_err-enter_loop-clause-does g c =
     c.args.count.now)
     (for-counted ties c.args.file.now place.loops place.depth c.args.line.now q c.args.language.now
     c.args.count.now c.count_line.new.count c.in_ok-count_line.ensures.ok)
-    c.in_ok-header.ensures (Does-err ties sorted c.in_err-enter_loop.ensures.does))
+    (c.in_ok-header.ensures c.count_line.new.count)
+    (Does-err ties sorted c.in_err-enter_loop.ensures.does))
 
 pub returns-clause-does : goal.returns-clause-does
 returns-clause-does g c =
@@ -65,4 +66,5 @@ returns-clause-does g c =
     c.args.count.now)
     (for-counted ties c.args.file.now place.loops place.depth c.args.line.now q c.args.language.now
     c.args.count.now c.count_line.new.count c.in_ok-count_line.ensures.ok)
-    c.in_ok-header.ensures (Does-ok ties sorted _ (λ answers. refl) c.in_ok-enter_loop.ensures.does)
+    (c.in_ok-header.ensures c.count_line.new.count)
+    (Does-ok ties sorted _ (λ answers. refl) c.in_ok-enter_loop.ensures.does)

@@ -79,5 +79,5 @@ returns-clause-does g c =
 pub returns-clause-place : goal.returns-clause-place
 returns-clause-place g c =
     let ties = g.L.Language.ties in
-    begun-place ties c.args.file.now c.in_ok-begin_turn.ensures
+    begun-place ties.kind c.in_ok-begin_turn.ensures
     (rw c.copy.ensures c.requires.inside) (rw c.copy.ensures c.requires.fits)

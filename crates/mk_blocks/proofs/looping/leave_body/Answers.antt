@@ -14,16 +14,16 @@ use Rattle.mk_blocks.proofs.TurnLemmas.{next-turns, other-turn}
 use Rattle.mk_blocks.proofs.looping.leave_body.Goals as goal
 
 pub returns-in_default-clause-does : goal.returns-in_default-clause-does
-returns-in_default-clause-does g c =
+returns-in_default-clause-does g c = λ file language.
     let ties = g.L.Language.ties in
-    Does-here ties sorted c.args.language.now _ _
+    Does-here ties sorted language _ _
     (λ answers. rw c.in_default.ensures.none
-    (outside-none (ties.meaning answers) (files_in ties c.args.file.now answers)
-    c.args.file.now.name.now
-    ties.kind (after c.args.goes_on (run_at (ties.state c.args.language.now) c.args.count.now))))
+    (outside-none (ties.meaning answers) (files_in ties file answers)
+    file.name.now
+    ties.kind (after c.args.goes_on (run_at (ties.state language) c.args.count.now))))
 
 pub returns-in_err-count_line-clause-does : goal.returns-in_err-count_line-clause-does
-returns-in_err-count_line-clause-does g c =
+returns-in_err-count_line-clause-does g c = λ file language.
     let ties = g.L.Language.ties in
     let place = c.args.place.now in
     let e = c.in-Some.entered in
@@ -32,38 +32,38 @@ returns-in_err-count_line-clause-does g c =
     let more = sym c.has_next.ensures ∙ c.if-has_next.true in
     let p = err_from_is_err_and c.from_residual.result c.from_residual.ensures.1 in
     rw (p.1, p.2)
-    (Does-refuse ties sorted c.args.language.now TooManyLines TooManyLines _ refl
-    (λ answers. ap (λ loops. behind_left ties c.args.file.now loops c.args.goes_on
-    c.args.language.now
+    (Does-refuse ties sorted language TooManyLines TooManyLines _ refl
+    (λ answers. ap (λ loops. behind_left ties file loops c.args.goes_on
+    language
     c.args.count.now answers) popped
-    ∙ ends-turn ties c.args.file.now e outer c.args.goes_on c.args.language.now c.args.count.now
+    ∙ ends-turn ties file e outer c.args.goes_on language c.args.count.now
     more answers
-    ∙ turn-full ties c.args.file.now outer e.depth (parse ties.kind e.body) (turns_behind e) _ _
-    c.args.language.now c.args.count.now (other-turn e c.args.goes_on more)
+    ∙ turn-full ties file outer e.depth (parse ties.kind e.body) (turns_behind e) _ _
+    language c.args.count.now (other-turn e c.args.goes_on more)
     c.in_err-count_line.ensures.err
     answers))
 
 pub returns-in_err-begin_turn-clause-does : goal.returns-in_err-begin_turn-clause-does
-returns-in_err-begin_turn-clause-does g c =
+returns-in_err-begin_turn-clause-does g c = λ file language.
     let p = err_from_is_err_and c.from_residual-in_err-begin_turn.result
     c.from_residual-in_err-begin_turn.ensures.1 in
     rw (p.1, p.2) (Does-want g.L.Language.ties sorted _ _ _ refl)
 
 pub returns-then-has_next-clause-does : goal.returns-then-has_next-clause-does
-returns-then-has_next-clause-does g c =
+returns-then-has_next-clause-does g c = λ file language.
     let ties = g.L.Language.ties in
     let place = c.args.place.now in
     let e = c.in-Some.entered in
     let outer = c.pop.new.self in
     let popped = c.in-Some.ensures.some in
     let more = sym c.has_next.ensures ∙ c.if-has_next.true in
-    Does-here ties sorted c.args.language.now _ _
-    (λ answers. ap (λ loops. behind_left ties c.args.file.now loops c.args.goes_on
-    c.args.language.now
+    Does-here ties sorted language _ _
+    (λ answers. ap (λ loops. behind_left ties file loops c.args.goes_on
+    language
     c.args.count.now answers) popped
-    ∙ ends-turn ties c.args.file.now e outer c.args.goes_on c.args.language.now c.args.count.now
+    ∙ ends-turn ties file e outer c.args.goes_on language c.args.count.now
     more answers
-    ∙ turn-left ties c.args.file.now outer e.depth e.body (turns_behind e) c.args.language.now
+    ∙ turn-left ties file outer e.depth e.body (turns_behind e) language
     c.args.count.now c.count_line.new.count c.in_ok-begin_turn.ensures refl c.next_turn.ensures.body
     c.next_turn.ensures.depth (next-turns e c.next_turn.result c.args.goes_on c.next_turn.ensures
     more)
@@ -79,7 +79,7 @@ returns-then-has_next-clause-place g c =
     let behind = subst (λ loops. IsBehind ties.kind loops
     (parse ties.kind place.cursor)) popped c.requires.behind in
     let fits = subst (λ loops. FitsBehind loops (length place.cursor)) popped c.requires.fits in
-    begun-place ties c.args.file.now c.in_ok-begin_turn.ensures
+    begun-place ties.kind c.in_ok-begin_turn.ensures
     (rw (c.next_turn.ensures.depth, c.next_turn.ensures.body) behind.1)
     (rw (c.next_turn.ensures.depth, c.next_turn.ensures.body) fits.1)
 
@@ -108,7 +108,7 @@ returns-then-has_next-clause-falls g c =
     )
 
 pub returns-clause-does : goal.returns-clause-does
-returns-clause-does g c =
+returns-clause-does g c = λ file language.
     let ties = g.L.Language.ties in
     let place = c.args.place.now in
     let e = c.in-Some.entered in
@@ -117,13 +117,13 @@ returns-clause-does g c =
     let behind = subst (λ loops. IsBehind ties.kind loops
     (parse ties.kind place.cursor)) popped c.requires.behind in
     let fits = subst (λ loops. FitsBehind loops (length place.cursor)) popped c.requires.fits in
-    Does-here ties sorted c.args.language.now _ _
-    (λ answers. ap (λ loops. behind_left ties c.args.file.now loops c.args.goes_on
-    c.args.language.now
+    Does-here ties sorted language _ _
+    (λ answers. ap (λ loops. behind_left ties file loops c.args.goes_on
+    language
     c.args.count.now answers) popped
-    ∙ ends-loop ties c.args.file.now e outer c.args.goes_on c.args.language.now c.args.count.now
+    ∙ ends-loop ties file e outer c.args.goes_on language c.args.count.now
     (sym c.has_next.ensures ∙ c.if-has_next.false) answers
-    ∙ ap (λ q. left_in ties c.args.file.now outer e.depth q c.args.language.now c.args.count.now
+    ∙ ap (λ q. left_in ties file outer e.depth q language c.args.count.now
     answers)
     (sym behind.0))
 

@@ -9,13 +9,13 @@ use Rattle.mk_blocks.proofs.TieLemmas.{Does-here, Does-refuse, Does-want}
 use Rattle.mk_blocks.proofs.looping.stop.Goals as goal
 
 pub returns-in_err-count_line-clause-does : goal.returns-in_err-count_line-clause-does
-returns-in_err-count_line-clause-does g c =
+returns-in_err-count_line-clause-does g c = λ line.
     let ties = g.L.Language.ties in
     let p = err_from_is_err_and c.from_residual.result c.from_residual.ensures.1 in
     let place = c.args.place.now in
     rw (p.1, p.2)
     (Does-refuse ties sorted c.args.language.now TooManyLines TooManyLines _ refl
-    (stop-full ties c.args.file.now place.loops place.depth c.args.line.now
+    (stop-full ties c.args.file.now place.loops place.depth line
     (parse ties.kind place.cursor)
     c.args.language.now c.args.count.now c.in_err-count_line.ensures.err))
 
@@ -26,17 +26,17 @@ skip_block-requires g c =
     omega (arith, few)
 
 pub returns-in_err-skip_block-clause-does : goal.returns-in_err-skip_block-clause-does
-returns-in_err-skip_block-clause-does g c =
+returns-in_err-skip_block-clause-does g c = λ line.
     let p = err_from_is_err_and c.from_residual-in_err-skip_block.result
     c.from_residual-in_err-skip_block.ensures.1 in
     rw (p.1, p.2) (Does-want g.L.Language.ties sorted _ _ _ refl)
 
 pub returns-clause-does : goal.returns-clause-does
-returns-clause-does g c =
+returns-clause-does g c = λ line.
     let ties = g.L.Language.ties in
     let place = c.args.place.now in
     Does-here ties sorted c.args.language.now _ _
-    (stop-counted ties c.args.file.now place.loops place.depth c.args.line.now
+    (stop-counted ties c.args.file.now place.loops place.depth line
     (parse ties.kind place.cursor)
     c.args.language.now c.args.count.now c.count_line.new.count c.in_ok-count_line.ensures.ok)
 

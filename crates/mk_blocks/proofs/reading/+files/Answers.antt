@@ -1,19 +1,21 @@
 use Rattle.std.proofs.Common.{◌≡◌, ◌+◌, length, Some, None, slice_get, refl, sym, ap, ◌∙◌, arith}
 use Rattle.std.proofs.Common.{rules}
 use Rattle.std.proofs.lemmas.Result.{err_from_is_err_and}
-use Rattle.mk_blocks.specs.Blocks.{closed, is_closer, parse}
-use Rattle.mk_blocks.specs.Calls.{files_in, left_in, Stands}
+use Rattle.mk_blocks.specs.Blocks.{closed, is_closer, parse, put}
+use Rattle.mk_blocks.specs.Calls.{begins_branch, files_in, left_in, Stands}
 use Rattle.mk_blocks.specs.Runs.{run_at}
 use Rattle.mk_blocks.specs.Outcomes.{◌>>=◌}
 use Rattle.mk_blocks.specs.Places as places
 use Rattle.mk_blocks.specs.Ties.{sorted}
 use Rattle.mk_blocks.specs.declared.fault.FileFault.TheVariants.{TooManyLines, TooManyFiles}
+use Rattle.mk_blocks.specs.declared.kind.LineKind.TheVariants.{Break}
 use Rattle.mk_blocks.specs.declared.place.Place.{Place}
-use Rattle.mk_blocks.proofs.ClosingLemmas.{closed-behind, closer-ends, leaves-reached, left-leaves}
+use Rattle.mk_blocks.proofs.ClosingLemmas.{branch-ends, closed-behind, closer-ends, leaves-reached}
+use Rattle.mk_blocks.proofs.ClosingLemmas.{left-leaves, passed-branch}
 use Rattle.mk_blocks.proofs.LineLemmas.{file-counted, file-full, file-none, file_next}
 use Rattle.mk_blocks.proofs.IncludeLemmas.{file-read, file-refused, read_next}
 use Rattle.mk_blocks.proofs.FileLemmas.{Closes-does, checked_next, closed_next, file-checked}
-use Rattle.mk_blocks.proofs.FitLemmas.{Fits-behind, Fits-less, IsBehind-same, IsInside-same}
+use Rattle.mk_blocks.proofs.FitLemmas.{Fits-behind, Fits-few, Fits-less, IsBehind-same, IsInside-same}
 use Rattle.mk_blocks.proofs.PlaceLemmas.{left-none}
 use Rattle.mk_blocks.proofs.SkipLemmas.{drop-shorter, one-taken, outside-none, parse-end}
 use Rattle.mk_blocks.proofs.SkipLemmas.{parse-first, parse-none}
@@ -46,7 +48,7 @@ include_line-returns-in_err-wanted-clause-does g t c =
     c.args.language.now c.args.count.now)
     (file-counted ties c.args.file.now place.loops place.depth c.args.line.now q c.args.language.now
     c.args.count.now c.count_line.new.count c.in_ok-count_line.ensures.ok)
-    c.in_err-wanted.ensures)
+    (c.in_err-wanted.ensures c.count_line.new.count))
 
 pub include_line-returns-in_default-clause-does : goal.include_line-returns-in_default-clause-does
 include_line-returns-in_default-clause-does g t c =
@@ -59,7 +61,7 @@ include_line-returns-in_default-clause-does g t c =
     c.args.count.now c.count_line.new.count c.in_ok-count_line.ensures.ok)
     _ (file-none ties c.args.file.now place.loops place.depth c.args.line.now q c.args.language.now
     c.args.count.now c.included.new.language c.count_line.new.count _ c.in_default.is)
-    c.in_ok-wanted.ensures
+    (c.in_ok-wanted.ensures c.count_line.new.count)
 
 pub include_line-returns-in_default-clause-place : goal.include_line-returns-in_default-clause-place
 include_line-returns-in_default-clause-place g t c =
@@ -84,7 +86,7 @@ include_line-returns-then-file-eq0-clause-does g t c =
     c.args.language.now c.args.count.now)
     (file-counted ties c.args.file.now place.loops place.depth c.args.line.now q c.args.language.now
     c.args.count.now more c.in_ok-count_line.ensures.ok)
-    c.in_ok-wanted.ensures
+    (c.in_ok-wanted.ensures c.count_line.new.count)
     (Does-refuse ties sorted y TooManyFiles TooManyFiles _ refl
     (file-refused ties c.args.file.now place.loops place.depth c.args.line.now q c.args.language.now
     c.args.count.now y more _ w c.in-Some.is c.if-file-eq0.true))
@@ -107,7 +109,7 @@ include_line-returns-in_err-read_file_in-clause-does g t c =
     q c.args.language.now c.args.count.now)
     (file-counted ties c.args.file.now place.loops place.depth c.args.line.now q c.args.language.now
     c.args.count.now more c.in_ok-count_line.ensures.ok)
-    c.in_ok-wanted.ensures
+    (c.in_ok-wanted.ensures c.count_line.new.count)
     (first-err ties sorted (read_next ties c.args.file.now place.loops place.depth c.args.line.now q
     c.args.language.now c.args.count.now y more _ w c.in-Some.is)
     (file-read ties c.args.file.now place.loops place.depth c.args.line.now q
@@ -127,7 +129,7 @@ include_line-returns-clause-does g t c =
     c.args.language.now c.args.count.now)
     (file-counted ties c.args.file.now place.loops place.depth c.args.line.now q c.args.language.now
     c.args.count.now more c.in_ok-count_line.ensures.ok)
-    c.in_ok-wanted.ensures
+    (c.in_ok-wanted.ensures c.count_line.new.count)
     (first-ok ties sorted (read_next ties c.args.file.now place.loops place.depth c.args.line.now q
     c.args.language.now c.args.count.now y more _ w c.in-Some.is)
     (file-read ties c.args.file.now place.loops place.depth c.args.line.now q
@@ -143,6 +145,105 @@ include_line-returns-clause-place g t c =
       fits = Fits-less place.loops place.depth _ _ place.depth c.requires.fits (omega arith)
           (omega arith);
     }
+
+pub process-returns-in-Uncounted-clause-does : goal.process-returns-in-Uncounted-clause-does
+process-returns-in-Uncounted-clause-does g t c =
+    rw c.in-Uncounted.is (c.uncounted_line.ensures.does c.args.count.now)
+
+pub process-stop-requires-clause-inside : goal.process-stop-requires-clause-inside
+process-stop-requires-clause-inside g t c =
+    let kind = g.L.Language.ties.kind in
+    let place = c.args.place.now in
+    let q = parse kind place.cursor in
+    IsInside-same kind place.loops place.depth place.depth (put Break c.args.line.now q) q refl
+    (rw c.in-Break.is at c.requires.stands.inside)
+
+pub process-returns-in-Break-clause-does : goal.process-returns-in-Break-clause-does
+process-returns-in-Break-clause-does g t c =
+    rw c.in-Break.is (c.stop.ensures.does c.args.line.now)
+
+pub process-pass_branches-requires : goal.process-pass_branches-requires
+process-pass_branches-requires g t c =
+    let place = c.args.place.now in
+    let few = Fits-few place.loops place.depth _ c.requires.stands.fits in
+    omega (arith, few)
+
+pub process-returns-in_err-pass_branches-in-ElseIf-clause-does :
+    goal.process-returns-in_err-pass_branches-in-ElseIf-clause-does
+process-returns-in_err-pass_branches-in-ElseIf-clause-does g t c =
+    let p = err_from_is_err_and c.from_residual.result c.from_residual.ensures.1 in
+    rw (p.1, p.2) (Does-want g.L.Language.ties sorted _ _ _ refl)
+
+pub process-returns-in_ok-pass_branches-in-ElseIf-clause-does :
+    goal.process-returns-in_ok-pass_branches-in-ElseIf-clause-does
+process-returns-in_ok-pass_branches-in-ElseIf-clause-does g t c =
+    let ties = g.L.Language.ties in
+    let place = c.args.place.now in
+    let q = parse ties.kind place.cursor in
+    let branch = ap begins_branch c.in-ElseIf.is in
+    let passes = c.in_ok-pass_branches-in-ElseIf.ensures in
+    let behind = passes.behind
+    ∙ passed-branch ties c.args.file.now c.args.kind c.args.line.now q branch in
+    Does-here ties sorted c.args.language.now _ _
+    (left-leaves ties c.args.file.now _ _ place.loops c.args.kind c.args.line.now q passes.loops
+    behind place.depth c.args.language.now c.args.count.now
+    (branch-ends ties c.args.file.now c.args.kind branch) passes.step passes.depth)
+
+pub process-returns-in_ok-pass_branches-in-ElseIf-clause-place :
+    goal.process-returns-in_ok-pass_branches-in-ElseIf-clause-place
+process-returns-in_ok-pass_branches-in-ElseIf-clause-place g t c =
+    let ties = g.L.Language.ties in
+    let place = c.args.place.now in
+    let q = parse ties.kind place.cursor in
+    let branch = ap begins_branch c.in-ElseIf.is in
+    let passes = c.in_ok-pass_branches-in-ElseIf.ensures in
+    let behind = passes.behind
+    ∙ passed-branch ties c.args.file.now c.args.kind c.args.line.now q branch in
+    leaves-reached ties c.args.file.now _ _ place.loops c.args.kind c.args.line.now q passes.loops
+    behind place.depth (length place.cursor + 1) passes.step passes.depth
+    c.requires.stands.inside c.requires.stands.fits (omega (arith, passes.shorter))
+
+pub process-pass_branches-requires-in-Else : goal.process-pass_branches-requires-in-Else
+process-pass_branches-requires-in-Else g t c =
+    let place = c.args.place.now in
+    let few = Fits-few place.loops place.depth _ c.requires.stands.fits in
+    omega (arith, few)
+
+pub process-returns-in_err-pass_branches-in-Else-clause-does :
+    goal.process-returns-in_err-pass_branches-in-Else-clause-does
+process-returns-in_err-pass_branches-in-Else-clause-does g t c =
+    let p = err_from_is_err_and c.from_residual-in_err-pass_branches-in-Else.result
+    c.from_residual-in_err-pass_branches-in-Else.ensures.1 in
+    rw (p.1, p.2) (Does-want g.L.Language.ties sorted _ _ _ refl)
+
+pub process-returns-in_ok-pass_branches-in-Else-clause-does :
+    goal.process-returns-in_ok-pass_branches-in-Else-clause-does
+process-returns-in_ok-pass_branches-in-Else-clause-does g t c =
+    let ties = g.L.Language.ties in
+    let place = c.args.place.now in
+    let q = parse ties.kind place.cursor in
+    let branch = ap begins_branch c.in-Else.is in
+    let passes = c.in_ok-pass_branches-in-Else.ensures in
+    let behind = passes.behind
+    ∙ passed-branch ties c.args.file.now c.args.kind c.args.line.now q branch in
+    Does-here ties sorted c.args.language.now _ _
+    (left-leaves ties c.args.file.now _ _ place.loops c.args.kind c.args.line.now q passes.loops
+    behind place.depth c.args.language.now c.args.count.now
+    (branch-ends ties c.args.file.now c.args.kind branch) passes.step passes.depth)
+
+pub process-returns-in_ok-pass_branches-in-Else-clause-place :
+    goal.process-returns-in_ok-pass_branches-in-Else-clause-place
+process-returns-in_ok-pass_branches-in-Else-clause-place g t c =
+    let ties = g.L.Language.ties in
+    let place = c.args.place.now in
+    let q = parse ties.kind place.cursor in
+    let branch = ap begins_branch c.in-Else.is in
+    let passes = c.in_ok-pass_branches-in-Else.ensures in
+    let behind = passes.behind
+    ∙ passed-branch ties c.args.file.now c.args.kind c.args.line.now q branch in
+    leaves-reached ties c.args.file.now _ _ place.loops c.args.kind c.args.line.now q passes.loops
+    behind place.depth (length place.cursor + 1) passes.step passes.depth
+    c.requires.stands.inside c.requires.stands.fits (omega (arith, passes.shorter))
 
 pub process-returns-in-EndIf-clause-does : goal.process-returns-in-EndIf-clause-does
 process-returns-in-EndIf-clause-does g t c =
@@ -357,10 +458,12 @@ pub read_on-returns-in-Ends-clause-does : goal.read_on-returns-in-Ends-clause-do
 read_on-returns-in-Ends-clause-does g t c =
     let ties = g.L.Language.ties in
     let read = rw c.in-Ends.is at c.in_ok-read_line.ensures.does in
-    Does-then ties sorted read c.leave_body.ensures.does
+    Does-then ties sorted read
+    (c.leave_body.ensures.does c.args.file.now c.read_line.new.language)
 
 pub read_on-returns-in-Breaks-clause-does : goal.read_on-returns-in-Breaks-clause-does
 read_on-returns-in-Breaks-clause-does g t c =
     let ties = g.L.Language.ties in
     let read = rw c.in-Breaks.is at c.in_ok-read_line.ensures.does in
-    Does-then ties sorted read c.leave_body-in-Breaks.ensures.does
+    Does-then ties sorted read
+    (c.leave_body-in-Breaks.ensures.does c.args.file.now c.read_line.new.language)

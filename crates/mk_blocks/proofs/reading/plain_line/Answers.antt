@@ -32,7 +32,7 @@ returns-in_err-step-clause-does g c =
     c.args.count.now)
     (line-counted ties c.args.file.now place.loops place.depth c.args.line.now q
     c.args.language.now c.args.count.now c.count_line.new.count c.in_ok-count_line.ensures.ok)
-    c.in_err-step.ensures)
+    (c.in_err-step.ensures c.count_line.new.count))
 
 pub returns-clause-does : goal.returns-clause-does
 returns-clause-does g c =
@@ -44,7 +44,7 @@ returns-clause-does g c =
     c.args.count.now)
     (line-counted ties c.args.file.now place.loops place.depth c.args.line.now q
     c.args.language.now c.args.count.now c.count_line.new.count c.in_ok-count_line.ensures.ok)
-    _ (λ answers. refl) c.in_ok-step.ensures
+    _ (λ answers. refl) (c.in_ok-step.ensures c.count_line.new.count)
 
 pub returns-clause-place : goal.returns-clause-place
 returns-clause-place g c =

@@ -8,7 +8,7 @@ use Rattle.mk_blocks.proofs.TieLemmas.{first-err, first-ok}
 use Rattle.mk_blocks.proofs.reading.uncounted_line.Goals as goal
 
 pub returns-in_err-step-clause-does : goal.returns-in_err-step-clause-does
-returns-in_err-step-clause-does g c =
+returns-in_err-step-clause-does g c = λ count.
     let ties = g.L.Language.ties in
     let p = err_from_is_err_and c.from_residual.result c.from_residual.ensures.1 in
     let place = c.args.place.now in
@@ -16,22 +16,22 @@ returns-in_err-step-clause-does g c =
     rw (p.1, p.2)
     (first-err ties sorted
     (line_next ties c.args.file.now place.loops place.depth c.args.line.now q c.args.language.now
-    c.args.count)
+    count)
     (line-uncounted ties c.args.file.now place.loops place.depth c.args.line.now q
-    c.args.language.now c.args.count)
-    c.in_err-step.ensures)
+    c.args.language.now count)
+    (c.in_err-step.ensures count))
 
 pub returns-clause-does : goal.returns-clause-does
-returns-clause-does g c =
+returns-clause-does g c = λ count.
     let ties = g.L.Language.ties in
     let place = c.args.place.now in
     let q = parse ties.kind place.cursor in
     first-ok ties sorted
     (line_next ties c.args.file.now place.loops place.depth c.args.line.now q c.args.language.now
-    c.args.count)
+    count)
     (line-uncounted ties c.args.file.now place.loops place.depth c.args.line.now q
-    c.args.language.now c.args.count)
-    _ (λ answers. refl) c.in_ok-step.ensures
+    c.args.language.now count)
+    _ (λ answers. refl) (c.in_ok-step.ensures count)
 
 pub returns-clause-place : goal.returns-clause-place
 returns-clause-place g c =

@@ -1,11 +1,12 @@
 use Rattle.std.proofs.Common.{Err, ap}
 use Rattle.std.proofs.lemmas.Result.{err_from_is_err_and}
-use Rattle.mk_mods.specs.Modifiers.{of_words, words_with, is_whole}
+use Rattle.mk_mods.specs.Modifiers.{words_or_text}
+use Rattle.mk_mods.specs.Steps.{words_behind, is_whole}
 use Rattle.mk_mods.specs.Pieces.{seen}
 use Rattle.mk_mods.specs.declared.fault.ModFault.TheVariants.{TooLong as too_long}
 use Rattle.mk_mods.proofs.LimitLemmas.{fault_is}
 use Rattle.mk_mods.proofs.LongLemmas.{worked_long}
-use Rattle.mk_mods.proofs.chain.worked.Goals as goal
+use Rattle.mk_mods.proofs.chain.with_words_behind.Goals as goal
 
 pub returns-in_err-words-2-clause-long : goal.returns-in_err-words-2-clause-long
 returns-in_err-words-2-clause-long c is =
@@ -15,5 +16,5 @@ returns-in_err-words-2-clause-long c is =
     let long = c.in_err-words-2.ensures.long (ap (λ f. Err f) fault) in
     let modifier = c.args.modifier.now in
     let state = seen c.args.region.now.bytes c.args.val in
-    worked_long state (of_words modifier (words_with (is_whole modifier) state))
+    worked_long state (words_behind modifier (words_or_text (is_whole modifier) state))
     (rw (c.in_ok-words.ensures.shown.shown, c.is_whole.ensures) at long)

@@ -1,7 +1,7 @@
 use Rattle.mk_mods.specs.Pieces.{seen}
 use Rattle.mk_mods.specs.declared.modifier.Mod.TheVariants.{Lower, Upper}
 use Rattle.mk_mods.proofs.LongLemmas.{items_long}
-use Rattle.mk_mods.proofs.chain.items.Goals as goal
+use Rattle.mk_mods.proofs.chain.items_behind.Goals as goal
 
 pub returns-in-Lower-clause-long : goal.returns-in-Lower-clause-long
 returns-in-Lower-clause-long c is =
