@@ -12,15 +12,14 @@ use Rattle.mk_clean.specs.Jobs.{goes_on}
 use Rattle.mk_clean.specs.Same.{BuildsAreClean}
 use Rattle.mk_clean.specs.Turns.{Stage, waiting, between, inside, settled, Build, first_build, Turn, looks_at, keeps, begins, starts_line, steps, ends_line, settles, puts_meta, with_stage, started, stepped, line_ended, with_look, at_stage, after_turn, after_turns, SourcesSettled, seen_by, doings_seen, MayKeep, IsAsked, MayStep, ended_with, HasEnded, MayEndLine, MayTurn, MayTurns}
 use Rattle.mk_meta.specs.TrueHistory.{deeds_of_job}
-use Rattle.mk_world.proofs.TalkLemmas.{deed_at-told}
+use Rattle.mk_world.proofs.TalkLemmas.{deed_at-told, more-not_over, same_request}
 use Rattle.mk_world.specs.Deeds.{Store, Spot, saw, changes, put, put_all, after_deed, after_deeds, IsRight, Meets}
 use Rattle.mk_world.specs.Outer.{Over, nothing_over, over_spot, over_spots, over_deed, over_deeds, or_stood, outer_at, outer_spot, outer, AgreeOn}
-use Rattle.mk_world.specs.Talks.{NextOf, Meaning, Doing, Talks, IsOver, answer, looked, moved, deed_on}
+use Rattle.mk_world.specs.Talks.{NextOf, Meaning, Doing, Talks, answer, looked, moved, deed_on}
 use Rattle.mk_world.specs.declared.command.Cmd.{Cmd}
 use Rattle.mk_world.specs.declared.command.TaskLine.{TaskLine}
 use Rattle.mk_world.specs.declared.step.Answer.{Answer}
 use Rattle.mk_world.specs.declared.step.Deed.{Deed}
-use Rattle.mk_world.specs.declared.step.Next.{Next}
 use Rattle.mk_world.specs.declared.step.Next.TheVariants.{More, Over as Ended}
 use Rattle.mk_world.specs.declared.step.Request.{Request}
 use Rattle.mk_world.specs.declared.step.Request.TheVariants as ask
@@ -132,14 +131,6 @@ deed_same (ask.Delete path) first second agree = refl
 deed_same (ask.Move from to) first second agree =
     moved_same first second from to (first from) (second from) refl refl agree
 
-not_over : (next : Next) (request : Request) → next ≡ More request → IsOver next → ⊥
-not_over (Ended status output) request is over = cc
-not_over (More other) request is over = over
-
-same_request : (next : Next) (one other : Request) → next ≡ More one → next ≡ More other
-    → one ≡ other
-same_request next one other is also = let same : More one ≡ More other = sym is ∙ also in cc
-
 -- A child that stands before the rest of what it does in the clean build does the next step of it, where
 -- the files agree on what that step saw.
 next_deed : (next : NextOf) (cmd : Cmd) (seen : List Answer) (deed : Deed) (todo rest : List Deed)
@@ -151,7 +142,7 @@ next_deed : (next : NextOf) (cmd : Cmd) (seen : List Answer) (deed : Deed) (todo
     × Talks next cmd (seen ++ answer deed ∷ []) more status output
 next_deed next cmd seen deed [] rest status output files clean right asked talks meets agree =
     let clash : Ended status output ≡ More asked.request = sym talks ∙ asked.next_is in
-    absurd (not_over (Ended status output) asked.request clash tt)
+    absurd (more-not_over (Ended status output) asked.request clash tt)
 next_deed next cmd seen deed (first ∷ more) rest status output files clean right asked talks meets agree =
     let requests : asked.request ≡ talks.0 =
     same_request (next cmd seen) asked.request talks.0 asked.next_is talks.2 in
@@ -590,7 +581,7 @@ module _ (meaning : Meaning) (plan : Plan) (store : Store)
             → Ahead meaning.next plan one deeds lines
         last one deeds seen line lines end (deed ∷ todo) status output rest talks goes is meets success =
             let clash : Ended end.status end.output ≡ More talks.0 = sym end.next_is ∙ talks.2 in
-            absurd (not_over (Ended end.status end.output) talks.0 clash tt)
+            absurd (more-not_over (Ended end.status end.output) talks.0 clash tt)
         last one deeds seen line lines end [] status output rest talks goes is meets success =
             let ends : Ended end.status end.output ≡ Ended status output = sym end.next_is ∙ talks in
             let same : end.status ≡ status = cc in

@@ -19,7 +19,7 @@ use Rattle.mk_world.specs.Causes.{HasCause}
 use Rattle.mk_graph.specs.Numbers.{AreBelow}
 use Rattle.mk_pool.specs.declared.pool.TheConstants.{MAX_NAMES}
 use Rattle.mk_suffix.proofs.LookLemmas.{OnLooks-map}
-use Rattle.mk_suffix.specs.Looks.{OnLooks}
+use Rattle.mk_world.specs.Looks.{OnLooks}
 use Rattle.mk_world.specs.Deeds.{Store}
 use Rattle.mk_world.specs.declared.history.History.{History}
 

@@ -4,7 +4,7 @@ ghost use Rattle.mk_closure.specs.Faults.{IsOutside};
 ghost use Rattle.mk_closure.specs.Made.{HasChain};
 ghost use Rattle.mk_closure.specs.Means as spec;
 ghost use Rattle.mk_closure.specs.declared.fault.CloseFault.TheVariants.{Failed as failed};
-ghost use Rattle.mk_suffix.specs.Looks.{OnLooks, OnlyLooked};
+ghost use Rattle.mk_world.specs.Looks.{OnLooks, OnlyLooked};
 ghost use Rattle.mk_suffix.specs.Made.{IsFor};
 ghost use Rattle.mk_suffix.specs.declared.fault.SuffixFault.TheVariants.{Failed as suffix_failed};
 ghost use Rattle.mk_world.specs.Causes.{HasCause};

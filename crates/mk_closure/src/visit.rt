@@ -7,7 +7,7 @@ ghost use Rattle.mk_closure.specs.Steps as steps;
 ghost use Rattle.mk_closure.specs.Walks as spec;
 ghost use Rattle.mk_closure.specs.declared.fault.CloseFault.TheVariants.{Failed as failed};
 ghost use Rattle.mk_graph.specs.Numbers.{AreBelow};
-ghost use Rattle.mk_suffix.specs.Looks.{OnLooks};
+ghost use Rattle.mk_world.specs.Looks.{OnLooks};
 ghost use Rattle.mk_world.specs.Causes.{HasCause};
 
 use crate::closure::Closure;

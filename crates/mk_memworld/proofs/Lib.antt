@@ -16,3 +16,4 @@ pub mod TicketLemmas
 pub mod TimeLemmas
 pub mod TurnLemmas
 pub mod WorldLemmas
+pub mod WriteLemmas

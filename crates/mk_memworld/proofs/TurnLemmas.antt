@@ -1,5 +1,5 @@
 -- The turn of a child, as an event that may happen, and how things stand after it.
-use Rattle.std.proofs.Common.{◌≡◌, ℕ, ◌+◌, List, ◌∷◌, [], ◌++◌, Bool, true, false, ◌==◌, Option, Some, None, IsSome, IsSomeAnd, if◌then◌else◌, Result, Ok, Err, IfOk, refl, sym, ◌∙◌, ap, subst, arith, map}
+use Rattle.std.proofs.Common.{◌≡◌, ℕ, ◌+◌, List, ◌∷◌, [], ◌++◌, Bool, true, false, ◌==◌, Option, Some, None, IsSomeAnd, if◌then◌else◌, Result, Ok, Err, IfOk, refl, sym, ◌∙◌, ap, subst, arith, map}
 use Rattle.std.proofs.lemmas.Bool.Decides.{nat_tests}
 use Rattle.std.proofs.lemmas.Grind.{common_steps}
 use Rattle.mk_world.specs.Deeds.{IsRight, Store, changes}
@@ -20,7 +20,7 @@ use Rattle.mk_memworld.specs.Clock.{time_of}
 use Rattle.mk_memworld.specs.Going.{IsTurn}
 use Rattle.mk_memworld.specs.Language.{language_next}
 use Rattle.mk_memworld.specs.Rest.{doing_of}
-use Rattle.mk_memworld.specs.Running.{AddsSteps, DidStep, IsRest, IsRestOf}
+use Rattle.mk_memworld.specs.Running.{AddsSteps, IsRest, IsRestOf}
 use Rattle.mk_memworld.specs.Schedule.{at_end, deed_at_next, deed_by, deed_for, deed_of, ends_at, gone_on, newly_ended, next_deed, stepped_on}
 use Rattle.mk_memworld.specs.Steps.{after_step, child_after, numbers_of_step, step_of, with_step}
 use Rattle.mk_memworld.specs.declared.going.Going.{Going}

@@ -22,3 +22,4 @@ pub mod ToldChildren
 pub mod Turned
 pub mod Turns
 pub mod Words
+pub mod Writes

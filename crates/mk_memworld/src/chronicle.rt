@@ -18,6 +18,7 @@ use crate::copy::{copy_cmd, copy_deed};
 use crate::files::{Files, Stored};
 use crate::going::Going;
 use crate::rest::{Rest, answers_with, deed_after, is_over, records_of, rest_of};
+use crate::writing::{Writing, beginning};
 use mk_bytes::{Items, NoMemory, Text};
 use mk_world::{Bases, Child, Cmd, Deed, Ended, Happening, Ticket, Timed};
 use std::alloc::Global;
@@ -49,6 +50,7 @@ impl Model for Chronicle {
 impl Chronicle {
     ghost use Rattle.mk_memworld.specs.Chronicle.{with_event};
     ghost use Rattle.mk_memworld.specs.Running.{DidStep, GivesUp, IsRest, OfOldest};
+    ghost use Rattle.mk_memworld.specs.Writes.{event_of, part_written};
 
     /// These files, with nothing done to them yet.
     pub fn new(alloc: Global, base: Bases) -> Result<Chronicle, NoMemory>
@@ -155,6 +157,46 @@ impl Chronicle {
             .push(Happening::Gone { path: copy, time })
             .unwrap();
         Ok(())
+    }
+
+    /// Make writes a whole file, at this time.
+    pub fn write(
+        &mut self,
+        writing: Writing,
+        path: &[u8],
+        bytes: &[u8],
+        time: u64,
+    ) -> Result<(), NoMemory>
+        ensures ok { OnOk result
+            (self.new ≡ with_event self.old (event_of writing path.now bytes.now time)) }
+        ensures err { OnErr result (self.new ≡ self.old) }
+    {
+        let copy = Text::from_bytes(self.alloc, path)?;
+        let text = Text::from_bytes(self.alloc, bytes)?;
+        self.events.reserve(self.children.len() + 1)?;
+        self.files.write(path, bytes, time)?;
+        self.clock = time;
+        self.events.push(writing.event(copy, text, time)).unwrap();
+        Ok(())
+    }
+
+    /// Make writes a part of a file from its beginning, where so many bytes are named.
+    pub fn write_part(
+        &mut self,
+        writing: Writing,
+        path: &[u8],
+        bytes: &[u8],
+        time: u64,
+        count: Option<usize>,
+    ) -> Result<(), NoMemory>
+        ensures ok { OnOk result
+            (self.new ≡ part_written self.old writing path.now bytes.now time count) }
+        ensures err { OnErr result (self.new ≡ self.old) }
+    {
+        match count {
+            None => Ok(()),
+            Some(count) => self.write(writing, path, beginning(bytes, count), time),
+        }
     }
 
     /// What a command does from its beginning to its end, on the files as they stand after the turn.

@@ -3,7 +3,9 @@ ghost use Rattle.std.specs.Prelude.{◌≡◌, ◌↔◌, ◌≤◌, IsTrue};
 ghost use Rattle.mk_world.specs.Causes.{Rose};
 ghost use Rattle.mk_memworld.specs.Outages as spec;
 ghost use Rattle.mk_memworld.specs.Outages.{IsNamed};
+ghost use Rattle.mk_memworld.specs.Writes.{left_by, next_left};
 
+use crate::writing::Writing;
 use mk_bytes::Items;
 
 /// A kind of call.
@@ -134,6 +136,26 @@ impl Outages {
             }
         }
         false
+    }
+
+    // How many bytes of the new file stand after the nth call, by the first entry that names it.
+    fn left_by(&self, writing: Writing, nth: u64) -> Option<usize>
+        ensures { result ≡ left_by writing nth self.now.fails }
+    {
+        for fail in self.fails.as_slice() {
+            if writing.is_of(fail.call) && u64::from(fail.nth) == nth {
+                return fail.left;
+            }
+        }
+        None
+    }
+
+    /// How many bytes of the new file stand after the next call of this kind, where it is to fail;
+    /// `None` where the old file stands.
+    pub fn next_left(&self, writing: Writing) -> Option<usize>
+        ensures { result ≡ next_left self.now writing }
+    {
+        self.left_by(writing, self.calls(writing.kind()).saturating_add(1))
     }
 
     /// Counts a call, and says whether it is to fail.

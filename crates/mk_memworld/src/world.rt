@@ -1,16 +1,16 @@
-ghost use Rattle.std.specs.Prelude.{◌≡◌, ◌⊎◌, ◌+◌, ◌<◌, ℕ, List, [], ◌∷◌, ◌++◌, Some, false, drop, length, nat_eq, remove, slice_get, slice_index, IsTrue, IfOk, OnOk, OnErr};
+ghost use Rattle.std.specs.Prelude.{◌≡◌, ◌↔◌, ◌⊎◌, ◌+◌, ◌<◌, ℕ, List, [], ◌∷◌, ◌++◌, Some, false, drop, length, nat_eq, remove, slice_get, slice_index, IsTrue, IfOk, OnOk, OnErr};
 ghost use Rattle.std.specs.List.{list_any};
 ghost use Rattle.std.specs.Option.{option_copied};
 ghost use Rattle.mk_bytes.specs.Paths.{is_clean_directory};
 ghost use Rattle.mk_world.specs.Calls as spec;
-ghost use Rattle.mk_world.specs.Calls.{Adds, OwnAsk, OwnEnd, OwnGone, OwnLeft, OwnNothing, OwnRead, OwnStart, OwnTime, OwnUnanswered, TakenOut};
+ghost use Rattle.mk_world.specs.Calls.{Adds, AddsEvents, OwnAsk, OwnEnd, OwnGone, OwnLeft, OwnNothing, OwnPut, OwnPutPart, OwnRead, OwnStamp, OwnStampPart, OwnStart, OwnTime, OwnUnanswered, TakenOut};
 ghost use Rattle.mk_world.specs.Causes.{HasCause};
 ghost use Rattle.mk_world.specs.History.{files_of, state_of, tickets_of};
 ghost use Rattle.mk_world.specs.Lawful.{IsLawful};
 ghost use Rattle.mk_world.specs.Runs.{Run};
 ghost use Rattle.mk_world.specs.Talks.{does};
 ghost use Rattle.mk_world.specs.declared.fault.WorldFault.TheVariants.{Failed};
-ghost use Rattle.mk_world.specs.declared.history.Happening.TheVariants.{Ask, Edit, Gone, Look, Start};
+ghost use Rattle.mk_world.specs.declared.history.Happening.TheVariants.{Ask, Edit, Gone, Look, Put, Stamp, Start};
 ghost use Rattle.mk_memworld.specs.Base.{are_clean, base_of};
 ghost use Rattle.mk_memworld.specs.Children.{without_first};
 ghost use Rattle.mk_memworld.specs.Chronicle.{with_event};
@@ -24,8 +24,10 @@ ghost use Rattle.mk_memworld.specs.Rest.{answer_of};
 ghost use Rattle.mk_memworld.specs.Running.{AddsSteps};
 ghost use Rattle.mk_memworld.specs.Schedule.{course_after, gone_on, next_taken, or_oldest, taken_in, with_ended, with_number_taken};
 ghost use Rattle.mk_memworld.specs.ToldChildren.{told_children};
-ghost use Rattle.mk_memworld.specs.Turned.{HasFailed, HasGoneOn, HasRefused, HasTurned, IsNext, IsOldOrTurned, IsTooShort, IsTurnShort, changes_to_end, turned};
+ghost use Rattle.mk_memworld.specs.Turned.{HasFailed, HasGoneOn, HasRefused, HasStood, HasTurned, IsNext, IsOldOrTurned, IsTooShort, IsTurnShort, changes_to_end, turned};
+ghost use Rattle.mk_memworld.specs.Writes.{HasFailedToWrite, HasNoTime, OwnPartOf, event_of, kind_of, write_time};
 ghost use Rattle.mk_memworld.specs.declared.outage.CallKind.TheVariants as kind;
+ghost use Rattle.mk_memworld.specs.declared.writing.Writing.TheVariants as writing;
 
 use crate::base;
 use crate::chronicle::Chronicle;
@@ -34,6 +36,7 @@ use crate::files::Stored;
 use crate::going::Going;
 use crate::outage::{CallKind, Fails, Outages};
 use crate::schedule::{Schedule, Turns};
+use crate::writing::Writing;
 use mk_bytes::{NoMemory, Pairs, Text};
 use mk_world::{Cmd, Ended, Kids, Ticket, Time, When, World, WorldFault};
 use std::alloc::Global;
@@ -205,6 +208,80 @@ impl MemWorld {
         self.proceed(going, changes, is_struck)
     }
 
+    // A call that writes a file, at a time later than `after`, begins: it is counted, takes its
+    // number, and lets the child go on that this names. `Failed` comes exactly where there is no such
+    // time, and nobody goes on then. Else it is told whether the call is to fail.
+    fn begin_write(&mut self, writing: Writing, after: u64) -> Result<bool, WorldFault>
+        ensures turned { OnOk result (HasTurned self.old self.new) }
+        ensures struck { IfOk result
+            (λ is_struck. IsTrue is_struck ↔ IsStruck self.old.outages (kind_of writing)) }
+        ensures failed { OnFailed result (HasStood self.old self.new) }
+        ensures out_of_memory { OnNoMemory result (IsOldOrTurned self.old self.new) }
+        ensures taken { self.new.schedule.numbers ≡ drop 1 self.old.schedule.numbers }
+        ensures steps { AddsSteps self.old.chronicle self.new.chronicle }
+        ensures tickets { tickets_of (state_of self.new.chronicle).children
+            ≡ tickets_of (state_of self.old.chronicle).children }
+        ensures exactly { FailsWhere (HasNoTime self.old after) result }
+        ensures counted { self.new.outages
+            ≡ with_answer (with_call self.old.outages (kind_of writing)) result }
+        ensures cause { HasCause Failed self.old.outages.faults self.new.outages.faults result }
+    {
+        let is_struck = self.outages.strikes(writing.kind());
+        if after == u64::MAX {
+            self.schedule.take();
+            self.outages.fail();
+            return Err(WorldFault::Failed);
+        }
+        let going = self.next()?;
+        self.go_on(going, 1)?;
+        Ok(is_struck)
+    }
+
+    // Writes a whole file at a time later than `after`. This is one change, for which the clock needs
+    // a number, beside that for the step of the child that goes on.
+    fn write(
+        &mut self,
+        writing: Writing,
+        path: &[u8],
+        bytes: &[u8],
+        after: u64,
+    ) -> Result<Time, WorldFault>
+        ensures done { IfOk result (λ time. AddsEvents language (λ _ own.
+            own ≡ event_of writing path.now bytes.now time.0 ∷ [])
+            self.old.chronicle self.new.chronicle) }
+        ensures later { IfOk result (λ time. after < time.0) }
+        ensures refused { OnErr result (AddsEvents language (OwnPartOf writing path.now bytes.now)
+            self.old.chronicle self.new.chronicle) }
+        ensures cause { HasCause Failed self.old.outages.faults self.new.outages.faults result }
+        ensures children { (kids : List ℕ)
+            → tickets_of (state_of self.old.chronicle).children ≡ kids
+            → tickets_of (state_of self.new.chronicle).children ≡ kids }
+        ensures time { IfOk result (λ time. time.0 ≡ write_time (turned self.old) after) }
+        ensures history { IfOk result (λ time. self.new.chronicle
+            ≡ with_event (turned self.old) (event_of writing path.now bytes.now time.0)) }
+        ensures course { OnOk result (self.new.schedule
+            ≡ course_after self.old.chronicle self.old.schedule) }
+        ensures exactly { FailsWhere
+            (IsStruck self.old.outages (kind_of writing) ⊎ HasNoTime self.old after) result }
+        ensures failed { OnFailed result
+            (HasFailedToWrite writing path.now bytes.now after self.old self.new) }
+        ensures out_of_memory { OnNoMemory result (IsOldOrTurned self.old self.new) }
+        ensures taken { self.new.schedule.numbers ≡ drop 1 self.old.schedule.numbers }
+        ensures counted { self.new.outages
+            ≡ with_answer (with_call self.old.outages (kind_of writing)) result }
+    {
+        let left = self.outages.next_left(writing);
+        let is_struck = self.begin_write(writing, after)?;
+        let time = Ord::max(self.chronicle.clock(), after) + 1;
+        if is_struck {
+            self.chronicle.write_part(writing, path, bytes, time, left)?;
+            self.outages.fail();
+            return Err(WorldFault::Failed);
+        }
+        self.chronicle.write(writing, path, bytes, time)?;
+        Ok(Time(time))
+    }
+
     // Where the child stands that is to be taken in behind this turn.
     fn place(&self, kids: &Kids<()>, going: &Going) -> usize
         requires { 0 < length kids.now.tickets }
@@ -269,8 +346,9 @@ impl World for MemWorld {
     /// the child that this names. `Failed`, which is counted, comes exactly where the call is to
     /// fail, and where the clock has fewer numbers left than the step of this child and the changes
     /// of the call behind it take; here these are none. Where it is too short, nobody goes on. Any
-    /// other call that is to fail lets the child go on, and does nothing of its own. Where memory runs out, nothing has happened, or the child went on and
-    /// nothing else happened.
+    /// other call that is to fail lets the child go on, and does nothing of its own, beside what
+    /// `stamp` and `put` may leave. Where memory runs out, nothing has happened, or the child went
+    /// on and nothing else happened.
     fn read(&mut self, alloc: Global, path: &[u8]) -> Result<Option<Text>, WorldFault>
         ensures done { IfOk result (λ answer. Adds language (Some self.old.chronicle)
             (Some self.new.chronicle) (OwnRead path.now answer)) }
@@ -324,6 +402,74 @@ impl World for MemWorld {
         let when = when_of(self.chronicle.file(path));
         self.chronicle.look(path)?;
         Ok(when)
+    }
+
+    /// Writes the head of a meta file at the next time; where this is not later than `after`, at the
+    /// time behind `after`, from which the clock goes on. This is one change, for which the clock
+    /// needs a number, beside that for the step of the child that goes on; and it is too short as
+    /// well where `after` is the greatest number. A call that is to fail else leaves as many bytes
+    /// of the head, at the time that it would have had, as the first entry says that names it, or
+    /// the old file.
+    fn stamp(
+        &mut self,
+        _: Global,
+        path: &[u8],
+        head: &[u8],
+        after: Time,
+    ) -> Result<Time, WorldFault>
+        ensures done { IfOk result (λ time. Adds language (Some self.old.chronicle)
+            (Some self.new.chronicle) (OwnStamp path.now head.now time.0)) }
+        ensures later { IfOk result (λ time. after.0 < time.0) }
+        ensures refused { OnErr result (Adds language (Some self.old.chronicle)
+            (Some self.new.chronicle) (OwnStampPart path.now head.now)) }
+        ensures cause { HasCause Failed self.old.outages.faults self.new.outages.faults result }
+        ensures children { (kids : List ℕ)
+            → tickets_of (state_of self.old.chronicle).children ≡ kids
+            → tickets_of (state_of self.new.chronicle).children ≡ kids }
+        ensures time { IfOk result (λ time. time.0 ≡ write_time (turned self.old) after.0) }
+        ensures history { IfOk result (λ time. self.new.chronicle
+            ≡ with_event (turned self.old) (Stamp path.now head.now time.0)) }
+        ensures course { OnOk result (self.new.schedule
+            ≡ course_after self.old.chronicle self.old.schedule) }
+        ensures exactly { FailsWhere
+            (IsStruck self.old.outages kind.Stamp ⊎ HasNoTime self.old after.0) result }
+        ensures failed { OnFailed result
+            (HasFailedToWrite writing.Stamp path.now head.now after.0 self.old self.new) }
+        ensures out_of_memory { OnNoMemory result (IsOldOrTurned self.old self.new) }
+        ensures taken { self.new.schedule.numbers ≡ drop 1 self.old.schedule.numbers }
+        ensures counted { self.new.outages
+            ≡ with_answer (with_call self.old.outages kind.Stamp) result }
+    {
+        self.write(Writing::Stamp, path, head, after.0)
+    }
+
+    /// Writes a whole file. Its time, when the call fails, and what it leaves then, are as in
+    /// `stamp`.
+    fn put(&mut self, _: Global, path: &[u8], bytes: &[u8], after: Time) -> Result<Time, WorldFault>
+        ensures done { IfOk result (λ time. Adds language (Some self.old.chronicle)
+            (Some self.new.chronicle) (OwnPut path.now bytes.now time.0)) }
+        ensures later { IfOk result (λ time. after.0 < time.0) }
+        ensures refused { OnErr result (Adds language (Some self.old.chronicle)
+            (Some self.new.chronicle) (OwnPutPart path.now bytes.now)) }
+        ensures cause { HasCause Failed self.old.outages.faults self.new.outages.faults result }
+        ensures children { (kids : List ℕ)
+            → tickets_of (state_of self.old.chronicle).children ≡ kids
+            → tickets_of (state_of self.new.chronicle).children ≡ kids }
+        ensures time { IfOk result (λ time. time.0 ≡ write_time (turned self.old) after.0) }
+        ensures history { IfOk result (λ time. self.new.chronicle
+            ≡ with_event (turned self.old) (Put path.now bytes.now time.0)) }
+        ensures course { OnOk result (self.new.schedule
+            ≡ course_after self.old.chronicle self.old.schedule) }
+        ensures exactly { FailsWhere
+            (IsStruck self.old.outages kind.Put ⊎ HasNoTime self.old after.0) result }
+        ensures failed { OnFailed result
+            (HasFailedToWrite writing.Put path.now bytes.now after.0 self.old self.new) }
+        ensures out_of_memory { OnNoMemory result (IsOldOrTurned self.old self.new) }
+        ensures taken { self.new.schedule.numbers ≡ drop 1 self.old.schedule.numbers }
+        ensures counted { self.new.outages
+            ≡ with_answer (with_call self.old.outages kind.Put) result }
+    {
+        self.write(Writing::Put, path, bytes, after.0)
     }
 
     /// Takes a file away, at the next time, also where it is missing. This is one change, for which

@@ -2,6 +2,7 @@
 ghost use Rattle.std.specs.Prelude.{◌≡◌, ◌++◌, ◌∷◌, [], flat_map, codes, IfOk, OnOk};
 ghost use Rattle.mk_bytes.specs.Bytes.{newline};
 ghost use Rattle.mk_meta.specs.Texts as spec;
+ghost use Rattle.mk_meta.specs.TrueHistory as history;
 
 use crate::meta::Meta;
 use mk_bytes::{NoMemory, Pair, Text};
@@ -44,6 +45,15 @@ pub fn head_line(alloc: Global, target: &[u8]) -> Result<Text, NoMemory>
     let mut text = Text::new(alloc);
     push_head(&mut text, target)?;
     Ok(text)
+}
+
+/// The path of the meta file of a target.
+pub fn meta_path(alloc: Global, target: &[u8]) -> Result<Text, NoMemory>
+    ensures { IfOk result (λ path. path ≡ history.meta_path target.now) }
+{
+    let mut path = Text::from_bytes(alloc, target)?;
+    path.push(b".meta")?;
+    Ok(path)
 }
 
 /// What a target's meta file holds while its job is open: the first line, with its newline.

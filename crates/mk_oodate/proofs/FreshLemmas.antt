@@ -1,7 +1,7 @@
 -- What the test's answer that there is no reason gives.
-use Rattle.std.proofs.Common.{◌≡◌, ◌≢◌, ◌<◌, ℕ, Bool, true, false, not, ◌&&◌, ◌||◌, cond}
-use Rattle.std.proofs.Common.{List, [], ◌∷◌, length, nat_lt, nat_le, position, Option, Some, None}
-use Rattle.std.proofs.Common.{if◌then◌else◌, refl, sym, ◌∙◌, ap, arith}
+use Rattle.std.proofs.Common.{◌≡◌, ◌≢◌, ℕ, Bool, true, false, not, ◌&&◌, ◌||◌, cond}
+use Rattle.std.proofs.Common.{List, [], ◌∷◌, length, nat_lt, position, Option, Some, None}
+use Rattle.std.proofs.Common.{if◌then◌else◌, refl, arith}
 use Rattle.std.proofs.lemmas.Bool.Decides.{nat_tests}
 use Rattle.std.proofs.lemmas.List.Elements.{All-from_recursion, recursion_from_All}
 use Rattle.std.specs.List.{All, AllZip, AllByRecursion, position_or_len}
@@ -11,6 +11,7 @@ use Rattle.std.specs.Str.{bytes_eq}
 use Rattle.mk_bytes.specs.declared.pair.Pair.{Pair}
 use Rattle.mk_filemon.specs.declared.record.Rec.{Rec}
 use Rattle.mk_meta.specs.declared.meta.Meta.{Meta}
+use Rattle.mk_world.specs.Looks.{is_missing}
 use Rattle.mk_world.specs.declared.command.Task.{Task}
 use Rattle.mk_world.specs.declared.command.TaskLine.{TaskLine}
 use Rattle.mk_world.specs.declared.time.Time.{Time}
@@ -22,20 +23,8 @@ use Rattle.mk_oodate.specs.declared.reason.Why.{Why}
 use Rattle.mk_oodate.specs.declared.reason.Why.TheVariants as why
 use Rattle.mk_oodate.specs.Stale as spec
 use Rattle.mk_oodate.specs.Lists.{read_paths, missed_paths, left_paths}
-use Rattle.mk_oodate.specs.Fresh.{
-  GoesByRecords,
-  IsBefore,
-  IsOlderThan,
-  AreTheSame,
-  IsFresh,
-  NoReasonIsFresh,
-  AreOfRecords,
-  Looks,
-  Saw,
-  EachSaw,
-  PathsAreFresh,
-  FreshAtPaths,
-}
+use Rattle.mk_oodate.specs.Fresh.{GoesByRecords, IsBefore, IsOlderThan, AreTheSame, IsFresh}
+use Rattle.mk_oodate.specs.Fresh.{NoReasonIsFresh, Looks, Saw, EachSaw, FreshAtPaths}
 
 cases : {P : Type 0} (t : Bool) → (t ≡ true → P) → (t ≡ false → P) → P
 cases true here there = here refl
@@ -101,12 +90,12 @@ older stamp when.Missing is = absurd cc
 older stamp when.Unknown is = absurd cc
 older stamp (when.At time) is = grind (arith, nat_tests)
 
-missing : (time : When) → not (spec.is_missing time) ≡ false → time ≡ when.Missing
+missing : (time : When) → not (is_missing time) ≡ false → time ≡ when.Missing
 missing when.Missing is = refl
 missing (when.At time) is = absurd cc
 missing when.Unknown is = absurd cc
 
-standing : (time : When) → spec.is_missing time ≡ false → time ≢ when.Missing
+standing : (time : When) → is_missing time ≡ false → time ≢ when.Missing
 standing when.Missing is = absurd cc
 standing (when.At time) is = λ same. absurd cc
 standing when.Unknown is = λ same. absurd cc
@@ -188,8 +177,8 @@ by_records-fresh mode times stamp None must none =
     let no = not-given mode.missing_filemon why.NoRecords none in absurd cc
 by_records-fresh mode times stamp (Some records) must none =
     let reads = spec.at_first (spec.is_changed stamp) why.Read times.reads in
-    let misses = spec.at_first (λ time. not (spec.is_missing time)) why.Appeared times.misses in
-    let left = spec.at_first spec.is_missing why.Left times.left in
+    let misses = spec.at_first (λ time. not (is_missing time)) why.Appeared times.misses in
+    let left = spec.at_first is_missing why.Left times.left in
     let first = neither reads (option_or misses left) none in
     let second = neither misses left first.1 in
     record {
@@ -198,12 +187,12 @@ by_records-fresh mode times stamp (Some records) must none =
           (every (λ time. spec.is_changed stamp time ≡ false) (IsOlderThan stamp) times.reads
           (older stamp) (none-first (spec.is_changed stamp) why.Read times.reads first.0));
       misses = All-from_recursion (λ time. time ≡ when.Missing) times.misses
-          (every (λ time. not (spec.is_missing time) ≡ false) (λ time. time ≡ when.Missing)
+          (every (λ time. not (is_missing time) ≡ false) (λ time. time ≡ when.Missing)
           times.misses missing
-          (none-first (λ time. not (spec.is_missing time)) why.Appeared times.misses second.0));
+          (none-first (λ time. not (is_missing time)) why.Appeared times.misses second.0));
       left = All-from_recursion (λ time. time ≢ when.Missing) times.left
-          (every (λ time. spec.is_missing time ≡ false) (λ time. time ≢ when.Missing) times.left
-          standing (none-first spec.is_missing why.Left times.left second.1));
+          (every (λ time. is_missing time ≡ false) (λ time. time ≢ when.Missing) times.left
+          standing (none-first is_missing why.Left times.left second.1));
     }
 
 contents-fresh : (task : Task) (mode : NodeMode) (times : Times) (meta : Meta) → GoesByRecords mode
@@ -258,7 +247,7 @@ meta-fresh task mode times meta goes stands none =
 pub no_reason_is_fresh : NoReasonIsFresh
 no_reason_is_fresh meta task mode times goes none =
     let always = spec.given mode.always why.Always in
-    let gone = spec.given (spec.is_missing times.target) why.Missing in
+    let gone = spec.given (is_missing times.target) why.Missing in
     let newer = spec.at_first (spec.is_newer times.target) why.Newer times.sources in
     let rest = if mode.meta then spec.by_meta (Some meta) task mode times else None in
     let first = neither always (option_or gone (option_or newer rest)) none in
@@ -266,7 +255,7 @@ no_reason_is_fresh meta task mode times goes none =
     let third = neither newer rest second.1 in
     let by : spec.by_meta (Some meta) task mode times ≡ None = rw goes.meta at third.1 in
     meta-fresh task mode times meta goes
-    (standing times.target (not-given (spec.is_missing times.target) why.Missing second.0)) by
+    (standing times.target (not-given (is_missing times.target) why.Missing second.0)) by
 
 -- times of one kind, each of which a look saw at its path
 seen-of : (look : List ℕ → When → Type 0) (kind : When → Type 0) (paths : List (List ℕ))

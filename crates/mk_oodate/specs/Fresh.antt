@@ -1,5 +1,5 @@
 -- What it means that the test gives no reason, in a build that goes by records.
-use Rattle.std.specs.Prelude.{◌≡◌, ◌≢◌, ◌<◌, ℕ, Bool, true, false, List, [], ◌∷◌, Option, Some, None}
+use Rattle.std.specs.Prelude.{◌≡◌, ◌≢◌, ◌<◌, ℕ, true, false, List, Some, None}
 use Rattle.std.specs.List.{All, AllZip, Contains}
 use Rattle.mk_filemon.specs.declared.record.Rec.{Rec}
 use Rattle.mk_meta.specs.declared.meta.Meta.{Meta}

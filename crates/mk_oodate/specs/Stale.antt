@@ -6,6 +6,7 @@ use Rattle.std.specs.Str.{bytes_eq}
 use Rattle.mk_bytes.specs.declared.pair.Pair.{Pair}
 use Rattle.mk_filemon.specs.declared.record.Rec.{Rec}
 use Rattle.mk_meta.specs.declared.meta.Meta.{Meta}
+use Rattle.mk_world.specs.Looks.{is_missing}
 use Rattle.mk_world.specs.declared.command.Task.{Task}
 use Rattle.mk_world.specs.declared.command.TaskLine.{TaskLine}
 use Rattle.mk_world.specs.declared.time.Time.{Time}
@@ -17,11 +18,6 @@ use Rattle.mk_oodate.specs.declared.reason.NodeMode.{NodeMode}
 use Rattle.mk_oodate.specs.declared.reason.Times.{Times}
 use Rattle.mk_oodate.specs.declared.reason.Why.{Why}
 use Rattle.mk_oodate.specs.declared.reason.Why.TheVariants as why
-
-abbrev pub is_missing : When → Bool
-is_missing when.Missing = true
-is_missing (when.At time) = false
-is_missing when.Unknown = false
 
 -- a source is new, or changed strictly later; an unknown time is later than all
 abbrev pub is_newer : When → Age → Bool

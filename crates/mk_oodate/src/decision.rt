@@ -2,19 +2,13 @@
 ghost use Rattle.std.specs.Prelude.{◌≡◌, ◌<◌, not, length, position, IfSome};
 ghost use Rattle.std.specs.Option.{option_copied};
 ghost use Rattle.mk_oodate.specs.Stale as spec;
+ghost use Rattle.mk_world.specs.Looks.{is_missing};
 
 use crate::reason::{Age, NodeMode, Times, Why};
 use crate::same::is_same;
 use mk_filemon::Recs;
 use mk_meta::Meta;
 use mk_world::{Task, Time, When};
-
-/// Whether there is no file, by its time.
-pub fn is_missing(when: When) -> bool
-    ensures { result ≡ spec.is_missing when }
-{
-    matches!(when, When::Missing)
-}
 
 /// Whether a source is newer than a target: it is new, or was changed strictly later. A time that is not
 /// known is later than all.
@@ -62,17 +56,17 @@ fn first_changed(stamp: Time, reads: &[When]) -> Option<usize>
 }
 
 fn first_there(misses: &[When]) -> Option<usize>
-    ensures place { result ≡ position (λ when. not (spec.is_missing when)) misses.now }
+    ensures place { result ≡ position (λ when. not (is_missing when)) misses.now }
     ensures within { IfSome result (λ place. place < length misses.now) }
 {
-    misses.iter().position(|when| !is_missing(*when))
+    misses.iter().position(|when| !when.is_missing())
 }
 
 fn first_missing(left: &[When]) -> Option<usize>
-    ensures place { result ≡ position spec.is_missing left.now }
+    ensures place { result ≡ position is_missing left.now }
     ensures within { IfSome result (λ place. place < length left.now) }
 {
-    left.iter().position(|when| is_missing(*when))
+    left.iter().position(|when| when.is_missing())
 }
 
 // Parts 7 to 10.
@@ -129,7 +123,7 @@ pub fn stale(meta: Option<&Meta>, task: &Task, mode: &NodeMode, times: &Times) -
     if mode.always {
         return Some(Why::Always);
     }
-    if is_missing(times.target) {
+    if times.target.is_missing() {
         return Some(Why::Missing);
     }
     if let Some(place) = first_newer(times.target, times.sources.as_slice()) {

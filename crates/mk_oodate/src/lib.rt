@@ -26,7 +26,7 @@ mod lists;
 mod reason;
 mod same;
 
-pub use decision::{is_missing, is_newer, stale};
+pub use decision::{is_newer, stale};
 pub use law::no_reason_is_fresh;
 pub use lists::looked_at;
 pub use reason::{Age, Ages, NodeMode, Times, Whens, Why};

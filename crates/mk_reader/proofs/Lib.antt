@@ -6,7 +6,6 @@ mod GaveLemmas
 mod LineLemmas
 mod ListLemmas
 mod MapLemmas
-mod ModeLemmas
 mod MomentLemmas
 mod QuestionLemmas
 mod ReadByLemmas

@@ -1,5 +1,5 @@
 -- What is answered where the files stay as they are.
-use Rattle.std.proofs.Common.{◌≡◌, ℕ, zero, suc, List, [], ◌∷◌, ◌++◌, Option, Some, None, is_some, slice_get}
+use Rattle.std.proofs.Common.{◌≡◌, ℕ, zero, suc, not, List, [], ◌∷◌, ◌++◌, Option, Some, None, is_some, slice_get}
 use Rattle.std.proofs.Common.{refl, sym, ap, subst, ◌∙◌, map}
 use Rattle.std.specs.Option.{option_map}
 use Rattle.mk_expand.specs.declared.facts.Asked.{Asked}
@@ -7,6 +7,7 @@ use Rattle.mk_world.proofs.CallLemmas.{after_all-append}
 use Rattle.mk_world.specs.Calls.{when_of}
 use Rattle.mk_world.specs.Deeds.{Store}
 use Rattle.mk_world.specs.History.{Filed, after_all, contents, files_of, first_state, state_of}
+use Rattle.mk_world.specs.Looks.{is_missing}
 use Rattle.mk_world.specs.Talks.{Meaning, after_doing, does}
 use Rattle.mk_world.specs.declared.command.Cmd.{Cmd}
 use Rattle.mk_world.specs.declared.history.Happening.{Happening}
@@ -15,7 +16,7 @@ use Rattle.mk_world.specs.declared.history.History.{History}
 use Rattle.mk_world.specs.declared.step.Ended.{Ended}
 use Rattle.mk_world.specs.declared.time.When.{When}
 use Rattle.mk_reader.specs.OnMaps.{LeaveAll, ReadsTheMap, answers_on}
-use Rattle.mk_reader.specs.Questions.{Answered, AreAsked, IsAsked, Question, Reading, Running, is_there}
+use Rattle.mk_reader.specs.Questions.{Answered, AreAsked, IsAsked, Question, Reading, Running}
 use Rattle.mk_reader.specs.Questions.{bytes_of, cut, output_of, time_of}
 use Rattle.mk_reader.specs.Questions.{cuts_in, readings_in, runnings_in, times_in}
 
@@ -49,9 +50,10 @@ files-kept meaning store (question ∷ more) old new is asked none leave =
     let next = kept meaning store question more old asked.0 is asked.1 none leave in
     files-kept meaning store more asked.0 new next.0 asked.2 next.1 next.2
 
-is_there-of : (file : Option Filed) → is_there (when_of file) ≡ is_some (option_map (λ one. one.bytes) file)
-is_there-of None = refl
-is_there-of (Some file) = refl
+there-of : (file : Option Filed)
+    → not (is_missing (when_of file)) ≡ is_some (option_map (λ one. one.bytes) file)
+there-of None = refl
+there-of (Some file) = refl
 
 timed : (meaning : Meaning) (store : Store) (questions : List Question) (old new : History)
     → files_of old ≡ store → AreAsked meaning questions old new → cuts_in questions ≡ []
@@ -60,9 +62,9 @@ timed : (meaning : Meaning) (store : Store) (questions : List Question) (old new
     → one.answer ≡ is_some (store one.path)
 timed meaning store [] old new is asked none leave place one at = absurd cc
 timed meaning store (time_of path when ∷ more) old new is asked none leave zero one at =
-    let same : record { path = path; answer = is_there when } ≡ one = cc in
+    let same : record { path = path; answer = not (is_missing when) } ≡ one = cc in
     subst (λ (it : Asked). it.answer ≡ is_some (store it.path)) same
-    (ap is_there asked.1.told ∙ is_there-of ((state_of old).files path)
+    (ap (λ when. not (is_missing when)) asked.1.told ∙ there-of ((state_of old).files path)
     ∙ ap (λ (files : Store). is_some (files path)) is)
 timed meaning store (time_of path when ∷ more) old new is asked none leave (suc place) one at =
     let next = kept meaning store (time_of path when) more old asked.0 is asked.1 none leave in

@@ -5,6 +5,7 @@ use Rattle.std.proofs.lemmas.List.{append-nil, map-append}
 use Rattle.mk_expand.specs.declared.facts.Asked.{Asked}
 use Rattle.mk_world.specs.Calls.{Adds, AddsEvents, OwnNothing, OwnTime}
 use Rattle.mk_world.specs.History.{after_all, state_of, tickets_of}
+use Rattle.mk_world.specs.Looks.{DatesOnce}
 use Rattle.mk_world.specs.Runs.{Same}
 use Rattle.mk_world.specs.Talks.{Meaning}
 use Rattle.mk_world.specs.Told.{Told}
@@ -14,7 +15,7 @@ use Rattle.mk_world.proofs.IdleLemmas.{IsIdle, adds_alone, same_idle}
 use Rattle.mk_reader.specs.Acts.{acts_of}
 use Rattle.mk_reader.specs.Leads.{Led}
 use Rattle.mk_reader.specs.Notes.{asked_by, question_of, questions_in}
-use Rattle.mk_reader.specs.Questions.{AreAsked, IsAsked, Question, Timed, bytes_of, cut, cuts_in, output_of, readings_in, runnings_in, time_of, times_in}
+use Rattle.mk_reader.specs.Questions.{AreAsked, IsAsked, Question, bytes_of, cut, cuts_in, output_of, readings_in, runnings_in, time_of, times_in}
 use Rattle.mk_reader.specs.Questions.{times_in-append}
 use Rattle.mk_reader.specs.declared.note.Note.{Note}
 
@@ -23,7 +24,8 @@ same_history old new same = rw (same.base, same.events) refl
 
 timed_alone : {meaning : Meaning} {path : List ℕ} {when : When} {old new : History}
     → tickets_of (state_of old).children ≡ []
-    → AddsEvents meaning (OwnTime path when) old new → Timed path when old new
+    → AddsEvents meaning (OwnTime path when) old new
+    → DatesOnce (record { path = path; when = when }) old new
 timed_alone {meaning} {path} {when} {old} {new} idle adds =
     let alone = adds_alone
     (λ state own is none. subst (λ l. (after_all state l).children ≡ []) (sym is.0) none)
@@ -37,7 +39,7 @@ timed_alone {meaning} {path} {when} {old} {new} idle adds =
 -- a question about a time
 pub timed_idle : (meaning : Meaning) (path : List ℕ) (when : When) (before after : Option History)
     → IsIdle before → Adds meaning before after (OwnTime path when)
-    → Told before after (Timed path when)
+    → Told before after (DatesOnce (record { path = path; when = when }))
 timed_idle meaning path when before None idle adds = tt
 timed_idle meaning path when None (Some new) idle adds = absurd adds
 timed_idle meaning path when (Some old) (Some new) idle adds = timed_alone (idle old refl) adds

@@ -1,6 +1,6 @@
 -- How a build goes, as the variables ask for it behind the last line.
-use Rattle.std.specs.Prelude.{ℕ, false, ◌&&◌, List, codes, if◌then◌else◌}
-use Rattle.mk_blocks.specs.Outcomes.{refused, ◌>>=◌}
+use Rattle.std.specs.Prelude.{ℕ, false, List, codes}
+use Rattle.mk_blocks.specs.Outcomes.{◌>>=◌}
 use Rattle.mk_directive.specs.Words.{words_of}
 use Rattle.mk_graph.specs.declared.Made.{Made}
 use Rattle.mk_graph.specs.declared.mode.Mode.{Mode}
@@ -11,19 +11,14 @@ use Rattle.mk_reader.specs.Moments.{Doing, Moment, given}
 use Rattle.mk_reader.specs.Questions.{Answers}
 use Rattle.mk_reader.specs.Values.{value}
 use Rattle.mk_reader.specs.declared.state.Draft.{Draft}
-use Rattle.mk_reader.specs.declared.fault.What.TheVariants.{Unbuilt}
 
 -- the words of a variable's value
 abbrev pub words_in : Answers → List ℕ → Moment → Doing (List (List ℕ))
 words_in answers text s = value answers false text s >>= λ shown. given (words_of shown.0) shown.1
 
--- meta files in the directory of the run itself are not built yet
-abbrev pub mode_checked : Mode → Moment → Doing Mode
-mode_checked mode s = if mode.meta && mode.curdir_ok then refused Unbuilt else given mode s
-
 abbrev pub mode_at : List (List ℕ) → List (List ℕ) → Moment → Doing Mode
 mode_at words ignored s =
-    mode_checked (mode_by words ignored s.made.rules.one_job s.made.rules.delete_on_error) s
+    given (mode_by words ignored s.made.rules.one_job s.made.rules.delete_on_error) s
 
 abbrev pub mode_with : Answers → List (List ℕ) → Moment → Doing Mode
 mode_with answers words s =

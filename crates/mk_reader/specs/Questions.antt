@@ -1,20 +1,17 @@
 -- Questions that reading asks of the world, and their answers.
-use Rattle.std.specs.Prelude.{◌≡◌, ℕ, Bool, true, false, List, [], ◌∷◌, ◌++◌, Option, Some, slice_get}
+use Rattle.std.specs.Prelude.{◌≡◌, ℕ, not, List, [], ◌∷◌, ◌++◌, Option, Some, slice_get}
 use Rattle.std.proofs.Common.{refl, ap}
 use Rattle.mk_expand.specs.Facts.{AnsweredBy}
 use Rattle.mk_expand.specs.Facts as expand
 use Rattle.mk_expand.specs.declared.facts.Asked.{Asked}
-use Rattle.mk_world.specs.Calls.{when_of}
-use Rattle.mk_world.specs.History.{state_of}
+use Rattle.mk_world.specs.Looks.{DatesOnce, is_missing}
 use Rattle.mk_world.specs.Runs.{Looked, RanAtMost}
 use Rattle.mk_world.specs.Runs as runs
 use Rattle.mk_world.specs.Talks.{Meaning}
 use Rattle.mk_world.specs.declared.command.Cmd.{Cmd}
-use Rattle.mk_world.specs.declared.history.Happening.TheVariants.{Look}
 use Rattle.mk_world.specs.declared.history.History.{History}
 use Rattle.mk_world.specs.declared.step.Ended.{Ended}
 use Rattle.mk_world.specs.declared.time.When.{When}
-use Rattle.mk_world.specs.declared.time.When.TheVariants.{Missing, At, Unknown}
 
 pub data Question : Type 0 where
   -- the bytes of a path
@@ -26,12 +23,6 @@ pub data Question : Type 0 where
   -- a command that was not answered
   cut : (cmd : Cmd) → Question
 
--- a file is there unless its time says that it is missing
-abbrev pub is_there : When → Bool
-is_there Missing = false
-is_there (At time) = true
-is_there Unknown = true
-
 -- a file that was read
 pub record Reading : Type 0 where
   pub path : List ℕ
@@ -42,10 +33,11 @@ pub record Running : Type 0 where
   pub cmd : Cmd
   pub ended : Ended
 
--- the questions of each sort, in order
+-- the questions of each sort, in order; a file is there unless its time says that it is missing
 abbrev pub times_in : List Question → List Asked
 times_in [] = []
-times_in (time_of path when ∷ more) = record { path = path; answer = is_there when } ∷ times_in more
+times_in (time_of path when ∷ more) =
+    record { path = path; answer = not (is_missing when) } ∷ times_in more
 times_in (bytes_of path found ∷ more) = times_in more
 times_in (output_of cmd ended ∷ more) = times_in more
 times_in (cut cmd ∷ more) = times_in more
@@ -76,7 +68,7 @@ pub times_in-append : (first second : List Question)
     → times_in (first ++ second) ≡ times_in first ++ times_in second
 times_in-append [] second = refl
 times_in-append (time_of path when ∷ more) second =
-    ap (λ (l : List Asked). record { path = path; answer = is_there when } ∷ l)
+    ap (λ (l : List Asked). record { path = path; answer = not (is_missing when) } ∷ l)
     (times_in-append more second)
 times_in-append (bytes_of path found ∷ more) second = times_in-append more second
 times_in-append (output_of cmd ended ∷ more) second = times_in-append more second
@@ -126,17 +118,12 @@ pub record Answered (answers : Answers) (questions : List Question) : Type 0 whe
 
 -- In the world
 
--- make asked for the time of a path, and was told what stands there; nothing else happened
-pub record Timed (path : List ℕ) (when : When) (old new : History) : Type 0 where
-  pub base : new.base ≡ old.base
-  pub event : new.events ≡ old.events ++ Look path ∷ []
-  pub told : when ≡ when_of ((state_of old).files path)
-
 -- A question was answered with what stood in the world at its moment, and nothing else happened. A
 -- command that was not answered may have been run.
 abbrev pub IsAsked : Meaning → Question → History → History → Type 0
 IsAsked meaning (bytes_of path found) old new = Looked path found old new
-IsAsked meaning (time_of path when) old new = Timed path when old new
+IsAsked meaning (time_of path when) old new =
+    DatesOnce (record { path = path; when = when }) old new
 IsAsked meaning (output_of cmd ended) old new = runs.Asked meaning cmd ended old new
 IsAsked meaning (cut cmd) old new = RanAtMost meaning cmd old new
 

@@ -10,7 +10,6 @@ ghost use Rattle.mk_graph.specs.Where.{has_commands, is_target, names_where};
 ghost use Rattle.mk_reader.specs.Facts as spec;
 ghost use Rattle.mk_reader.specs.Leads.{Led};
 ghost use Rattle.mk_reader.specs.Notes.{asked_by};
-ghost use Rattle.mk_reader.specs.Questions.{is_there};
 ghost use Rattle.mk_world.specs.Causes.{HasCause};
 
 use crate::note::Note;
@@ -20,7 +19,7 @@ use mk_expand::{FactFault, Facts};
 use mk_glob::matches;
 use mk_graph::{Attr, Graph};
 use mk_rules::Rules;
-use mk_world::{When, World, WorldFault};
+use mk_world::{World, WorldFault};
 use std::alloc::Global;
 use std::snapshot::Snapshot;
 
@@ -41,15 +40,6 @@ fn of_world(fault: WorldFault) -> FactFault
     match fault {
         WorldFault::Failed => FactFault::Failed,
         WorldFault::NoMemory => FactFault::NoMemory,
-    }
-}
-
-fn is_there(when: &When) -> bool
-    ensures { result ≡ is_there when.now }
-{
-    match when {
-        When::Missing => false,
-        When::At(_) | When::Unknown => true,
     }
 }
 
@@ -138,7 +128,7 @@ impl<'a, W: World> ReadFacts<'a, W> {
                 self.notes
                     .push(Note::Time(Snapshot::of(&path), Snapshot::of(&when)))
                     .unwrap();
-                Ok(is_there(&when))
+                Ok(!when.is_missing())
             }
             Err(fault) => Err(of_world(fault)),
         }

@@ -65,8 +65,6 @@ pub enum What {
     /// A name or a text has no value. The fault is never want of memory, nor a failure of the
     /// outside.
     Expand(ExpandFault),
-    /// The line has a form that is not built yet.
-    Unbuilt,
 }
 
 impl From<RuleFault> for Refusal {

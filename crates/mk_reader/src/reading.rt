@@ -12,7 +12,7 @@ ghost use Rattle.mk_reader.specs.declared.fault.ReadFault.TheVariants.{
 };
 ghost use Rattle.mk_world.specs.Causes.{HasCause};
 
-use crate::fault::{Fault, ReadFault, Refusal, Stop, What, refused, refused_at_end};
+use crate::fault::{Fault, ReadFault, Refusal, Stop, refused, refused_at_end};
 use crate::reader::Reader;
 use crate::state::{Draft, State};
 use mk_blocks::read_file;
@@ -143,26 +143,14 @@ impl<'a, W: World, S: Sink> Reader<'a, W, S> {
         Ok(words(alloc, value.bytes())?)
     }
 
-    // How a build goes by these words of `.MAKE.MODE`, with these ignored paths.
-    fn mode_of(&mut self, words: &Texts, ignored: Texts) -> Result<Mode, Refusal>
-        ensures { Gave (outer W.meaning W.history W.faults W.runs S.held S.faults)
-            self.old self.new (λ mode. mode) result (λ answers. modes.mode_at words.now ignored) }
-    {
-        let rules = &self.state.made.rules;
-        let mode = mode_by(words, ignored, rules.one_job(), rules.delete_on_error());
-        if mode.meta && mode.curdir_ok {
-            return Err(Refusal::Wrong(What::Unbuilt));
-        }
-        Ok(mode)
-    }
-
     // How a build goes, by the words of `.MAKE.MODE`.
     fn mode_with(&mut self, alloc: Global, words: &Texts) -> Result<Mode, Refusal>
         ensures { Gave (outer W.meaning W.history W.faults W.runs S.held S.faults)
             self.old self.new (λ mode. mode) result (λ answers. modes.mode_with answers words.now) }
     {
         let ignored = self.words_of(alloc, b"${.MAKE.META.IGNORE_PATHS}")?;
-        self.mode_of(words, ignored)
+        let rules = &self.state.made.rules;
+        Ok(mode_by(words, ignored, rules.one_job(), rules.delete_on_error()))
     }
 
     // How a build goes, as the variables ask for it.

@@ -3,11 +3,11 @@ ghost use Rattle.std.specs.Prelude.{◌≡◌, ◌<◌, length, IfOk, IfSome};
 
 use crate::file::{file_text, remove_file};
 use crate::refusal::Refusal;
-use crate::room::clear;
 use crate::script::{ChildFiles, Streams, script};
 use crate::system::System;
 use mk_bytes::Text;
-use mk_world::{Cmd, Ended, Kids, Ticket};
+use mk_filemon::read_log;
+use mk_world::{Cmd, Ended, Kids, Ops, Ticket};
 use std::fs::Files;
 use std::marker::Model;
 use std::process::{Child, Command, ExitStatus, OpenProcess, Processes};
@@ -27,6 +27,15 @@ const LONGEST_PAUSE: u64 = 2_000;
 pub struct RealKid<P: OpenProcess + Drop> {
     child: Child<P>,
     files: ChildFiles,
+    cwd: Text,
+}
+
+/// What is known of a child when it is taken in: what it printed, and the records of its steps, where
+/// a recorder left a log.
+#[derive(Drop)]
+pub struct Told {
+    pub output: Text,
+    pub records: Option<Ops>,
 }
 
 impl<P: OpenProcess + Drop> Model for RealKid<P> {
@@ -55,6 +64,7 @@ impl<P: OpenProcess + Drop> RealKid<P> {
         let directory = system.room.enter(rt)?;
         let files = ChildFiles::new(rt.alloc(), directory.bytes(), ticket.0)?;
         let script = script(rt.alloc(), streams, &files, cmd.text.bytes())?;
+        let cwd = cmd.cwd.copy(rt.alloc())?;
         let mut command = Command::new(rt.alloc(), SHELL)?;
         command.arg("-c")?.arg(str::from_utf8(script.bytes())?)?;
         for pair in cmd.exports.as_slice() {
@@ -65,7 +75,7 @@ impl<P: OpenProcess + Drop> RealKid<P> {
         }
         let child = command.spawn(rt)?;
         system.running = system.running.saturating_add(1);
-        Ok(RealKid { child, files })
+        Ok(RealKid { child, files, cwd })
     }
 
     // The exit status, where it has ended.
@@ -78,16 +88,35 @@ impl<P: OpenProcess + Drop> RealKid<P> {
         Ok(status_of(self.child.wait()?))
     }
 
-    // What it printed. Its files are removed; a command that removed that one itself is refused.
-    fn output<R: Files + AllocGlobal>(&self, system: &mut System<R>) -> Result<Text, Refusal> {
+    // The records of its log, where there is one. Paths are named from the directory of its command.
+    fn records<R: Files + AllocGlobal>(
+        &self,
+        system: &mut System<R>,
+    ) -> Result<Option<Ops>, Refusal> {
+        let path = self.files.log.bytes();
+        match file_text(&system.rt, system.buffer.as_mut_slice(), path)? {
+            None => Ok(None),
+            Some(log) => {
+                let alloc = system.rt.alloc();
+                Ok(Some(read_log(alloc, log.bytes(), self.cwd.bytes())?))
+            }
+        }
+    }
+
+    // What is told of it. Its files are removed behind the last that is read; a command that removed
+    // the file of its output itself is refused.
+    fn told<R: Files + AllocGlobal>(&self, system: &mut System<R>) -> Result<Told, Refusal> {
         let path = self.files.output.bytes();
         let Some(output) = file_text(&system.rt, system.buffer.as_mut_slice(), path)? else {
             return Err(Refusal::Outside);
         };
+        let records = self.records(system)?;
         remove_file(&system.rt, path)?;
-        clear(&system.rt, self.files.log.bytes())?;
+        if records.is_some() {
+            remove_file(&system.rt, self.files.log.bytes())?;
+        }
         system.running = system.running.saturating_sub(1);
-        Ok(output)
+        Ok(Told { output, records })
     }
 
     /// Ends it, takes it in, and removes its files.
@@ -100,12 +129,12 @@ impl<P: OpenProcess + Drop> RealKid<P> {
     }
 }
 
-/// A child that has ended: its place, its exit status and what it printed.
+/// A child that has ended: its place, its exit status and what is told of it.
 #[derive(Drop)]
 pub struct Over {
     pub place: usize,
     pub status: u8,
-    pub output: Text,
+    pub told: Told,
 }
 
 // The place and the exit status of a child that has ended.
@@ -167,7 +196,7 @@ fn one_ended<R: Clock, P: OpenProcess + Drop>(
     Ok(Found { place: 0, status })
 }
 
-/// Waits until a child has ended, and reads what it printed. It stays among the children.
+/// Waits until a child has ended, and reads its files. It stays among the children.
 #[tactic(auto, using(crate::proofs::KidLemmas::with_kid_unseen))]
 pub fn wait_over<R: Files + Clock + AllocGlobal, P: OpenProcess + Drop>(
     system: &mut System<R>,
@@ -178,11 +207,11 @@ pub fn wait_over<R: Files + Clock + AllocGlobal, P: OpenProcess + Drop>(
     ensures place { IfOk result (λ over. over.place < length kids.old.tickets) }
 {
     let found = one_ended(&system.rt, kids)?;
-    let output = kids.kid(found.place).output(system)?;
+    let told = kids.kid(found.place).told(system)?;
     Ok(Over {
         place: found.place,
         status: found.status,
-        output,
+        told,
     })
 }
 
@@ -194,10 +223,12 @@ pub fn run<R: Processes + Files + AllocGlobal>(
     ensures { IfOk result (λ ended. ended.ticket.0 ≡ 0) }
 {
     let mut kid = RealKid::start(system, Streams::OutputAlone, Ticket(0), cmd)?;
+    let status = kid.wait()?;
+    let Told { output, records } = kid.told(system)?;
     Ok(Ended {
         ticket: Ticket(0),
-        status: kid.wait()?,
-        output: kid.output(system)?,
-        records: None,
+        status,
+        output,
+        records,
     })
 }

@@ -8,8 +8,8 @@ use std::io::{Error, ErrorKind, Read};
 use std::time::{SystemTime, UNIX_EPOCH};
 use std::{fs, str};
 
-// A file above 64 MiB counts as a fault.
-const MAX_FILE: usize = 67_108_864;
+/// A file above 64 MiB counts as a fault.
+pub const MAX_FILE: usize = 67_108_864;
 
 // Whether an error says that there is no file: below a plain file there is none either.
 fn is_missing(error: &Error) -> bool {

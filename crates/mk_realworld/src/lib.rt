@@ -14,6 +14,7 @@ mod script;
 mod sink;
 mod system;
 mod world;
+mod write;
 
 pub use child::RealKid;
 pub use sink::RealSink;

@@ -1,5 +1,4 @@
 //! The directory in which the files of children stand.
-use crate::file::remove_file;
 use crate::refusal::Refusal;
 use itoa::Buffer;
 use mk_bytes::{NoMemory, Text};
@@ -74,13 +73,4 @@ impl Room {
             }
         }
     }
-}
-
-/// Removes a file where it stands. A directory is looked at without its lock, which a removal takes
-/// even where it finds nothing.
-pub fn clear<R: Files>(rt: &R, path: &[u8]) -> Result<(), Refusal> {
-    if fs::metadata(rt, str::from_utf8(path)?).is_ok() {
-        remove_file(rt, path)?;
-    }
-    Ok(())
 }

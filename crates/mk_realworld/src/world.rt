@@ -2,9 +2,10 @@ ghost use Rattle.std.specs.Prelude.{◌≡◌, IfOk};
 
 use crate::child::{RealKid, run, wait_over};
 use crate::file::{file_text, file_time, remove_file};
-use crate::refusal::{Refusal, counted};
+use crate::refusal::counted;
 use crate::script::Streams;
 use crate::system::System;
+use crate::write::write_later;
 use mk_bytes::{NoMemory, Text};
 use mk_world::{Cmd, Ended, Kids, Ticket, Time, When, World, WorldFault};
 use std::alloc::Global;
@@ -69,6 +70,37 @@ impl<R: Files + Processes + Clock + AllocGlobal> World for RealWorld<R> {
         }
     }
 
+    /// Writes the head of a meta file, until its time is later than `after`. Missing directories above
+    /// it are made. At every moment the file is as before, or holds bytes of the head from its
+    /// beginning. A head above 64 MiB, a path that is not UTF-8, and no later time after 1,048,576 tries
+    /// are counted faults.
+    fn stamp(
+        &mut self,
+        _: Global,
+        path: &[u8],
+        head: &[u8],
+        after: Time,
+    ) -> Result<Time, WorldFault> {
+        match write_later(&mut self.system, path, head, after) {
+            Ok(time) => Ok(time),
+            Err(refusal) => Err(counted(refusal, &mut self.faults)),
+        }
+    }
+
+    /// Writes a whole file, as `stamp` does.
+    fn put(
+        &mut self,
+        _: Global,
+        path: &[u8],
+        bytes: &[u8],
+        after: Time,
+    ) -> Result<Time, WorldFault> {
+        match write_later(&mut self.system, path, bytes, after) {
+            Ok(time) => Ok(time),
+            Err(refusal) => Err(counted(refusal, &mut self.faults)),
+        }
+    }
+
     /// Removes a file. A directory is a counted fault.
     fn remove(&mut self, _: Global, path: &[u8]) -> Result<(), WorldFault> {
         match remove_file(&self.system.rt, path) {
@@ -91,7 +123,7 @@ impl<R: Files + Processes + Clock + AllocGlobal> World for RealWorld<R> {
 
     /// Starts `/bin/sh -c` with the command. What it prints on standard output and standard error
     /// goes into the file `out.TICKET` of the world's own directory, and a recorder may write its
-    /// log into `fm.TICKET` there. Where the directory cannot be made, that is a counted fault.
+    /// log into `fm.TICKET` there, of which the records are told when the child is taken in. Where the directory cannot be made, that is a counted fault.
     fn start(
         &mut self,
         _: Global,
@@ -124,8 +156,8 @@ impl<R: Files + Processes + Clock + AllocGlobal> World for RealWorld<R> {
                 Ok(Ended {
                     ticket,
                     status: over.status,
-                    output: over.output,
-                    records: None,
+                    output: over.told.output,
+                    records: over.told.records,
                 })
             }
             Err(refusal) => Err(counted(refusal, &mut self.faults)),

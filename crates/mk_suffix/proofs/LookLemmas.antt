@@ -16,7 +16,7 @@ use Rattle.mk_world.specs.declared.time.When.{When}
 use Rattle.mk_world.proofs.CallLemmas.{after_all-append, no_steps, no_tickets}
 use Rattle.mk_world.proofs.IdleLemmas.{IsIdle, same_idle}
 use Rattle.std.specs.Option.{option_map}
-use Rattle.mk_suffix.specs.Looks.{OnlyLooks, OnLooks, OnlyLooked, is_missing_time}
+use Rattle.mk_world.specs.Looks.{OnlyLooks, OnLooks, OnlyLooked, is_missing}
 
 after_looks : (state : State) (looks : List (List ℕ))
     → after_all state (map (λ path. Look path) looks) ≡ state
@@ -109,14 +109,14 @@ timed_alone meaning path when old new idle adds =
     )
 
 tells : (file : Option Filed) (when : When) → when ≡ when_of file
-    → is_missing_time when ≡ is_none (option_map (λ (f : Filed). f.bytes) file)
+    → is_missing when ≡ is_none (option_map (λ (f : Filed). f.bytes) file)
 tells None when is = rw is refl
 tells (Some file) when is = rw is refl
 
 -- a look at a time, in a world that runs no child
 pub OnLooks-timed : (meaning : Meaning) (path : List ℕ) (when : When) (a b : Option History)
     → IsIdle a → Adds meaning a b (OwnTime path when)
-    → OnLooks a b (λ files. is_missing_time when ≡ is_none (files path))
+    → OnLooks a b (λ files. is_missing when ≡ is_none (files path))
 OnLooks-timed meaning path when a None idle adds = tt
 OnLooks-timed meaning path when None (Some y) idle adds = absurd adds
 OnLooks-timed meaning path when (Some x) (Some y) idle adds =

@@ -2,7 +2,6 @@ pub mod Chains
 pub mod Extends
 pub mod Faults
 pub mod Found
-pub mod Looks
 pub mod Made
 pub mod NameView
 pub mod Names

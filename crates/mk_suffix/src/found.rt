@@ -1,8 +1,7 @@
 //! What can be a source.
 ghost use Rattle.std.specs.Prelude.{◌≡◌, [], is_none, IfOk, OnErr};
 ghost use Rattle.mk_suffix.specs.Found as spec;
-ghost use Rattle.mk_suffix.specs.Looks.{OnLooks, OnlyLooked};
-ghost use Rattle.mk_suffix.specs.Looks as looks;
+ghost use Rattle.mk_world.specs.Looks.{OnLooks, OnlyLooked};
 ghost use Rattle.mk_suffix.specs.declared.fault.SuffixFault.TheVariants.{Failed as failed};
 ghost use Rattle.mk_world.specs.Causes.{HasCause};
 ghost use Rattle.mk_world.specs.declared.fault.WorldFault.TheVariants.{Failed as world_failed};
@@ -10,18 +9,8 @@ ghost use Rattle.mk_world.specs.declared.fault.WorldFault.TheVariants.{Failed as
 use crate::fault::SuffixFault;
 use crate::rule::is_marked;
 use mk_graph::{Attr, Graph};
-use mk_world::{When, World, WorldFault};
+use mk_world::{World, WorldFault};
 use std::alloc::Global;
-
-// Whether there is no file, by its time.
-fn is_missing_time(when: &When) -> bool
-    ensures { result ≡ looks.is_missing_time when.now }
-{
-    match when {
-        When::Missing => true,
-        When::At(_) | When::Unknown => false,
-    }
-}
 
 fn is_missing<W: World>(alloc: Global, world: &mut W, name: &[u8]) -> Result<bool, WorldFault>
     requires idle { W.runs world.old [] }
@@ -32,7 +21,7 @@ fn is_missing<W: World>(alloc: Global, world: &mut W, name: &[u8]) -> Result<boo
     ensures idle { W.runs world.new [] }
 {
     let when = world.time(alloc, name)?;
-    Ok(is_missing_time(&when))
+    Ok(when.is_missing())
 }
 
 /// Whether a name can be a source: it is a target, or there is a file of it and it is not phony.

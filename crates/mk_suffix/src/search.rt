@@ -6,7 +6,7 @@ ghost use Rattle.mk_depline.specs.Names.{is_among};
 ghost use Rattle.mk_suffix.specs.Chains as spec;
 ghost use Rattle.mk_suffix.specs.Extends.{AreWays, IsStepFrom, GoesOn, Went, Found};
 ghost use Rattle.mk_suffix.specs.Found.{is_found};
-ghost use Rattle.mk_suffix.specs.Looks.{OnLooks, OnlyLooked};
+ghost use Rattle.mk_world.specs.Looks.{OnLooks, OnlyLooked};
 ghost use Rattle.mk_suffix.specs.Made.{IsFor};
 ghost use Rattle.mk_suffix.specs.declared.fault.SuffixFault.TheVariants.{Failed as failed};
 ghost use Rattle.mk_world.specs.Causes.{HasCause};

@@ -1,9 +1,8 @@
 -- What is added to a lawful history.
 use Rattle.std.proofs.Common.{List, ◌++◌, subst, sym}
 use Rattle.mk_world.specs.Calls.{AddsEvents}
-use Rattle.mk_world.specs.History.{State, MayAll, first_state, state_of}
+use Rattle.mk_world.specs.History.{State, MayAll, first_state}
 use Rattle.mk_world.specs.Lawful.{AreLaterThan, IsLawful, RunsStayLawful}
-use Rattle.mk_world.specs.Runs.{Run}
 use Rattle.mk_world.specs.Talks.{Meaning}
 use Rattle.mk_world.specs.declared.history.Happening.{Happening}
 use Rattle.mk_world.specs.declared.history.History.{History}

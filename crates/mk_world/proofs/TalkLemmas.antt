@@ -56,7 +56,7 @@ deed_at-told store (ask.Move from to) stands right =
 length-answer : (seen : List Answer) (one : Answer) → length (seen ++ one ∷ []) ≡ suc (length seen)
 length-answer seen one = length-append seen (one ∷ []) ∙ omega arith
 
-more-not_over : (next : Next) (request : Request) → next ≡ More request → IsOver next → ⊥
+pub more-not_over : (next : Next) (request : Request) → next ≡ More request → IsOver next → ⊥
 more-not_over (Over status output) request is over = cc
 more-not_over (More other) request is over = over
 
@@ -98,7 +98,7 @@ pub does-is : (meaning : Meaning) (cmd : Cmd) (store : Store)
 does-is meaning cmd store =
     does_in-is meaning cmd (suc (meaning.limit cmd)) [] store (omega arith) (omega arith)
 
-same_request : (next : Next) (one other : Request) → next ≡ More one → next ≡ More other
+pub same_request : (next : Next) (one other : Request) → next ≡ More one → next ≡ More other
     → one ≡ other
 same_request next one other is also = let same : More one ≡ More other = sym is ∙ also in cc
 

@@ -1,12 +1,13 @@
 -- What one call of a world adds to its history.
 use Rattle.std.specs.Prelude.{◌≡◌, ◌⊎◌, ℕ, List, [], ◌∷◌, ◌++◌, map, Option, Some, None}
 use Rattle.mk_world.specs.History.{Filed, State, MayAll, after_all, child_in, contents, state_of}
+use Rattle.mk_world.specs.Sinks.{Begins}
 use Rattle.mk_world.specs.Talks.{Meaning, Doing, answer, does}
 use Rattle.mk_world.specs.Told.{Told}
 use Rattle.mk_world.specs.declared.command.Cmd.{Cmd}
 use Rattle.mk_world.specs.declared.history.Child.{Child}
 use Rattle.mk_world.specs.declared.history.Happening.{Happening}
-use Rattle.mk_world.specs.declared.history.Happening.TheVariants.{Look, Gone, Ask, Start, Step, End, Left}
+use Rattle.mk_world.specs.declared.history.Happening.TheVariants.{Look, Stamp, Put, Gone, Ask, Start, Step, End, Left}
 use Rattle.mk_world.specs.declared.history.History.{History}
 use Rattle.mk_world.specs.declared.history.Timed.{Timed}
 use Rattle.mk_world.specs.declared.step.Deed.{Deed}
@@ -59,6 +60,26 @@ OwnTime path when state own = (own ≡ Look path ∷ []) × (when ≡ when_of (s
 -- a removal, at some time
 abbrev pub OwnGone : List ℕ → State → List Happening → Type 0
 OwnGone path state own = (time : ℕ) × (own ≡ Gone path time ∷ [])
+
+-- a meta file's head was written at this time
+abbrev pub OwnStamp : List ℕ → List ℕ → ℕ → State → List Happening → Type 0
+OwnStamp path bytes time state own = own ≡ Stamp path bytes time ∷ []
+
+-- a whole file was written at this time
+abbrev pub OwnPut : List ℕ → List ℕ → ℕ → State → List Happening → Type 0
+OwnPut path bytes time state own = own ≡ Put path bytes time ∷ []
+
+-- A write that was refused has left the file as it was, or with a part of the bytes, from their
+-- beginning.
+abbrev pub OwnPart : (List ℕ → ℕ → Happening) → List ℕ → State → List Happening → Type 0
+OwnPart written bytes state own =
+    (own ≡ []) ⊎ ((part : List ℕ) × (time : ℕ) × Begins part bytes × (own ≡ written part time ∷ []))
+
+abbrev pub OwnStampPart : List ℕ → List ℕ → State → List Happening → Type 0
+OwnStampPart path bytes = OwnPart (λ part time. Stamp path part time) bytes
+
+abbrev pub OwnPutPart : List ℕ → List ℕ → State → List Happening → Type 0
+OwnPutPart path bytes = OwnPart (λ part time. Put path part time) bytes
 
 abbrev pub OwnStart : ℕ → ℕ → Cmd → State → List Happening → Type 0
 OwnStart ticket owner cmd state own = own ≡ Start ticket owner cmd ∷ []

@@ -1,3 +1,6 @@
+ghost use Rattle.std.specs.Prelude.{◌≡◌};
+ghost use Rattle.mk_world.specs.Looks as looks;
+
 /// A time: a number of nanoseconds. The time 0 stands for none.
 #[derive(Clone, Copy, Debug, PartialEq, Eq)]
 pub struct Time(pub u64);
@@ -15,4 +18,13 @@ pub enum When {
     At(Time),
     /// The file is there, at a time that is not known and counts as newer than all.
     Unknown,
+}
+
+impl When {
+    /// Whether there is no file.
+    pub fn is_missing(self) -> bool
+        ensures { result ≡ looks.is_missing self }
+    {
+        matches!(self, When::Missing)
+    }
 }

@@ -1,7 +1,7 @@
 ghost use Rattle.std.specs.Prelude.{◌≡◌, ◌<◌, ℕ, List, [], ◌∷◌, ◌++◌, Option, Some, false, length, nat_eq, IsTrue, IfOk, OnOk, OnErr};
 ghost use Rattle.std.specs.List.{list_any};
 ghost use Rattle.mk_bytes.specs.Paths.{is_clean_directory};
-ghost use Rattle.mk_world.specs.Calls.{Adds, OwnNothing, OwnRead, OwnTime, OwnGone, OwnAsk, OwnUnanswered, OwnStart, OwnEnd, OwnLeft, TakenOut};
+ghost use Rattle.mk_world.specs.Calls.{Adds, OwnNothing, OwnRead, OwnTime, OwnStamp, OwnStampPart, OwnPut, OwnPutPart, OwnGone, OwnAsk, OwnUnanswered, OwnStart, OwnEnd, OwnLeft, TakenOut};
 ghost use Rattle.mk_world.specs.Causes.{HasCause};
 ghost use Rattle.mk_world.specs.History.{state_of, tickets_of};
 ghost use Rattle.mk_world.specs.Talks.{Meaning};
@@ -21,7 +21,7 @@ use std::alloc::Global;
 ///
 /// Every call adds to the history, where the world tells it, steps of running children and the
 /// events of its own that its clauses name, and nothing else; a refused call adds none of its own,
-/// except that a refused `ask` may. `Failed` comes only where the count of faults rose in the call
+/// except that a refused `stamp`, `put` or `ask` may. `Failed` comes only where the count of faults rose in the call
 /// or is at its end.
 pub trait World {
     /// A running child.
@@ -51,6 +51,41 @@ pub trait World {
     fn time(&mut self, alloc: Global, path: &[u8]) -> Result<When, WorldFault>
         ensures done { IfOk result (λ when. Adds meaning (history self.old) (history self.new) (OwnTime path.now when)) }
         ensures refused { OnErr result (Adds meaning (history self.old) (history self.new) OwnNothing) }
+        ensures cause { HasCause Failed (faults self.old) (faults self.new) result }
+        ensures children { (kids : List ℕ) → runs self.old kids → runs self.new kids };
+
+    /// Writes the head of a meta file, with which a job begins, and gives the file's time, which is later
+    /// than `after`. After a refusal the file is as before, or holds a part of the head from its
+    /// beginning.
+    fn stamp(
+        &mut self,
+        alloc: Global,
+        path: &[u8],
+        head: &[u8],
+        after: Time,
+    ) -> Result<Time, WorldFault>
+        ensures done { IfOk result (λ time. Adds meaning (history self.old) (history self.new)
+            (OwnStamp path.now head.now time.0)) }
+        ensures later { IfOk result (λ time. after.0 < time.0) }
+        ensures refused { OnErr result (Adds meaning (history self.old) (history self.new)
+            (OwnStampPart path.now head.now)) }
+        ensures cause { HasCause Failed (faults self.old) (faults self.new) result }
+        ensures children { (kids : List ℕ) → runs self.old kids → runs self.new kids };
+
+    /// Writes a whole file, and gives its time, which is later than `after`. After a refusal the file
+    /// is as before, or holds a part of the bytes from their beginning.
+    fn put(
+        &mut self,
+        alloc: Global,
+        path: &[u8],
+        bytes: &[u8],
+        after: Time,
+    ) -> Result<Time, WorldFault>
+        ensures done { IfOk result (λ time. Adds meaning (history self.old) (history self.new)
+            (OwnPut path.now bytes.now time.0)) }
+        ensures later { IfOk result (λ time. after.0 < time.0) }
+        ensures refused { OnErr result (Adds meaning (history self.old) (history self.new)
+            (OwnPutPart path.now bytes.now)) }
         ensures cause { HasCause Failed (faults self.old) (faults self.new) result }
         ensures children { (kids : List ℕ) → runs self.old kids → runs self.new kids };
 

@@ -1,4 +1,4 @@
-use Rattle.std.proofs.Common.{◌≡◌, ◌≤◌, ℕ, true, drop, length}
+use Rattle.std.proofs.Common.{◌≡◌, ◌≤◌, true, drop, length}
 use Rattle.mk_memworld.specs.Base.{Holds, are_clean}
 use Rattle.mk_memworld.proofs.base.are_clean.Given as goal
 

@@ -14,5 +14,5 @@ pub returns-clause-told : goal.returns-clause-told
 returns-clause-told g c =
     let idle : IsIdle (g.W.World.history c.args.world.now) =
     λ h is. g.met.W.World.told_children c.args.world.now h [] c.requires.idle is in
-    rw c.is_missing_time.ensures (OnLooks-timed g.W.World.meaning c.args.name.now c.in_ok-when.when
+    rw c.is_missing.ensures (OnLooks-timed g.W.World.meaning c.args.name.now c.in_ok-when.when
     _ _ idle c.in_ok-when.ensures.done)

@@ -1,7 +1,7 @@
 use Rattle.std.proofs.Common.{◌≡◌, [], drop}
 use Rattle.mk_suffix.specs.Extends.{Extends, NoneFound}
 use Rattle.mk_suffix.specs.Found.{is_found}
-use Rattle.mk_suffix.specs.Looks.{OnLooks}
+use Rattle.mk_world.specs.Looks.{OnLooks}
 use Rattle.mk_suffix.proofs.search.extend.Given as goal
 
 -- the suffixes so far were gone through, and none that was reached is found

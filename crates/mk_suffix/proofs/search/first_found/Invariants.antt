@@ -3,7 +3,7 @@ use Rattle.std.specs.List.{list_any}
 use Rattle.mk_suffix.proofs.FirstLemmas.{whole, left_at}
 use Rattle.mk_suffix.specs.Extends.{AreWays}
 use Rattle.mk_suffix.specs.Found.{is_found}
-use Rattle.mk_suffix.specs.Looks.{OnLooks}
+use Rattle.mk_world.specs.Looks.{OnLooks}
 use Rattle.mk_suffix.specs.Search.{Leads, reached, left_over, is_source}
 use Rattle.mk_suffix.proofs.search.first_found.Given as goal
 

@@ -2,7 +2,7 @@ use Rattle.std.proofs.Common.{◌≡◌, [], ◌∷◌, length, reverse}
 use Rattle.mk_closure.specs.Steps as steps
 use Rattle.mk_closure.specs.Walks as spec
 use Rattle.mk_graph.specs.Numbers.{AreBelow}
-use Rattle.mk_suffix.specs.Looks.{OnLooks}
+use Rattle.mk_world.specs.Looks.{OnLooks}
 use Rattle.mk_closure.proofs.closure.Closure.walk.Given as goal
 
 -- the walk over the nodes that are left comes to the same as the whole one

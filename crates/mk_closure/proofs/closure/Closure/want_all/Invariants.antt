@@ -1,6 +1,6 @@
 use Rattle.std.proofs.Common.{◌≡◌, [], drop}
 use Rattle.mk_closure.specs.Walks as spec
-use Rattle.mk_suffix.specs.Looks.{OnLooks}
+use Rattle.mk_world.specs.Looks.{OnLooks}
 use Rattle.mk_closure.proofs.closure.Closure.want_all.Given as goal
 
 -- the names so far were met, and the others are met behind them

@@ -1,8 +1,6 @@
-use Rattle.std.proofs.Common.{◌≡◌, [], ◌∙◌, ap}
+use Rattle.std.proofs.Common.{◌≡◌, []}
 use Rattle.mk_memworld.specs.Base.{base_of}
 use Rattle.mk_memworld.specs.Meaning.{language}
-use Rattle.mk_world.specs.declared.history.File.{File}
-use Rattle.mk_world.specs.declared.history.History.{History}
 use Rattle.mk_memworld.proofs.BaseLemmas.{fresh-lawful}
 use Rattle.mk_memworld.proofs.world.MemWorld.new.Goals as goal
 

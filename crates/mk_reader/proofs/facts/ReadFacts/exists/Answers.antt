@@ -9,7 +9,7 @@ returns-in-Ok-clause-asked g c =
     let pushed = rw c.unwrap.ensures at c.push.ensures.items in
     asked_by-push c.args.self.now.notes.now.items _ (Time c.of.result c.of-in-Ok.result) _
     (pushed ∙ ap (λ l. l ++ Time c.of.result c.of-in-Ok.result ∷ []) c.reserve.ensures.items)
-    (rw (c.of.ensures, c.in_ok-path.ensures, c.of-in-Ok.ensures, c.is_there.ensures) refl)
+    (rw (c.of.ensures, c.in_ok-path.ensures, c.of-in-Ok.ensures, c.is_missing.ensures) refl)
 
 pub returns-in-Ok-clause-led : goal.returns-in-Ok-clause-led
 returns-in-Ok-clause-led g c =

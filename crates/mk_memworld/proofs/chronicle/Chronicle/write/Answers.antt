@@ -1,0 +1,14 @@
+use Rattle.std.proofs.Common.{rules, ◌≡◌, [], ◌∷◌, ◌++◌, refl, arith}
+use Rattle.std.proofs.lemmas.Grind.{common_steps}
+use Rattle.mk_memworld.specs.Writes.{event_of}
+use Rattle.mk_memworld.proofs.WriteLemmas.{IsPresent-write}
+use Rattle.mk_memworld.proofs.chronicle.Chronicle.write.Goals as goal
+
+pub invariant_of-self-2 : goal.invariant_of-self-2
+invariant_of-self-2 c =
+    let event = event_of c.args.writing c.in_ok-copy.copy c.in_ok-text.text c.args.time in
+    let items : c.push.new.self.items ≡ c.self.inside.events.items ++ event ∷ [] =
+    grind (arith, common_steps) in
+    IsPresent-write c.self.inside _ c.args.writing c.args.path.now c.in_ok-copy.copy
+    c.args.bytes.now c.in_ok-text.text c.args.time c.self.invariant c.in_ok-copy.ensures
+    c.in_ok-text.ensures items c.in_ok-write.ensures.ok (search rules) refl refl refl
