@@ -100,7 +100,6 @@ fn what_name(what: &What) -> &'static str {
         What::TooManyNames => "TooManyNames",
         What::Error(_) => "Error",
         What::Expand(_) => "Expand",
-        What::Unbuilt => "Unbuilt",
     }
 }
 

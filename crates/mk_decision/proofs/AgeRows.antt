@@ -1,13 +1,17 @@
 -- Small plans, and how old their nodes are.
-use Rattle.std.proofs.Common.{◌≡◌, ℕ, List, [], ◌∷◌, codes, true, false, inl, inr, refl}
+use Rattle.std.proofs.Common.{◌≡◌, ℕ, List, [], ◌∷◌, codes, Some, None, true, false, inl, inr, refl}
 use Rattle.mk_graph.specs.Marks.{no_marks}
 use Rattle.mk_graph.specs.declared.attr.Marks.{Marks}
+use Rattle.mk_graph.specs.declared.mode.Mode.{Mode}
 use Rattle.mk_plan.specs.declared.plan.PlanNode.{PlanNode}
 use Rattle.mk_world.specs.declared.time.When.{When}
 use Rattle.mk_world.specs.declared.time.When.TheVariants.{Missing, At, Unknown}
 use Rattle.mk_decision.specs.Ages.{age, source_ages, AreSeen}
-use Rattle.mk_decision.specs.Tests.{is_stale, newer_names}
+use Rattle.mk_decision.specs.Reasons.{by_times}
+use Rattle.mk_decision.specs.Tests.{newer_names, node_mode}
 use Rattle.mk_oodate.specs.declared.reason.Age.TheVariants as of
+use Rattle.mk_oodate.specs.declared.reason.Why.TheVariants as why
+use Rattle.mk_world.specs.declared.command.Task.{Task}
 use Rattle.mk_decision.specs.declared.sight.Sighting.{Sighting}
 
 abbrev node : List ℕ → List ℕ → List (List ℕ) → Marks → PlanNode
@@ -22,6 +26,21 @@ node name sources commands marks = record {
 
 abbrev at : ℕ → When → Sighting
 at place when = record { place = place; when = when }
+
+-- no word of `.MAKE.MODE`
+abbrev no_mode : Mode
+no_mode = record {
+  meta = false;
+  curdir_ok = false;
+  missing_meta = false;
+  missing_filemon = false;
+  nofilemon = false;
+  ignore_cmd = false;
+  silent = false;
+  one_job = false;
+  delete_on_error = false;
+  ignore_paths = [];
+}
 
 abbrev time : ℕ → When
 time number = At (record { 0 = number })
@@ -94,14 +113,19 @@ of_phony = refl
 of_all : source_ages plan 6 seen ≡ of.At (record { 0 = 5 }) ∷ of.Old ∷ []
 of_all = refl
 
+abbrev task : Task
+task = record { lines = []; cwd = codes "/w"; target = codes "t"; exports = [] }
+
 -- a file that is as old as the newest source is kept, an older one is not
-kept : is_stale no_marks (time 5) (source_ages plan 6 seen) ≡ false
+kept : by_times (node_mode no_mode no_marks) task (time 5) (source_ages plan 6 seen) ≡ None
 kept = refl
 
-made : is_stale no_marks (time 4) (source_ages plan 6 seen) ≡ true
+made : by_times (node_mode no_mode no_marks) task (time 4) (source_ages plan 6 seen)
+    ≡ Some (why.Newer 0)
 made = refl
 
-always : is_stale (record no_marks { remake = true }) (time 5) [] ≡ true
+always : by_times (node_mode no_mode (record no_marks { remake = true })) task (time 5) []
+    ≡ Some why.Always
 always = refl
 
 newer : newer_names (time 4) (codes "e" ∷ codes "d" ∷ []) (source_ages plan 6 seen)

@@ -1,18 +1,29 @@
 -- What is decided of a node, by looks.
-use Rattle.std.proofs.Common.{◌≡◌, ◌≢◌, ◌⊎◌, ℕ, List, ◌++◌, Option}
-use Rattle.std.proofs.Common.{inl, inr, Result, Ok, Err, IfOk, refl}
+use Rattle.std.proofs.Common.{◌≡◌, ◌≢◌, ◌⊎◌, ℕ, ◌<◌, List, [], ◌++◌, map, length, Option, Some, None}
+use Rattle.std.proofs.Common.{inl, inr, Result, Ok, Err, IfOk, IfErr, append_assoc, sym, refl}
+use Rattle.mk_expand.specs.Facts.{AnsweredBy, Answers}
+use Rattle.mk_expand.specs.declared.facts.Asked.{Asked}
 use Rattle.mk_expand.specs.declared.fault.ExpandFault.TheVariants as expand
-use Rattle.mk_plan.specs.Asking.{Seen}
-use Rattle.mk_plan.specs.Refusals.{IsOwn, IsTaskFault}
+use Rattle.mk_oodate.specs.declared.reason.Why.{Why}
+use Rattle.mk_plan.specs.Asking.{as_asked}
+use Rattle.mk_plan.specs.Plans.{node_at}
+use Rattle.mk_plan.specs.Refusals.{IsFree, IsOwn, IsTaskFault, RefusedBehind}
 use Rattle.mk_plan.specs.declared.fault.TaskFault.{TaskFault}
+use Rattle.mk_plan.proofs.TaskLemmas.{task_of-length, task_of-with}
+use Rattle.mk_world.specs.Looks.{Dated, Seen, dated}
 use Rattle.mk_world.specs.Talks.{Meaning}
+use Rattle.mk_world.specs.declared.command.Task.{Task}
 use Rattle.mk_world.specs.declared.fault.WorldFault.{WorldFault}
 use Rattle.mk_world.specs.declared.fault.WorldFault.TheVariants as world
 use Rattle.mk_world.specs.declared.history.History.{History}
 use Rattle.mk_world.specs.declared.time.When.{When}
-use Rattle.mk_decision.specs.Ages.{IsWalk}
-use Rattle.mk_decision.specs.Decisions.{Work, Sight, IsDecision, task_by}
+use Rattle.mk_decision.specs.Ages.{IsWalk, source_ages}
+use Rattle.mk_decision.specs.Decisions.{Work, Sight, HasTask, IsDecision, IsJudged, asked_questions, asked_task, decided, mode_at, newer_of, setting_by}
 use Rattle.mk_decision.specs.Looks.{LooksAt}
+use Rattle.mk_decision.specs.Metas.{MetaSight, meta_looks}
+use Rattle.mk_decision.specs.Reasons.{IsMetaSight, reason}
+use Rattle.mk_meta.specs.TrueHistory.{meta_path}
+use Rattle.mk_decision.proofs.LookLemmas.{looks-then}
 use Rattle.mk_decision.specs.Sights.{seen_of}
 use Rattle.mk_decision.specs.declared.decision.Decision.{Decision}
 use Rattle.mk_decision.specs.declared.decision.Decision.TheVariants.{Refuse}
@@ -20,32 +31,95 @@ use Rattle.mk_decision.specs.declared.sight.Sighting.{Sighting}
 
 -- the looks at a node's target and sources, by their times, and those for `exists`
 abbrev pub sight-of : (work : Work) (n : ℕ) (target : When) (sources : List Sighting)
-    (asked : List Seen) → IsWalk work.plan n target sources
-    → Sight work n (seen_of work.plan n target sources ++ asked)
+    (asked : List Dated) → IsWalk work.plan n target sources
+    → Sight work n (seen_of work.plan n target sources ++ map dated asked)
 sight-of work n target sources asked walk =
     record { target = target; sources = sources; asked = asked; are = refl; walk = walk }
 
 -- what is decided of a node by these looks, and why
 abbrev pub IsDecided : Meaning → Work → Option History → Option History → ℕ → List Seen
     → Result Decision WorldFault → Type 0
-IsDecided meaning work a b n sighted result = IfOk result (λ decision. (asked : List Seen)
-    × LooksAt meaning a b asked × IsDecision work n (sighted ++ asked) decision)
+IsDecided meaning work a b n sighted result = IfOk result (λ decision. (more : List Seen)
+    × LooksAt meaning a b more × IsDecision work n (sighted ++ more) decision)
+
+-- what was asked behind a fault
+pub asked-behind : {X : Type 0} → (asked : List Asked) (result : Result X TaskFault)
+    (questions : Answers → List Asked) (answers : Answers) → AnsweredBy answers asked
+    → RefusedBehind asked result questions
+    → IfErr result (λ fault. IsFree fault ⊎ (questions answers ≡ asked))
+asked-behind asked (Ok made) questions answers answered behind = tt
+asked-behind asked (Err fault) questions answers answered behind = behind answers answered
 
 -- the decision of a node whose task has a fault
 pub decided-fault : (meaning : Meaning) (work : Work) (a b : Option History) (n : ℕ)
     (fault : TaskFault) (result : Result Decision WorldFault) (target : When) (sources : List Sighting)
-    (asked : List Seen) → IsWalk work.plan n target sources → LooksAt meaning a b asked
-    → IsTaskFault fault (task_by work n target sources asked)
+    (asked : List Dated) → IsWalk work.plan n target sources → LooksAt meaning a b (map dated asked)
+    → IsTaskFault fault (asked_task work n (newer_of work n target sources) asked)
+    → IsFree fault ⊎ (asked_questions work n (newer_of work n target sources) asked ≡ map as_asked asked)
     → ((result ≡ Err world.NoMemory) × (fault.what ≢ expand.Failed))
     ⊎ (((result ≡ Err world.Failed) × (fault.what ≡ expand.Failed))
     ⊎ ((result ≡ Ok (Refuse fault.line fault.what)) × IsOwn fault))
     → IsDecided meaning work a b n (seen_of work.plan n target sources) result
-decided-fault meaning work a b n fault result target sources asked walk looked is (inl none) =
+decided-fault meaning work a b n fault result target sources asked walk looked is all (inl none) =
     rw none.0 tt
-decided-fault meaning work a b n fault result target sources asked walk looked is (inr (inl failed)) =
+decided-fault meaning work a b n fault result target sources asked walk looked is all (inr (inl failed)) =
     rw failed.0 tt
-decided-fault meaning work a b n fault result target sources asked walk looked (inl free)
+decided-fault meaning work a b n fault result target sources asked walk looked (inl free) all
     (inr (inr told)) = absurd (told.1 free)
-decided-fault meaning work a b n fault result target sources asked walk looked (inr is)
+decided-fault meaning work a b n fault result target sources asked walk looked (inr is) (inl free)
+    (inr (inr told)) = absurd (told.1 free)
+decided-fault meaning work a b n fault result target sources asked walk looked (inr is) (inr all)
     (inr (inr told)) =
-    rw told.0 (asked, looked, (sight-of work n target sources asked walk, is))
+    rw told.0 (map dated asked, looked, (sight-of work n target sources asked walk, (is, all)))
+
+-- the decision of a node that has a task
+pub decided-task : (meaning : Meaning) (work : Work) (a b c : Option History) (n : ℕ) (task : Task)
+    (why : Option Why) (decision : Decision) (target : When) (sources : List Sighting)
+    (asked : List Dated) (meta : Option MetaSight) → IsWalk work.plan n target sources
+    → LooksAt meaning a b (map dated asked) → 0 < length (node_at work.plan n).commands
+    → HasTask work n target sources asked task
+    → IsMetaSight work.mode.ignore_paths (mode_at work n) task target (source_ages work.plan n sources)
+    meta → LooksAt meaning b c (meta_looks (meta_path (node_at work.plan n).name) meta)
+    → why ≡ reason (mode_at work n) task target (source_ages work.plan n sources) meta
+    → decision ≡ decided task why
+    → (more : List Seen) × LooksAt meaning a c more
+    × IsDecision work n (seen_of work.plan n target sources ++ more) decision
+decided-task meaning work a b c n task why decision target sources asked meta walk looked some has opened
+    seen is decides =
+    rw decides (
+      map dated asked ++ last,
+      looks-then meaning a b c (map dated asked) last looked seen,
+      by why (judged is),
+    )
+  where
+    last : List Seen
+    last = meta_looks (meta_path (node_at work.plan n).name) meta
+
+    newer : List (List ℕ)
+    newer = newer_of work n target sources
+
+    judged : why ≡ reason (mode_at work n) task target (source_ages work.plan n sources) meta
+        → IsJudged work n (seen_of work.plan n target sources ++ (map dated asked ++ last)) task why
+    judged is = record {
+      first = seen_of work.plan n target sources ++ map dated asked;
+      sight = sight-of work n target sources asked walk;
+      meta = meta;
+      are = sym (append_assoc (seen_of work.plan n target sources) (map dated asked) last);
+      has = has;
+      opened = opened;
+      reason = is;
+    }
+
+    by : (why : Option Why)
+        → IsJudged work n (seen_of work.plan n target sources ++ (map dated asked ++ last)) task why
+        → IsDecision work n (seen_of work.plan n target sources ++ (map dated asked ++ last))
+        (decided task why)
+    by None judged = (task.lines, inr (task, judged, refl))
+    by (Some why) judged = (
+      (task, why, judged, refl),
+      rw (task_of-length (setting_by work asked) work.suffixes work.plan n newer work.mode work.flags []
+          (map as_asked asked) task has) some,
+      task_of-with (setting_by work asked) work.suffixes work.plan n newer work.mode work.flags []
+          (map as_asked asked) task has,
+      judged,
+    )

@@ -1,8 +1,10 @@
 pub mod AgeLaws
 pub mod AgeLemmas
 pub mod AgeRows
+pub mod DateLemmas
 pub mod DecisionLemmas
 pub mod LookLemmas
 pub mod PieceLemmas
+pub mod ReasonLemmas
 pub mod SetLemmas
 pub mod SightLemmas

@@ -4,9 +4,9 @@ use Rattle.std.proofs.Common.{inl, inr, refl, sym, ap, subst, append_assoc, lt-l
 use Rattle.std.proofs.lemmas.Bool.Decides.{eqb_tells, nat_tests}
 use Rattle.std.proofs.lemmas.List.{append-nil}
 use Rattle.std.proofs.lemmas.List.Folds.{list_any-append}
-use Rattle.mk_plan.specs.Asking.{Seen}
 use Rattle.mk_plan.specs.Plans.{node_at}
 use Rattle.mk_plan.specs.declared.plan.PlanNode.{PlanNode}
+use Rattle.mk_world.specs.Looks.{Seen}
 use Rattle.mk_world.specs.Talks.{Meaning}
 use Rattle.mk_world.specs.declared.history.History.{History}
 use Rattle.mk_world.specs.declared.time.When.{When}
@@ -44,6 +44,12 @@ some-refused meaning start a b seen told refused = record {
   seen = seen ++ [];
   looked = looks-then meaning start a b seen [] told refused;
 }
+
+-- looks, and more behind them
+pub some-next : (meaning : Meaning) (a b c : Option History) (first more : List Seen)
+    → LooksAt meaning a b first → LooksAt meaning b c more → SawSome meaning a c
+some-next meaning a b c first more one next =
+    record { seen = first ++ more; looked = looks-then meaning a b c first more one next }
 
 -- looks, the last of which is not kept
 pub some-looked : (meaning : Meaning) (start a b : Option History) (nodes : List PlanNode)

@@ -4,7 +4,7 @@ use Rattle.std.specs.List.{list_any}
 use Rattle.mk_plan.specs.Lists.{is_nil}
 use Rattle.mk_plan.specs.Plans.{node_at}
 use Rattle.mk_plan.specs.declared.plan.PlanNode.{PlanNode}
-use Rattle.mk_oodate.specs.Stale.{is_missing}
+use Rattle.mk_world.specs.Looks.{is_missing}
 use Rattle.mk_world.specs.declared.time.When.{When}
 use Rattle.mk_world.specs.declared.time.When.TheVariants.{Missing, At, Unknown}
 use Rattle.mk_oodate.specs.declared.reason.Age.{Age}

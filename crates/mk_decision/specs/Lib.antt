@@ -1,8 +1,11 @@
 pub mod Ages
 pub mod Asks
+pub mod Dates
 pub mod Decisions
 pub mod Known
 pub mod Looks
 pub mod Makers
+pub mod Metas
+pub mod Reasons
 pub mod Sights
 pub mod Tests

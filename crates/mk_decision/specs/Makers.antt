@@ -14,8 +14,7 @@ work_on plan made flags = record {
   suffixes = made.suffixes;
   lists = lists_of made flags.requested;
   flags = flags;
-  one_job = made.mode.one_job;
-  delete_on_error = made.mode.delete_on_error;
+  mode = made.mode;
 }
 
 abbrev pub work_of : Maker → Work
@@ -25,10 +24,9 @@ work_of maker = record {
   suffixes = maker.made.now.suffixes;
   lists = lists_of maker.made.now maker.flags.now.requested;
   flags = maker.flags.now;
-  one_job = maker.made.now.mode.one_job;
-  delete_on_error = maker.made.now.mode.delete_on_error;
+  mode = maker.made.now.mode;
 }
 
 -- how many jobs may be open at once
 abbrev pub jobs_of : Work → ℕ
-jobs_of work = if work.one_job then 1 else work.flags.jobs
+jobs_of work = if work.mode.one_job then 1 else work.flags.jobs

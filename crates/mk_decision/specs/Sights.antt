@@ -2,20 +2,20 @@
 use Rattle.std.specs.Prelude.{◌≡◌, ℕ, suc, ◌<◌, Bool, true, false, List, [], ◌∷◌, ◌++◌, Option, if◌then◌else◌}
 use Rattle.mk_plan.specs.Plans.{node_at}
 use Rattle.mk_plan.specs.declared.plan.PlanNode.{PlanNode}
+use Rattle.mk_world.specs.Looks.{Seen, dated}
 use Rattle.mk_world.specs.Talks.{Meaning}
 use Rattle.mk_world.specs.declared.history.History.{History}
 use Rattle.mk_world.specs.declared.time.When.{When}
-use Rattle.mk_plan.specs.Asking.{Seen}
 use Rattle.mk_decision.specs.Ages.{AreSeen, is_one_of}
 use Rattle.mk_decision.specs.Looks.{LooksAt}
 use Rattle.mk_decision.specs.declared.sight.Sighting.{Sighting}
-use Rattle.mk_decision.specs.declared.sight.Times.{Times}
+use Rattle.mk_decision.specs.declared.sight.NodeTimes.{NodeTimes}
 
 -- the look at a node's file; a phony node is not looked at
 abbrev pub look_at : List PlanNode → Sighting → List Seen
 look_at nodes one =
     if (node_at nodes one.place).marks.phony then []
-    else record { path = (node_at nodes one.place).name; when = one.when } ∷ []
+    else dated (record { path = (node_at nodes one.place).name; when = one.when }) ∷ []
 
 abbrev pub looks_of : List PlanNode → List Sighting → List Seen
 looks_of nodes [] = []
@@ -35,7 +35,7 @@ abbrev pub seen_of : List PlanNode → ℕ → When → List Sighting → List S
 seen_of nodes node target sources =
     looks_of nodes (record { place = node; when = target } ∷ sources)
 
-abbrev pub SawAll : Meaning → Option History → Option History → List PlanNode → ℕ → Times → Type 0
+abbrev pub SawAll : Meaning → Option History → Option History → List PlanNode → ℕ → NodeTimes → Type 0
 SawAll meaning before after nodes node times =
     LooksAt meaning before after (seen_of nodes node times.target times.sources)
 

@@ -1,19 +1,30 @@
--- The test whether a node is out of date, by times alone.
+-- What counts for the test whether a node is out of date, and which of its sources are newer.
 use Rattle.std.specs.Prelude.{ℕ, List, [], ◌∷◌, Bool, ◌||◌, if◌then◌else◌}
-use Rattle.std.specs.List.{list_any}
 use Rattle.mk_graph.specs.declared.attr.Marks.{Marks}
-use Rattle.mk_oodate.specs.Stale.{is_missing, is_newer}
+use Rattle.mk_graph.specs.declared.mode.Mode.{Mode}
+use Rattle.mk_oodate.specs.Stale.{is_newer}
 use Rattle.mk_oodate.specs.declared.reason.Age.{Age}
+use Rattle.mk_oodate.specs.declared.reason.NodeMode.{NodeMode}
+use Rattle.mk_plan.specs.Metas.{is_meta}
+use Rattle.mk_world.specs.Looks.{is_missing}
 use Rattle.mk_world.specs.declared.time.When.{When}
 
 -- a node that is made whatever stands there: it is phony, marked `.EXEC`, or stood before `!`
 abbrev pub is_always : Marks → Bool
 is_always marks = marks.phony || marks.exec || marks.remake
 
--- A node is out of date where it is always made, its file is missing, or a source is newer.
-abbrev pub is_stale : Marks → When → List Age → Bool
-is_stale marks target sources =
-    is_always marks || is_missing target || list_any (is_newer target) sources
+-- What counts for a node, by `.MAKE.MODE` and by its marks. With `.NOMETA_CMP` only the number of its
+-- commands counts.
+abbrev pub node_mode : Mode → Marks → NodeMode
+node_mode mode marks = record {
+  always = is_always marks;
+  meta = is_meta mode marks;
+  missing_meta = mode.missing_meta;
+  missing_filemon = mode.missing_filemon;
+  nofilemon = mode.nofilemon;
+  ignore_cmd = mode.ignore_cmd;
+  count_only = marks.no_meta_cmp;
+}
 
 -- a source is newer than its target, or the target is missing
 abbrev pub counts_as_newer : When → Age → Bool

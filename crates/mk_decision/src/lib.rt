@@ -1,12 +1,29 @@
 //! Decisions: what is to be done with a node of a plan, by looks at files (NetBSD make(1), "FILE
-//! DEPENDENCY SPECIFICATIONS").
+//! DEPENDENCY SPECIFICATIONS" and "META MODE").
 //!
-//! A node is tested by times alone.
+//! A node is looked at part by part, and no further than its decision needs:
+//!
+//! 1. The time of its file, and, unless this is missing, the times of its sources and of the nodes
+//!    from which these have their ages.
+//! 2. Its command lines are expanded, and `exists` is asked of the paths that their conditions name.
+//!    A line that cannot be expanded refuses the node.
+//! 3. In meta mode, and only where times give no reason to make it: its meta file is read, and its
+//!    time is asked.
+//! 4. Only where the meta file gives no reason either, and where it has records that count: the time
+//!    of each path that the job found outside, then of each that it missed there, then of each that
+//!    it left written, without the ignored paths.
+//!
+//! A node is made exactly where the test of `mk_oodate` gives a reason by what was seen. A meta file
+//! that is missing, that is not of the form of `mk_meta`, or that is of another target counts as none.
 #![tactic(auto)]
 
 mod age;
 mod decision;
 mod maker;
+mod newest;
+mod opening;
+mod paths;
+mod reason;
 mod sight;
 mod test;
 

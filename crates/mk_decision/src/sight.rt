@@ -12,7 +12,6 @@ ghost use Rattle.mk_world.specs.declared.history.History.{History};
 
 use mk_bytes::{Items, NoMemory};
 use mk_graph::Attr;
-use mk_oodate::is_missing;
 use mk_plan::Plan;
 use mk_world::{When, World, WorldFault};
 use std::alloc::Global;
@@ -29,9 +28,9 @@ pub struct Sighting {
 /// What was seen of several nodes, the later ones in the plan first.
 pub type Sightings = Items<Sighting>;
 
-/// What was seen to decide a node.
+/// The times by which a node is decided: that of its own file, and those of the nodes that count.
 #[derive(Drop)]
-pub struct Times {
+pub struct NodeTimes {
     pub target: When,
     pub sources: Sightings,
 }
@@ -66,7 +65,7 @@ fn is_by_sources(plan: &Plan, place: u32, when: When) -> bool
 {
     !plan.has(place, Attr::Phony)
         && !plan.has(place, Attr::Exec)
-        && is_missing(when)
+        && when.is_missing()
         && plan.commands(place).is_empty()
 }
 
@@ -119,7 +118,7 @@ fn decisive(alloc: Global, plan: &Plan, node: u32, target: When) -> Result<BTree
         (spec.decisive (node_at plan.now node) target)) }
 {
     let mut wanted = BTreeSet::new(alloc);
-    if !is_missing(target) {
+    if !target.is_missing() {
         want(&mut wanted, node, plan.sources(node).as_slice())?;
     }
     Ok(wanted)
@@ -224,7 +223,7 @@ pub fn look<W: World>(
     world: &mut W,
     plan: &Plan,
     node: u32,
-) -> Result<Times, WorldFault>
+) -> Result<NodeTimes, WorldFault>
     requires within { node < length plan.now }
     ensures walk { IfOk result (λ times.
         spec.IsWalk plan.now node times.target times.sources) }
@@ -237,5 +236,5 @@ pub fn look<W: World>(
 {
     let target = time_of(alloc, world, plan, node)?;
     let sources = source_times(alloc, world, plan, node, target)?;
-    Ok(Times { target, sources })
+    Ok(NodeTimes { target, sources })
 }

@@ -1,23 +1,15 @@
-//! The test whether a node is out of date.
+//! What counts for the test whether a node is out of date.
 ghost use Rattle.std.specs.Prelude.{◌≡◌, ◌<◌, [], ◌∷◌, ◌++◌, length, IfOk, OnOk};
-ghost use Rattle.std.specs.List.{list_any};
 ghost use Rattle.mk_decision.specs.Tests as spec;
-ghost use Rattle.mk_oodate.specs.Stale as stale;
 ghost use Rattle.mk_plan.specs.Plans.{node_at};
 ghost use Rattle.mk_plan.specs.Tasks.{names_at};
 
 use mk_bytes::{Items, NoMemory, Text, Texts};
-use mk_graph::Attr;
-use mk_oodate::{Age, is_missing, is_newer};
-use mk_plan::Plan;
+use mk_graph::{Attr, Mode};
+use mk_oodate::{Age, NodeMode, is_newer};
+use mk_plan::{Plan, is_meta};
 use mk_world::When;
 use std::alloc::Global;
-
-fn any_is_newer(target: When, sources: &[Age]) -> bool
-    ensures { result ≡ list_any (stale.is_newer target) sources.now }
-{
-    sources.iter().any(|source| is_newer(target, *source))
-}
 
 // Whether a node is made whatever stands there.
 fn is_always(plan: &Plan, node: u32) -> bool
@@ -27,18 +19,26 @@ fn is_always(plan: &Plan, node: u32) -> bool
     plan.has(node, Attr::Phony) || plan.has(node, Attr::Exec) || plan.has(node, Attr::Remake)
 }
 
-/// Whether a node is out of date: it is always made, its file is missing, or a source is newer.
-pub fn is_stale(plan: &Plan, node: u32, target: When, sources: &[Age]) -> bool
+/// What counts for a node.
+pub fn node_mode(plan: &Plan, mode: &Mode, node: u32) -> NodeMode
     requires { node < length plan.now }
-    ensures { result ≡ spec.is_stale (node_at plan.now node).marks target sources.now }
+    ensures { result ≡ spec.node_mode mode.now (node_at plan.now node).marks }
 {
-    is_always(plan, node) || is_missing(target) || any_is_newer(target, sources)
+    NodeMode {
+        always: is_always(plan, node),
+        meta: is_meta(plan, mode, node),
+        missing_meta: mode.missing_meta,
+        missing_filemon: mode.missing_filemon,
+        nofilemon: mode.nofilemon,
+        ignore_cmd: mode.ignore_cmd,
+        count_only: plan.has(node, Attr::NoMetaCmp),
+    }
 }
 
 fn counts_as_newer(target: When, source: Age) -> bool
     ensures { result ≡ spec.counts_as_newer target source }
 {
-    is_missing(target) || is_newer(target, source)
+    target.is_missing() || is_newer(target, source)
 }
 
 // Adds the name of a source that counts as newer.

@@ -1,6 +1,6 @@
 -- Whole builds.
 use Rattle.std.proofs.Common.{◌≡◌, ◌∙◌, ℕ, suc, ◌<◌, ◌≤◌, ◌^◌, List, [], ◌∷◌, ◌++◌, length, map, Option, Some, None, Bool, true, false, if◌then◌else◌, unwrap_or}
-use Rattle.std.proofs.Common.{refl, sym, ap, subst, arith}
+use Rattle.std.proofs.Common.{refl, sym, ap, subst, append_assoc, arith}
 use Rattle.std.proofs.lemmas.List.{append-nil}
 use Rattle.std.specs.List.{list_any}
 use Rattle.mk_plan.specs.Deciding.{Rules, is_failed, may_decide, open_jobs}
@@ -35,7 +35,7 @@ use Rattle.mk_trace.specs.declared.result.Failure.TheVariants.{JobFailed, Expand
 use Rattle.mk_driver.specs.declared.halt.Halt.{Halt}
 use Rattle.mk_driver.specs.declared.halt.Halt.TheVariants as halts
 use Rattle.mk_trace.proofs.ItemLemmas.{reported_all-append, failure-events, told-none, told-then, run-legal}
-use Rattle.mk_trace.proofs.MakeLemmas.{so_far-weaken}
+use Rattle.mk_trace.proofs.MakeLemmas.{none-append, none-steps, so_far-weaken}
 use Rattle.mk_trace.proofs.QuietLemmas.{made-quiet, quiet-append, quiet-leaves, quiet-steps}
 use Rattle.mk_driver.proofs.NodeLemmas.{length-predecessors, next-over}
 use Rattle.mk_trace.proofs.SettledLemmas.{told-settled}
@@ -74,6 +74,15 @@ ended-build meaning work result first now next ended call events out idle still 
           (run-legal work tasks (first_build work) items made.makes);
       makes = made.makes;
       told = told;
+      gives_up = record {
+        front = so.items ++ call.early;
+        left = call.own;
+        late = call.late;
+        are = sym (append_assoc so.items call.early (call.own ++ call.late));
+        none = none-append so.items call.early so.none_left (none-steps call.early call.early_steps);
+        left_are = call.is_own;
+        late_are = call.late_steps;
+      };
       settled = told-settled meaning items first.history next.history told idle still;
       printed = subst
           (λ (e : List Event). Prints (is_cut result) first next
@@ -100,6 +109,7 @@ going-first meaning work course jobs keep_going history out is = (
     items = [];
     reported = is.events;
     told = told-none meaning history;
+    none_left = tt;
     made = λ tasks has. record {
       makes = tt;
       printed = Gains-nothing out;
@@ -111,8 +121,8 @@ going-first meaning work course jobs keep_going history out is = (
         stands = record {
           running = rw is.jobs_are tt;
           failed = sym is.failure;
-          doomed_is = refl;
-          fresh = λ node none undecided. refl;
+          duty_is = refl;
+          fresh = λ node none undecided. (refl, refl);
         };
       };
     };
@@ -130,7 +140,7 @@ over-of work failure build tasks known nodes jobs none none_open is = record {
     none_ready = rw is.nodes_are none;
   };
   failed = is.stands.failed;
-  none_doomed = is.stands.doomed_is;
+  none_due = is.stands.duty_is;
 }
 
 stands-result : (work : Work) (failure : Option Failure) (build : Build)
@@ -177,6 +187,7 @@ ended-none meaning work history out = (
     items = [];
     reported = refl;
     told = told-none meaning history;
+    none_left = tt;
     made = λ tasks has. record {
       makes = tt;
       printed = Gains-nothing out;
@@ -233,7 +244,7 @@ fits-first work course jobs room jobs_are is short few room_is =
 
 -- there are no more jobs than may be
 pub jobs-few : (work : Work) → work.flags.jobs ≤ 256 → jobs_of work ≤ 256
-jobs-few work few = by work.one_job
+jobs-few work few = by work.mode.one_job
   where
     by : (one : Bool) → (if one then 1 else work.flags.jobs) ≤ 256
     by true = omega arith

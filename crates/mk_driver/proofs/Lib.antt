@@ -5,6 +5,7 @@ pub mod EndingLemmas
 pub mod EventLemmas
 pub mod JobLemmas
 pub mod LineLemmas
+pub mod MetaLemmas
 pub mod NodeLemmas
 pub mod StepLemmas
 pub mod TicketLemmas

@@ -16,7 +16,7 @@ use Rattle.mk_decision.specs.Decisions.{Work}
 use Rattle.mk_trace.specs.Builds.{Moment, Prints, command_of, job_of, rules_of, moment}
 use Rattle.mk_trace.specs.Calls.{Called, StartItem, EndItem}
 use Rattle.mk_trace.specs.Items.{starts, passes, waits, ends}
-use Rattle.mk_driver.specs.Jobs.{HasLine, HasToken}
+use Rattle.mk_driver.specs.Jobs.{AreApart, HasLine, HasToken}
 use Rattle.mk_trace.specs.Output.{Printed, echo, shown, last_behind}
 use Rattle.mk_driver.specs.Progress.{IsGoing, IsPoised, IsBehind, IsEnding, HaltedAt}
 use Rattle.mk_driver.specs.Halts.{is_cut_by}
@@ -24,13 +24,14 @@ use Rattle.mk_trace.specs.Growth.{Known, SoFar, Standing}
 use Rattle.mk_trace.specs.Runs as run
 use Rattle.mk_driver.specs.Scenes.{Scene, IsOpenScene, BehindIn, HaltedIn}
 use Rattle.mk_trace.specs.Steps.{PrintsOwn}
+use Rattle.mk_trace.specs.declared.collected.Collected.{Collected}
 use Rattle.mk_trace.specs.declared.event.Event.{Event}
 use Rattle.mk_trace.specs.declared.event.Event.TheVariants as event
 use Rattle.mk_driver.specs.declared.job.Job.{Job}
 use Rattle.mk_trace.specs.declared.result.Failure.{Failure}
 use Rattle.mk_driver.specs.declared.halt.Halt.{Halt}
 use Rattle.mk_driver.specs.declared.halt.Halt.TheVariants as halts
-use Rattle.mk_driver.proofs.EndLemmas.{go_on-passes, go_on-ends}
+use Rattle.mk_driver.proofs.EndLemmas.{collected_behind, go_on-passes, go_on-ends}
 use Rattle.mk_trace.proofs.MakeLemmas.{silent, so_far-called, so_far-own}
 use Rattle.mk_driver.proofs.StepLemmas.{go_on-starts, go_on-waits, running-take}
 
@@ -60,6 +61,7 @@ halted meaning work halt first history out events last known P so = (
     items = so.items;
     reported = so.reported;
     told = so.told;
+    none_left = so.none_left;
     made = λ tasks has.
         let made = so.made tasks has in
         record {
@@ -80,12 +82,13 @@ no_child lines number one line empty = rw (line, empty) refl
 
 -- an empty line began and ended
 pub behind-passes : (scene : Scene) (events now : List Event) (n : ℕ) (lines : List TaskLine)
-    (done : ℕ) (one : TaskLine) → IsOpenScene scene n → BehindIn scene events n lines done
+    (collected : Collected) (done : ℕ) (one : TaskLine) → IsOpenScene scene n
+    → BehindIn scene events n lines collected done
     → done < length lines → run.line_of lines (done + 1) ≡ Some one
     → run.is_empty one.text ≡ true
     → now ≡ events ++ event.Start n (done + 1) ∷ event.End n (done + 1) 0 ∷ []
-    → BehindIn scene now n lines (done + 1)
-behind-passes scene events now n lines done one open_scene behind more line empty told =
+    → BehindIn scene now n lines collected (done + 1)
+behind-passes scene events now n lines collected done one open_scene behind more line empty told =
     let known = behind.0 in
     let work = scene.work in
     let nodes = scene.course.sched.nodes in
@@ -95,10 +98,10 @@ behind-passes scene events now n lines done one open_scene behind more line empt
       behind.1,
       so_far-own scene.meaning work scene.first (moment scene.history scene.out events)
           (moment scene.history scene.out now) scene.course.last_shown known known
-          (IsBehind work known nodes jobs failure n lines done)
-          (IsBehind work known nodes jobs failure n lines (done + 1)) (passes n (done + 1) ∷ [])
-          behind.2 refl (λ stand. (tt, tt)) refl refl told refl (λ tasks has. has)
-          (λ tasks build has is. go_on-passes work known nodes jobs failure n lines (done + 1) one tasks
+          (IsBehind work known nodes jobs failure n lines collected done)
+          (IsBehind work known nodes jobs failure n lines collected (done + 1)) (passes n (done + 1) ∷ [])
+          behind.2 tt refl (λ stand. (tt, tt)) refl refl told refl (λ tasks has. has)
+          (λ tasks build has is. go_on-passes work known nodes jobs failure n lines collected (done + 1) one tasks
           build has open_scene.token.apart open_scene.token.open_now open_scene.unstopped (is.0 more)
           (omega arith) line empty)
           (λ tasks build has is outputs p.
@@ -111,10 +114,10 @@ pub so_far-starts : (meaning : Meaning) (work : Work) (known : Known) (nodes : L
     (jobs : List Job) (failure : Option Failure) (job : Job) (one : TaskLine) (cmd : Cmd)
     (last : Option ℕ) (first now next : Moment)
     → SoFar meaning work false first now last known
-    (IsBehind work known nodes jobs failure job.node job.task.lines (job.number - 1))
+    (IsBehind work known nodes jobs failure job.node job.task.lines job.collected (job.number - 1))
     → HasToken nodes jobs job.node → HasLine job.task.lines job.number one
     → cmd ≡ command_of work one
-    → Called meaning now.history next.history (StartItem job.node job.number job.ticket 0 cmd)
+    → Called meaning now.history next.history (StartItem job.node job.number job.ticket job.collected.owner cmd)
     → next.events ≡ now.events ++ event.Start job.node job.number ∷ [] → next.out ≡ now.out
     → SoFar meaning work false first next last known
     (IsGoing known nodes run.anything (jobs ++ job ∷ []) failure)
@@ -125,16 +128,16 @@ so_far-starts meaning work known nodes jobs failure job one cmd last first now n
     let before : job.number - 1 < length job.task.lines = omega (arith, some, within) in
     let number_is : (job.number - 1) + 1 ≡ job.number = omega (arith, some) in
     so_far-called meaning work false first now next last last known known
-    (IsBehind work known nodes jobs failure job.node job.task.lines (job.number - 1))
+    (IsBehind work known nodes jobs failure job.node job.task.lines job.collected (job.number - 1))
     (IsGoing known nodes run.anything (jobs ++ job ∷ []) failure)
-    (StartItem job.node job.number job.ticket 0 cmd) so call
-    (rw call.is_own events) (λ tasks has. has)
+    (StartItem job.node job.number job.ticket job.collected.owner cmd) so call
+    (rw call.is_own tt) (rw call.is_own events) (λ tasks has. has)
     (λ tasks build has is. rw call.is_own
     (go_on-starts work known nodes jobs failure job one cmd tasks build has token.apart
-    (subst (λ k. IsPoised work known nodes jobs failure job.node job.task.lines k tasks build) number_is
+    (subst (λ k. IsPoised work known nodes jobs failure job.node job.task.lines job.collected k tasks build) number_is
     (is.0 before)) has_line command))
     (λ tasks build has is. rw call.is_own (silent work tasks now next last
-    (starts job.node job.number job.ticket 0 cmd ∷ []) out refl (λ outputs p. refl)))
+    (starts job.node job.number job.ticket job.collected.owner cmd ∷ []) out refl (λ outputs p. refl)))
 
 -- make waits for a child
 pub so_far-waits : (meaning : Meaning) (work : Work) (known : Known) (nodes : List NodeState)
@@ -148,7 +151,7 @@ pub so_far-waits : (meaning : Meaning) (work : Work) (known : Known) (nodes : Li
 so_far-waits meaning work known nodes jobs failure last first now next so none some history events out =
     so_far-own meaning work first now next last known known
     (IsGoing known nodes run.anything jobs failure) (IsGoing known nodes run.child jobs failure)
-    (waits ∷ []) so refl (λ stand. (tt, tt)) refl history events out (λ tasks has. has)
+    (waits ∷ []) so tt refl (λ stand. (tt, tt)) refl history events out (λ tasks has. has)
     (λ tasks build has is. go_on-waits work known nodes jobs failure tasks build none some is)
     (λ tasks build has is outputs p. refl)
 
@@ -182,6 +185,7 @@ pub so_far-ends : (meaning : Meaning) (work : Work) (cut : Bool) (known : Known)
     (one : TaskLine) (ended : Ended) (last : Option ℕ) (first now next : Moment)
     → SoFar meaning work false first now last known
     (IsGoing known nodes run.child (front ++ job ∷ back) failure)
+    → AreApart job.node (front ++ back)
     → get_or nodes job.node Undecided ≡ Open → HasLine job.task.lines job.number one
     → job.ticket ≡ ended.ticket.0
     → Called meaning now.history next.history (EndItem job.node job.number ended)
@@ -190,21 +194,22 @@ pub so_far-ends : (meaning : Meaning) (work : Work) (cut : Bool) (known : Known)
     (shown work.plan (job_of work tasks).many last job.node (echo (Some one) ++ ended.output)))
     → SoFar meaning work cut first next
     (last_behind last job.node (echo (Some one) ++ ended.output)) known
-    (IsEnding work known nodes (front ++ back) failure job.node job.task.lines job.number ended.status
+    (IsEnding work known nodes (front ++ back) failure job.node job.task.lines
+    (collected_behind job ended) job.number ended.status
     (run.fails (run.line_of job.task.lines job.number) ended.status)
-    (nat_le (length job.task.lines) job.number || is_stopped (rules_of work) nodes))
-so_far-ends meaning work cut known nodes front back failure job one ended last first now next so token
-    has_line ticket call events grows =
+    (nat_le (length job.task.lines) job.number) (is_stopped (rules_of work) nodes))
+so_far-ends meaning work cut known nodes front back failure job one ended last first now next so apart
+    token has_line ticket call events grows =
     so_far-called meaning work cut first now next last
     (last_behind last job.node (echo (Some one) ++ ended.output)) known known
     (IsGoing known nodes run.child (front ++ job ∷ back) failure) _
     (EndItem job.node job.number ended) so call
-    (rw call.is_own.1 events) (λ tasks has. has)
+    (rw call.is_own.1 tt) (rw call.is_own.1 events) (λ tasks has. has)
     (λ tasks build has is. rw call.is_own.1
     (go_on-ends work known nodes front back failure job call.is_own.0 ended tasks build
     (run.fails (run.line_of job.task.lines job.number) ended.status)
-    (nat_le (length job.task.lines) job.number || is_stopped (rules_of work) nodes) has token
-    has_line.some ticket refl refl is))
+    (nat_le (length job.task.lines) job.number) (is_stopped (rules_of work) nodes) has apart token
+    has_line.some ticket refl refl refl is))
     (λ tasks build has is. rw call.is_own.1
     (prints-end work tasks cut now next last job.node job.number call.is_own.0 job.task.lines one ended
     (has job.node job.task.lines
@@ -213,8 +218,9 @@ so_far-ends meaning work cut known nodes front back failure job one ended last f
 
 -- or it could not be told
 pub behind-halted : (scene : Scene) (events now : List Event) (n : ℕ) (lines : List TaskLine)
-    (done : ℕ) → BehindIn scene events n lines done → now ≡ events → HaltedIn scene now
-behind-halted scene events now n lines done behind same =
+    (collected : Collected) (done : ℕ) → BehindIn scene events n lines collected done → now ≡ events
+    → HaltedIn scene now
+behind-halted scene events now n lines collected done behind same =
     subst (HaltedIn scene) (sym same)
     (halted scene.meaning scene.work halts.NoMemory scene.first scene.history scene.out events
     scene.course.last_shown behind.0 _ behind.2)

@@ -5,7 +5,6 @@ use Rattle.std.specs.List.{list_any}
 use Rattle.std.proofs.lemmas.Bool.{cases_eq}
 use Rattle.std.proofs.lemmas.List.{get_or-set_same, get_or-set_other}
 use Rattle.std.proofs.lemmas.List.Sums.{sum_by-set}
-use Rattle.mk_plan.specs.Asking.{Seen}
 use Rattle.mk_plan.specs.Deciding.{Rules, is_failed, is_undecided, is_stopped, all_settled, first_ready, may_decide, open_jobs}
 use Rattle.mk_plan.specs.Plans.{node_at}
 use Rattle.mk_plan.specs.declared.plan.NodeState.{NodeState}
@@ -15,7 +14,9 @@ use Rattle.mk_sched.specs.Next.{next_by, next_of}
 use Rattle.mk_sched.specs.Schedule.{Schedule, predecessors}
 use Rattle.mk_sched.specs.declared.sched.Next.TheVariants.{Decide, Wait, Over}
 use Rattle.mk_driver.specs.Progress.{AreFreshBut, AreUnknown, undecided}
+use Rattle.mk_trace.specs.Builds.{Own}
 use Rattle.mk_trace.specs.Growth.{Known}
+use Rattle.mk_world.specs.Looks.{Seen}
 
 pub get-open : (nodes : List NodeState) (node : ℕ) → get_or nodes node Undecided ≡ Open
     → slice_get nodes node ≡ Some Open
@@ -49,19 +50,34 @@ other-undecided nodes n node stands within decided is = elim (cases_eq node n) [
   | inr other ↦ (other, sym (get_or-set_other nodes n node stands Failed other) ∙ is)
 ]
 
-pub fresh-set : (nodes : List NodeState) (seen : ℕ → List Seen) (n : ℕ)
+pub fresh-set : (nodes : List NodeState) (seen : ℕ → List Seen) (own : ℕ → Own) (n : ℕ)
     (stands : NodeState) → n < length nodes → (stands ≡ Undecided → ⊥)
-    → AreFreshBut (Some n) nodes seen → AreFreshBut None (set nodes n stands) seen
-fresh-set nodes seen n stands within decided fresh node none is =
+    → AreFreshBut (Some n) nodes seen own → AreFreshBut None (set nodes n stands) seen own
+fresh-set nodes seen own n stands within decided fresh node none is =
     let parts = other-undecided nodes n node stands within decided is in
     fresh node (λ same. parts.0 (sym (same-node n node same))) parts.1
   where
     same-node : (a b : ℕ) → Some a ≡ Some b → a ≡ b
     same-node a b is = cc
 
-pub fresh-but : (nodes : List NodeState) (seen : ℕ → List Seen) (n : ℕ)
-    → AreFreshBut None nodes seen → AreFreshBut (Some n) nodes seen
-fresh-but nodes seen n fresh node other is = fresh node (λ none. cc) is
+pub fresh-but : (nodes : List NodeState) (seen : ℕ → List Seen) (own : ℕ → Own) (n : ℕ)
+    → AreFreshBut None nodes seen own → AreFreshBut (Some n) nodes seen own
+fresh-but nodes seen own n fresh node other is = fresh node (λ none. cc) is
+
+-- what other nodes have does not change
+pub fresh-own : (but : Option ℕ) (nodes : List NodeState) (seen : ℕ → List Seen) (own now : ℕ → Own)
+    → ((node : ℕ) → but ≢ Some node → get_or nodes node Failed ≡ Undecided
+    → (now node).collected ≡ (own node).collected)
+    → AreFreshBut but nodes seen own → AreFreshBut but nodes seen now
+fresh-own but nodes seen own now same fresh node other is =
+    let was = fresh node other is in (was.0, same node other is ∙ was.1)
+
+-- a node that is open is not undecided
+pub open-other : (nodes : List NodeState) (n node : ℕ) → get_or nodes n Undecided ≡ Open
+    → get_or nodes node Failed ≡ Undecided → node ≢ n
+open-other nodes n node is_open undecided same =
+    let here : Some Undecided ≡ Some Open =
+    sym (get-undecided nodes node undecided) ∙ (ap (slice_get nodes) same ∙ get-open nodes n is_open) in cc
 
 pub unknown-set : (known : Known) (nodes : List NodeState) (n : ℕ) (stands : NodeState)
     → n < length nodes → (stands ≡ Undecided → ⊥) → AreUnknown known nodes

@@ -1,4 +1,5 @@
 pub mod Halts
 pub mod Jobs
+pub mod Metas
 pub mod Progress
 pub mod Scenes

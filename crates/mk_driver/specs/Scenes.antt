@@ -8,6 +8,7 @@ use Rattle.mk_trace.specs.Builds.{Moment}
 use Rattle.mk_driver.specs.Jobs.{HasToken}
 use Rattle.mk_driver.specs.Progress.{BehindOn, HaltedAt, IsUnstopped}
 use Rattle.mk_driver.specs.declared.course.Course.{Course}
+use Rattle.mk_trace.specs.declared.collected.Collected.{Collected}
 use Rattle.mk_trace.specs.declared.event.Event.{Event}
 use Rattle.mk_driver.specs.declared.halt.Halt.TheVariants.{NoMemory}
 
@@ -25,10 +26,10 @@ pub record IsOpenScene (scene : Scene) (node : ℕ) : Type 0 where
   pub unstopped : IsUnstopped scene.work scene.course
   pub token : HasToken scene.course.sched.nodes scene.course.jobs.items node
 
-abbrev pub BehindIn : Scene → List Event → ℕ → List TaskLine → ℕ → Type 0
-BehindIn scene events node lines done =
-    BehindOn scene.meaning scene.work scene.history scene.course events node lines done scene.first
-    scene.out
+abbrev pub BehindIn : Scene → List Event → ℕ → List TaskLine → Collected → ℕ → Type 0
+BehindIn scene events node lines collected done =
+    BehindOn scene.meaning scene.work scene.history scene.course events node lines collected done
+    scene.first scene.out
 
 abbrev pub HaltedIn : Scene → List Event → Type 0
 HaltedIn scene events =

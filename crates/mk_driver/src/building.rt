@@ -1,6 +1,7 @@
 //! A whole build.
 ghost use Rattle.std.specs.Prelude.{◌≡◌, ◌<◌, ◌≤◌, ◌^◌, [], length, false, true, IfErr, IfOk, OnOk};
-ghost use Rattle.mk_trace.specs.Builds.{IsBuild, Moment, moment};
+ghost use Rattle.mk_trace.specs.Builds.{Moment, moment};
+ghost use Rattle.mk_trace.specs.TrueBuilds.{IsTrueBuild};
 ghost use Rattle.mk_trace.specs.Ends.{EndsBy, result_of, StandsBy, is_cut};
 ghost use Rattle.mk_decision.specs.Makers.{work_of, work_on};
 ghost use Rattle.mk_driver.specs.Progress.{EndedAt, Fits, GoingAt, HaltedAt, IsFirstCourse, undecided};
@@ -21,7 +22,7 @@ use mk_graph::Made;
 use mk_plan::Plan;
 use mk_sched::{Next, Sched};
 use mk_trace::{BuildEnd, BuildResult, Events, Failure};
-use mk_world::{Kids, Sink, World};
+use mk_world::{Kids, Sink, Time, World};
 use std::alloc::Global;
 
 // Takes in children up to the next node that may be decided, or up to the last one.
@@ -173,6 +174,7 @@ fn new_course<'p>(
         last_ticket: 0,
         last_shown: None,
         failure: None,
+        newest: Time(0),
     })
 }
 
@@ -197,14 +199,17 @@ fn no_memory(alloc: Global) -> BuildEnd
 /// Builds a plan with so many jobs at once: whenever a node may be decided it is, and is kept if it is
 /// up to date, and else made by the lines of its task, one after the other. A node is out of date where
 /// it is always made, its file is missing, or a source is new or newer; a source without a file may be
-/// as old as its own sources. Where no node may be decided, the next child that ends is taken in, and
+/// as old as its own sources. In meta mode it is also out of date where its meta file says so, each of
+/// its jobs begins with the head of that file, and where the job has ended well, make asks for the
+/// target's time and writes the whole file. Where no node may be decided, the next child that ends is taken in, and
 /// what its line printed is written. Behind the first line that fails or cannot be expanded no line is
 /// started, or, with `-k`, none of what depends on it.
 ///
 /// The report's events are a cut run, and a legal run where the outside did not end the build. There is
 /// one list of items, of which the events are one side, and what happened in the world, where it tells,
-/// the other; each item has its reason. Standard output gains what the events print. `World` and `Sink`
-/// come only where that object's count of faults rose.
+/// the other; each item has its reason. Standard output gains what the events print. Where meta files told
+/// what happened before the build, they do so behind it, as far as jobs have kept apart. `World` and
+/// `Sink` come only where that object's count of faults rose.
 pub fn build<W: World, S: Sink>(
     alloc: Global,
     plan: &Plan,
@@ -216,7 +221,7 @@ pub fn build<W: World, S: Sink>(
     requires some_jobs { 1 ≤ flags.now.jobs }
     requires few_jobs { flags.now.jobs ≤ 256 }
     requires idle { W.runs world.old [] }
-    ensures built { IsBuild W.meaning (work_on plan.now made.now flags.now) (is_cut result.result)
+    ensures built { IsTrueBuild W.meaning (work_on plan.now made.now flags.now) (is_cut result.result)
         (moment (W.history world.old) (S.held out.old) [])
         (moment (W.history world.new) (S.held out.new) result.events)
         (StandsBy (work_on plan.now made.now flags.now) result.result) }

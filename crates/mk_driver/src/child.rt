@@ -40,7 +40,7 @@ pub fn command(alloc: Global, line: &TaskLine, cwd: &[u8]) -> Result<Cmd, NoMemo
     })
 }
 
-/// Starts the child of a line, and tells of it.
+/// Starts the child of a line, for the start stamp of its job, and tells of it.
 pub fn start_child<W: World>(
     alloc: Global,
     world: &mut W,
@@ -48,6 +48,7 @@ pub fn start_child<W: World>(
     events: &mut Events,
     place: Place,
     ticket: u32,
+    owner: Time,
     cmd: &Cmd,
 ) -> Result<(), WorldFault>
     requires exact { W.runs world.old kids.old.tickets }
@@ -55,7 +56,7 @@ pub fn start_child<W: World>(
     requires fresh { list_any (nat_eq ticket) kids.old.tickets ≡ false }
     requires directory { IsTrue (is_clean_directory cmd.now.cwd) }
     ensures done { OnOk result (Called W.meaning (W.history world.old) (W.history world.new)
-        (StartItem place.node place.number ticket 0 cmd.now)) }
+        (StartItem place.node place.number ticket owner.0 cmd.now)) }
     ensures refused { OnErr result
         (Called W.meaning (W.history world.old) (W.history world.new) NoItem) }
     ensures told { OnOk result
@@ -67,7 +68,7 @@ pub fn start_child<W: World>(
     ensures children { W.runs world.new kids.new.tickets }
 {
     events.push(Event::Start(place.node, place.number))?;
-    if let Err(fault) = world.start(alloc, kids, Ticket(ticket), Time(0), cmd) {
+    if let Err(fault) = world.start(alloc, kids, Ticket(ticket), owner, cmd) {
         events.drop_last();
         return Err(fault);
     }

@@ -5,6 +5,7 @@ use crate::job::Job;
 use mk_decision::{Maker, jobs_in};
 use mk_sched::Sched;
 use mk_trace::{Events, Failure};
+use mk_world::Time;
 
 /// How far a build has come.
 #[derive(Drop)]
@@ -19,6 +20,8 @@ pub struct Course<'p> {
     pub last_shown: Option<u32>,
     /// The first failure.
     pub failure: Option<Failure>,
+    /// The newest time that a look or a write told, or 0.
+    pub newest: Time,
 }
 
 /// Whether more jobs than one may be open at once.

@@ -15,14 +15,16 @@ ghost use Rattle.mk_world.specs.declared.fault.WorldFault.TheVariants.{Failed as
 ghost use Rattle.mk_world.specs.declared.command.TaskLine.{TaskLine as Line};
 
 use crate::child::{print_end, wait_child};
+use crate::collected::keep_end;
 use crate::course::{Course, are_many};
 use crate::halt::{Halt, note_failure};
 use crate::job::{Job, line_at, line_fails, take_job};
 use crate::line::run_on;
+use crate::meta::finish_job;
 use mk_decision::Maker;
 use mk_graph::Attr;
 use mk_trace::{Event, Failure};
-use mk_world::{Kids, Sink, Task, World, WorldFault};
+use mk_world::{Kids, Sink, World, WorldFault};
 
 // Whether there was a failure, and the build stops at the first one.
 fn is_stopped_by(maker: &Maker, failure: &Option<Failure>) -> bool
@@ -31,12 +33,11 @@ fn is_stopped_by(maker: &Maker, failure: &Option<Failure>) -> bool
     !maker.flags.keep_going && failure.is_some()
 }
 
-// Whether a job ends with the end of a line that does not fail.
-fn ends_job(maker: &Maker, failure: &Option<Failure>, number: u32, task: &Task) -> bool
-    ensures { result ≡ (nat_le (length task.now.lines) number
-        || (not maker.now.flags.now.keep_going && is_there failure.now)) }
+// Whether the line of a job is its last one.
+fn is_last(job: &Job) -> bool
+    ensures { result ≡ nat_le (length job.now.task.lines) job.now.number }
 {
-    number as usize >= task.lines.len() || is_stopped_by(maker, failure)
+    job.number as usize >= job.task.lines.len()
 }
 
 // Whether the target of a node is removed where its job fails.
@@ -113,7 +114,10 @@ fn end_line<W: World>(
     if line_fails(line_at(&job.task, job.number), status) {
         return fail_job(maker, world, course, &job, status);
     }
-    if ends_job(maker, &course.failure, job.number, &job.task) {
+    if is_last(&job) {
+        return finish_job(maker, world, course, job);
+    }
+    if is_stopped_by(maker, &course.failure) {
         course.sched.ended(job.node, true);
         return Ok(());
     }
@@ -149,9 +153,11 @@ pub fn take_in<W: World, S: Sink>(
     ensures children { W.runs world.new kids.new.tickets }
 {
     let ended = wait_child(maker.alloc, world, kids, &mut course.events)?;
-    let job = take_job(&mut course.jobs, ended.ticket.0);
-    let end = Event::End(job.node, job.number, ended.status);
-    course.events.set_last(end);
+    let mut job = take_job(&mut course.jobs, ended.ticket.0);
+    let status = ended.status;
+    course
+        .events
+        .set_last(Event::End(job.node, job.number, status));
     print_end(
         out,
         maker.plan,
@@ -161,6 +167,7 @@ pub fn take_in<W: World, S: Sink>(
         line_at(&job.task, job.number),
         ended.output.bytes(),
     )?;
-    end_line(maker, world, kids, course, job, ended.status)?;
+    keep_end(maker.alloc, &mut job.collected, job.number, ended)?;
+    end_line(maker, world, kids, course, job, status)?;
     Ok(())
 }

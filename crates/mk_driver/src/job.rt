@@ -7,6 +7,7 @@ ghost use Rattle.mk_world.specs.declared.command.TaskLine.{TaskLine as Line};
 ghost use Rattle.mk_sched.specs.Counts.{times};
 
 use mk_bytes::NoMemory;
+use mk_trace::Collected;
 use mk_world::{Kids, Task, TaskLine};
 
 /// A job: the child of one of its lines runs under a ticket.
@@ -18,6 +19,7 @@ pub struct Job {
     /// The number of the line, counted from 1.
     pub number: u32,
     pub task: Task,
+    pub collected: Collected,
 }
 
 /// The line with a child at a number of a task.

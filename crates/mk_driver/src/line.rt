@@ -6,6 +6,7 @@ ghost use Rattle.mk_decision.specs.Makers.{work_of};
 ghost use Rattle.mk_driver.specs.Progress.{BehindAt, BehindOn, Fits, FromAny, GoingAt, HaltedAt, IsUnstopped, undecided};
 ghost use Rattle.mk_trace.specs.Runs.{is_empty, line_of};
 ghost use Rattle.mk_driver.specs.Scenes.{Scene, IsOpenScene, BehindIn, HaltedIn};
+ghost use Rattle.mk_trace.specs.declared.collected.Collected.{Collected as Kept};
 ghost use Rattle.mk_trace.specs.declared.event.Event.TheVariants as event;
 ghost use Rattle.mk_world.specs.Causes.{HasCause};
 ghost use Rattle.mk_world.specs.declared.fault.WorldFault.TheVariants.{Failed as world_failed};
@@ -14,10 +15,11 @@ ghost use Rattle.mk_world.specs.declared.command.TaskLine.{TaskLine as Line};
 use crate::child::{Place, command, start_child};
 use crate::course::Course;
 use crate::job::{Job, add_job, line_at, next_ticket};
+use crate::meta::finish_job;
 use mk_bytes::NoMemory;
 use mk_decision::Maker;
 use mk_trace::{Event, Events};
-use mk_world::{Kids, TaskLine, World, WorldFault};
+use mk_world::{Kids, TaskLine, Time, World, WorldFault};
 
 // An empty line begins and ends without a child.
 fn pass_line(events: &mut Events, place: Place) -> Result<(), NoMemory>
@@ -63,10 +65,11 @@ fn pass_lines(
     ensures next { IfOk result (λ passed. passed < length lines.now
         → (one : Line) × HasLine lines.now (passed + 1) one) }
     ensures behind { IfOk result (λ passed. (scene : Scene) → IsOpenScene scene node
-        → BehindIn scene events.old node lines.now done
-        → BehindIn scene events.new node lines.now passed) }
+        → (collected : Kept) → BehindIn scene events.old node lines.now collected done
+        → BehindIn scene events.new node lines.now collected passed) }
     ensures halted { OnErr result ((scene : Scene) → IsOpenScene scene node
-        → BehindIn scene events.old node lines.now done → HaltedIn scene events.new) }
+        → (collected : Kept) → BehindIn scene events.old node lines.now collected done
+        → HaltedIn scene events.new) }
 {
     let mut passed = done;
     'lines: while is_next_empty(lines, passed) {
@@ -94,11 +97,11 @@ fn start_line<W: World>(
     requires line { (one : Line) × HasLine job.task.lines job.number one }
     ensures goes { OnOk result (FromAny
         (BehindOn W.meaning (work_of maker.now) (W.history world.old) course.old course.old.events
-        job.node job.task.lines (job.number - 1))
+        job.node job.task.lines job.collected (job.number - 1))
         (GoingAt W.meaning (work_of maker.now) (W.history world.new) course.new)) }
     ensures halted { IfErr result (λ fault. FromAny
         (BehindOn W.meaning (work_of maker.now) (W.history world.old) course.old course.old.events
-        job.node job.task.lines (job.number - 1))
+        job.node job.task.lines job.collected (job.number - 1))
         (HaltedAt W.meaning (work_of maker.now) (of_world fault) (W.history world.new) course.new.events)) }
     ensures fits { OnOk result (Fits (work_of maker.now) course.new kids.new.tickets kids.new.room 0) }
     ensures nodes { course.new.sched ≡ course.old.sched }
@@ -122,6 +125,7 @@ fn start_line<W: World>(
         &mut course.events,
         place,
         ticket,
+        Time(job.collected.owner),
         &cmd,
     )?;
     add_job(&mut course.jobs, Job { ticket, ..job })?;
@@ -159,8 +163,7 @@ pub fn run_on<W: World>(
     let lines = job.task.lines.as_slice();
     let passed = pass_lines(&mut course.events, job.node, lines, job.number)?;
     if passed as usize >= job.task.lines.len() {
-        course.sched.ended(job.node, true);
-        return Ok(());
+        return finish_job(maker, world, course, job);
     }
     let number = passed + 1;
     start_line(maker, world, kids, course, Job { number, ..job })

@@ -4,16 +4,17 @@ ghost use Rattle.mk_driver.specs.Halts.{of_world};
 ghost use Rattle.mk_decision.specs.Makers.{work_of};
 ghost use Rattle.mk_decision.specs.Decisions.{IsDecision};
 ghost use Rattle.mk_driver.specs.Progress.{Fits, FromAny, GoingAt, HaltedAt, SeenAt, undecided};
-ghost use Rattle.mk_plan.specs.Asking.{Seen};
 ghost use Rattle.mk_sched.specs.Next.{next_of};
 ghost use Rattle.mk_sched.specs.declared.sched.Next.TheVariants.{Decide as decides};
 ghost use Rattle.mk_world.specs.Causes.{HasCause};
+ghost use Rattle.mk_world.specs.Looks.{Seen};
 ghost use Rattle.mk_world.specs.declared.fault.WorldFault.TheVariants.{Failed as world_failed};
 
 use crate::course::Course;
 use crate::halt::note_failure;
 use crate::job::Job;
 use crate::line::run_on;
+use crate::meta::open_job;
 use mk_decision::{Decision, Maker, decide_on};
 use mk_trace::{Event, Failure};
 use mk_world::{Kids, World, WorldFault};
@@ -56,13 +57,15 @@ fn carry_out<W: World>(
             note_failure(&mut course.failure, failure);
             Ok(())
         }
-        Decision::Make(task) => {
+        Decision::Make(task, _) => {
+            let collected = open_job(maker, world, &mut course.newest, node)?;
             course.sched.started(node);
             let job = Job {
                 ticket: 0,
                 node,
                 number: 0,
                 task,
+                collected,
             };
             run_on(maker, world, kids, course, job)
         }
@@ -92,6 +95,6 @@ pub fn decide<W: World>(
     ensures cause { HasCause world_failed (W.faults world.old) (W.faults world.new) result }
     ensures children { W.runs world.new kids.new.tickets }
 {
-    let decision = decide_on(maker, world, node)?;
+    let decision = decide_on(maker, world, node, &mut course.newest)?;
     carry_out(maker, world, kids, course, node, decision)
 }

@@ -1,5 +1,5 @@
 -- Tasks in which no name of the newer sources is looked up.
-use Rattle.std.proofs.Common.{◌≡◌, ℕ, ◌+◌, ◌||◌, Bool, true, false, List, [], ◌∷◌, ◌++◌, Result, Ok, Err, not, refl, ap, ◌∙◌}
+use Rattle.std.proofs.Common.{◌≡◌, ℕ, ◌+◌, false, List, [], ◌∷◌, ◌++◌, Result, Ok, Err, not, refl, ap, ◌∙◌}
 use Rattle.std.proofs.lemmas.Bool.{or_parts}
 use Rattle.mk_ast.specs.Tree.{Tree}
 use Rattle.mk_bytes.specs.Agrees.{◌>>=◌}
@@ -17,7 +17,6 @@ use Rattle.mk_plan.specs.Oodate.{refers}
 use Rattle.mk_plan.specs.Plans.{node_at}
 use Rattle.mk_plan.specs.Tasks.{Setting, at_line, line_as, line_of, lines_from, locals_of, manner_of}
 use Rattle.mk_plan.specs.Tasks.{task_with, line_of_tree}
-use Rattle.mk_plan.specs.declared.fault.TaskFault.{TaskFault}
 use Rattle.mk_plan.specs.declared.tasks.Manner.{Manner}
 
 -- of two lists of names, neither has one
@@ -78,7 +77,7 @@ lines-newer k l newer m (raw ∷ more) lines number asked none =
     (λ lines number asked none. lines-newer k l newer m more lines number asked none) parts.1
 
 pub newer_do_not_count : NewerDoNotCount
-newer_do_not_count k suffixes nodes n oodate newer flags asked none =
+newer_do_not_count k suffixes nodes n oodate newer mode flags asked none =
     ap (λ lines. lines >>= λ all. Ok (task_with k.variables (node_at nodes n).name all.0, all.1))
     (lines-newer k (locals_of suffixes nodes n oodate) newer
-    (manner_of flags (node_at nodes n).marks) (node_at nodes n).commands [] 1 asked none)
+    (manner_of mode flags (node_at nodes n).marks) (node_at nodes n).commands [] 1 asked none)

@@ -1,11 +1,11 @@
 -- Plans: what nodes depend on, what is reached, and names.
-use Rattle.std.proofs.Common.{◌≡◌, ◌≢◌, ◌∙◌, ◌⊎◌, ℕ, zero, suc, ◌+◌, ◌<◌, ◌≤◌, Bool, true, false, ◌&&◌, ◌||◌, nat_eq, nat_lt, cond, List, [], ◌∷◌, ◌++◌, length, map, get_or, codes, Result, Ok, Err, IsTrue, inl, inr, refl, sym, ap, subst, arith, eq-eqb, eqb-true, ltb-true, ltb-false, append_assoc, not, if◌then◌else◌, ◌-◌}
+use Rattle.std.proofs.Common.{◌≡◌, ◌≢◌, ◌∙◌, ◌⊎◌, ℕ, zero, suc, ◌+◌, ◌<◌, ◌≤◌, Bool, true, false, ◌&&◌, nat_eq, nat_lt, cond, List, [], ◌∷◌, ◌++◌, length, map, get_or, codes, Result, Ok, Err, inl, inr, refl, sym, ap, subst, arith, eq-eqb, eqb-true, ltb-true, ltb-false, append_assoc, not, if◌then◌else◌, ◌-◌}
 use Rattle.std.proofs.lemmas.Bool.{or_cases, or_left, or_right, false≢true}
 use Rattle.std.proofs.lemmas.List.Quantifiers.{all_pairs_push}
 use Rattle.std.proofs.lemmas.Bool.{cases_lt}
 use Rattle.std.proofs.lemmas.List.{append-nil, length-map, get_or_default, get_or_past, get_or_append_left, get_or-append_right, get_or-map}
 use Rattle.std.proofs.lemmas.List.Folds.{list_any-append}
-use Rattle.std.specs.List.{list_any, list_all}
+use Rattle.std.specs.List.{list_all}
 use Rattle.mk_bytes.specs.Agrees.{◌>>=◌}
 use Rattle.mk_closure.proofs.MemberLemmas.{planned_of-below, all_preds-below, all_preds-length}
 use Rattle.mk_closure.proofs.NamedLemmas.{closures_named}
@@ -17,7 +17,7 @@ use Rattle.mk_closure.specs.Walks.{closed}
 use Rattle.mk_closure.specs.declared.fault.CloseFault.{CloseFault}
 use Rattle.mk_graph.proofs.WholeLemmas.{orders_whole}
 use Rattle.mk_graph.specs.Closed.{Reaches, given, behind}
-use Rattle.mk_graph.specs.Nodes.{Node, names_of, number_of, node_at, new_node}
+use Rattle.mk_graph.specs.Nodes.{Node, names_of, node_at, new_node}
 use Rattle.mk_graph.specs.Numbers.{AreBelow, EachBelow}
 use Rattle.mk_graph.specs.Orders.{AreOnce, IsWhole}
 use Rattle.mk_graph.specs.Walks.{is_among, preds_of, depth_first}
@@ -25,8 +25,8 @@ use Rattle.mk_graph.specs.declared.Made.{Made}
 use Rattle.mk_graph.specs.declared.walk.Ordered.{Ordered}
 use Rattle.mk_graph.specs.declared.walk.Ordered.TheVariants as walk
 use Rattle.mk_plan.proofs.PlanLemmas.{preds_of-is}
-use Rattle.mk_plan.specs.PlanLaws.{plan_names, all_sources, DependsOn, DependenceGoesBack, PlansAreSourced, IsReached, PlansAreReached, PlannedNamesDiffer}
-use Rattle.mk_plan.specs.Plans.{wanted, as_plan, order_by, order_of, place_from, plan_node, inner_nodes, frame_node, frame_commands, first_nodes, with_end, nodes_of, plan_of, named_plan, planned, is_behind, are_ordered, has_its_sources, are_sourced}
+use Rattle.mk_plan.specs.PlanLaws.{plan_names, all_sources, DependenceGoesBack, PlansAreSourced, IsReached, PlansAreReached, PlannedNamesDiffer}
+use Rattle.mk_plan.specs.Plans.{wanted, as_plan, order_by, order_of, place_from, plan_node, inner_nodes, frame_node, frame_commands, first_nodes, nodes_of, plan_of, named_plan, is_behind, are_ordered, has_its_sources, are_sourced}
 use Rattle.mk_plan.specs.declared.fault.PlanFault.{PlanFault}
 use Rattle.mk_plan.specs.declared.plan.PlanNode.{PlanNode}
 use Rattle.mk_pool.specs.Pool.{AreDistinct}

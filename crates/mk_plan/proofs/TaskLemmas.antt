@@ -7,6 +7,7 @@ use Rattle.mk_expand.specs.declared.facts.Asked.{Asked}
 use Rattle.mk_expand.specs.declared.fault.ExpandFault.{ExpandFault}
 use Rattle.mk_expand.specs.declared.local.Locals.{Locals}
 use Rattle.mk_flags.specs.declared.Flags.{Flags}
+use Rattle.mk_graph.specs.declared.mode.Mode.{Mode}
 use Rattle.mk_scopes.specs.Scopes.{Variables}
 use Rattle.mk_world.specs.declared.command.Task.{Task}
 use Rattle.mk_world.specs.declared.command.TaskLine.{TaskLine}
@@ -74,12 +75,12 @@ bind-ok : {A B E : Type 0} (first : Result A E) (next : A → Result B E) (value
 bind-ok (Ok given) next value is = (given, refl, is)
 bind-ok (Err fault) next value is = cc
 
--- a task of these lines has them
-task-lines : (v : Variables) (name : List ℕ) (lines : List TaskLine) (asked now : List Asked)
+-- what is made of these lines is their task
+task_is : (v : Variables) (name : List ℕ) (lines : List TaskLine) (asked now : List Asked)
     (task : Task) (result : Result (Task × List Asked) TaskFault)
-    → result ≡ Ok (task_with v name lines, asked) → result ≡ Ok (task, now) → task.lines ≡ lines
-task-lines v name lines asked now task result first second =
-    let same : task ≡ task_with v name lines = grind (arith, common_steps) in rw same refl
+    → result ≡ Ok (task_with v name lines, asked) → result ≡ Ok (task, now)
+    → task ≡ task_with v name lines
+task_is v name lines asked now task result first second = grind (arith, common_steps)
 
 -- as many lines as commands
 lines_from-length : (s : Setting) (l : Locals) (m : Manner) (lines : List TaskLine) (number : ℕ)
@@ -96,19 +97,41 @@ lines_from-length s l m lines number asked now (raw ∷ raws) all is =
     parts.2 in
     more ∙ rw (length-append lines (parts.0.0 ∷ [])) (omega arith)
 
+-- the task of a node is that of its lines
+task_of-lines : (s : Setting) (suffixes : List (List ℕ)) (nodes : List PlanNode) (n : ℕ)
+    (oodate : List (List ℕ)) (mode : Mode) (f : Flags) (asked now : List Asked) (task : Task)
+    → task_of s suffixes nodes n oodate mode f asked ≡ Ok (task, now)
+    → (lines : List TaskLine) × (behind : List Asked)
+    × (lines_from s (locals_of suffixes nodes n oodate) (manner_of mode f (node_at nodes n).marks) [] 1
+    asked (node_at nodes n).commands ≡ Ok (lines, behind))
+    × (task ≡ task_with s.variables (node_at nodes n).name lines)
+task_of-lines s suffixes nodes n oodate mode f asked now task is =
+    let name = (node_at nodes n).name in
+    let parts = bind-ok (lines_from s (locals_of suffixes nodes n oodate)
+    (manner_of mode f (node_at nodes n).marks) [] 1 asked (node_at nodes n).commands)
+    (λ lines. Ok (task_with s.variables name lines.0, lines.1)) (task, now) is in (
+      parts.0.0,
+      parts.0.1,
+      parts.1,
+      task_is s.variables name parts.0.0 parts.0.1 now task
+          (Ok (task_with s.variables name parts.0.0, parts.0.1)) refl parts.2,
+    )
+
+-- a task says nothing of a node but its lines, its name and the directory
+pub task_of-with : (s : Setting) (suffixes : List (List ℕ)) (nodes : List PlanNode) (n : ℕ)
+    (oodate : List (List ℕ)) (mode : Mode) (f : Flags) (asked now : List Asked) (task : Task)
+    → task_of s suffixes nodes n oodate mode f asked ≡ Ok (task, now)
+    → task ≡ task_with s.variables (node_at nodes n).name task.lines
+task_of-with s suffixes nodes n oodate mode f asked now task is =
+    let made = task_of-lines s suffixes nodes n oodate mode f asked now task is in rw made.3 refl
+
 -- the task of a node has a line for each of its commands
 pub task_of-length : (s : Setting) (suffixes : List (List ℕ)) (nodes : List PlanNode) (n : ℕ)
-    (oodate : List (List ℕ)) (f : Flags) (asked now : List Asked) (task : Task)
-    → task_of s suffixes nodes n oodate f asked ≡ Ok (task, now)
+    (oodate : List (List ℕ)) (mode : Mode) (f : Flags) (asked now : List Asked) (task : Task)
+    → task_of s suffixes nodes n oodate mode f asked ≡ Ok (task, now)
     → length task.lines ≡ length (node_at nodes n).commands
-task_of-length s suffixes nodes n oodate f asked now task is =
-    let locals = locals_of suffixes nodes n oodate in
-    let manner = manner_of f (node_at nodes n).marks in
-    let parts = bind-ok (lines_from s locals manner [] 1 asked (node_at nodes n).commands)
-    (λ lines. Ok (task_with s.variables (node_at nodes n).name lines.0, lines.1)) (task, now) is in
-    let lines_are : task.lines ≡ parts.0.0 =
-    task-lines s.variables (node_at nodes n).name parts.0.0 parts.0.1 now task
-    (Ok (task_with s.variables (node_at nodes n).name parts.0.0, parts.0.1)) refl parts.2 in
-    rw lines_are
-    (lines_from-length s locals manner [] 1 asked parts.0.1
-    (node_at nodes n).commands parts.0.0 parts.1 ∙ omega arith)
+task_of-length s suffixes nodes n oodate mode f asked now task is =
+    let made = task_of-lines s suffixes nodes n oodate mode f asked now task is in
+    rw made.3 (lines_from-length s (locals_of suffixes nodes n oodate)
+    (manner_of mode f (node_at nodes n).marks) [] 1 asked made.1 (node_at nodes n).commands made.0
+    made.2 ∙ omega arith)

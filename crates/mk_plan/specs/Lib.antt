@@ -1,8 +1,9 @@
 pub mod Asking
+pub mod AskingLaws
 pub mod Deciding
 pub mod Facts
 pub mod Lists
-pub mod Looks
+pub mod Metas
 pub mod Newer
 pub mod Oodate
 pub mod Plans

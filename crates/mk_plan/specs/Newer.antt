@@ -1,5 +1,5 @@
 -- The names that are looked up in a task, and the sources that are newer than the target.
-use Rattle.std.specs.Prelude.{◌≡◌, ℕ, Bool, false, List, [], ◌∷◌, ◌++◌, Result, Ok, Err}
+use Rattle.std.specs.Prelude.{◌≡◌, ℕ, false, List, [], ◌∷◌, ◌++◌, Result, Ok, Err}
 use Rattle.mk_ast.specs.Tree.{Tree}
 use Rattle.mk_expand.specs.Looks.{looks_for_newer}
 use Rattle.mk_expand.specs.Texts.{parsed}
@@ -8,6 +8,7 @@ use Rattle.mk_expand.specs.declared.facts.Asked.{Asked}
 use Rattle.mk_expand.specs.declared.fault.ExpandFault.{ExpandFault}
 use Rattle.mk_expand.specs.declared.local.Locals.{Locals}
 use Rattle.mk_flags.specs.declared.Flags.{Flags}
+use Rattle.mk_graph.specs.declared.mode.Mode.{Mode}
 use Rattle.mk_world.specs.declared.command.TaskLine.{TaskLine}
 use Rattle.mk_plan.specs.Plans.{node_at}
 use Rattle.mk_plan.specs.Tasks.{Setting, line_of, locals_of, manner_of, task_of}
@@ -36,16 +37,17 @@ names_from k locals manner asked (raw ∷ more) =
     ++ names_behind (line_of k locals manner asked raw) (λ now. names_from k locals manner now more)
 
 -- The names that are looked up where the task of a node is made.
-abbrev pub task_names : Setting → List (List ℕ) → List PlanNode → ℕ → List (List ℕ) → Flags
+abbrev pub task_names : Setting → List (List ℕ) → List PlanNode → ℕ → List (List ℕ) → Mode → Flags
     → List Asked → List (List ℕ)
-task_names k suffixes nodes n oodate flags asked =
-    names_from k (locals_of suffixes nodes n oodate) (manner_of flags (node_at nodes n).marks) asked
+task_names k suffixes nodes n oodate mode flags asked =
+    names_from k (locals_of suffixes nodes n oodate) (manner_of mode flags (node_at nodes n).marks) asked
     (node_at nodes n).commands
 
 -- A node in whose commands no name of `.OODATE` is looked up has one task, whichever sources are newer.
 abbrev pub NewerDoNotCount : Type 0
 NewerDoNotCount =
     (k : Setting) (suffixes : List (List ℕ)) (nodes : List PlanNode) (n : ℕ)
-    (oodate newer : List (List ℕ)) (flags : Flags) (asked : List Asked)
-    → looks_for_newer (task_names k suffixes nodes n oodate flags asked) ≡ false
-    → task_of k suffixes nodes n newer flags asked ≡ task_of k suffixes nodes n oodate flags asked
+    (oodate newer : List (List ℕ)) (mode : Mode) (flags : Flags) (asked : List Asked)
+    → looks_for_newer (task_names k suffixes nodes n oodate mode flags asked) ≡ false
+    → task_of k suffixes nodes n newer mode flags asked
+    ≡ task_of k suffixes nodes n oodate mode flags asked

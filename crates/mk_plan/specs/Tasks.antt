@@ -1,5 +1,5 @@
 -- Tasks: the command lines of a node, expanded.
-use Rattle.std.specs.Prelude.{ℕ, ◌+◌, ◌==◌, ◌||◌, Bool, true, false, not, List, [], ◌∷◌, ◌++◌, length, take, drop, position, unwrap_or, Result, Ok, Err}
+use Rattle.std.specs.Prelude.{ℕ, ◌+◌, ◌==◌, ◌||◌, ◌&&◌, Bool, true, false, not, List, [], ◌∷◌, ◌++◌, length, take, drop, position, unwrap_or, Result, Ok, Err}
 use Rattle.std.specs.List.{list_any}
 use Rattle.mk_ast.specs.Tree.{Tree}
 use Rattle.mk_bytes.specs.Agrees.{◌>>=◌}
@@ -12,10 +12,12 @@ use Rattle.mk_expand.specs.declared.fault.ExpandFault.{ExpandFault}
 use Rattle.mk_expand.specs.declared.local.Locals.{Locals}
 use Rattle.mk_flags.specs.declared.Flags.{Flags}
 use Rattle.mk_graph.specs.declared.attr.Marks.{Marks}
+use Rattle.mk_graph.specs.declared.mode.Mode.{Mode}
 use Rattle.mk_scopes.specs.Scopes.{Variables}
 use Rattle.mk_suffix.specs.Names.{prefix_of}
 use Rattle.mk_world.specs.declared.command.Task.{Task}
 use Rattle.mk_world.specs.declared.command.TaskLine.{TaskLine}
+use Rattle.mk_plan.specs.Metas.{is_meta}
 use Rattle.mk_plan.specs.Oodate.{refers}
 use Rattle.mk_plan.specs.Plans.{node_at}
 use Rattle.mk_plan.specs.declared.fault.TaskFault.{TaskFault}
@@ -36,11 +38,11 @@ abbrev pub holds : ℕ → List ℕ → Bool
 holds byte text = list_any (λ one. one == byte) text
 
 -- How all lines of a node are run: the options of the build and the node's attributes may make them
--- ignored, and silent.
-abbrev pub manner_of : Flags → Marks → Manner
-manner_of flags marks = record {
+-- ignored, and silent. A true `silent` of `.MAKE.MODE` makes those of nodes in meta mode silent.
+abbrev pub manner_of : Mode → Flags → Marks → Manner
+manner_of mode flags marks = record {
   ignore = flags.ignore || marks.ignore;
-  silent = flags.silent || marks.silent;
+  silent = flags.silent || marks.silent || (mode.silent && is_meta mode marks);
 }
 
 -- An expanded line: `@` before its text makes it silent, `-` ignored, `+` always run.
@@ -130,16 +132,16 @@ task_with variables target lines =
 
 -- The task of a node, where these of its sources are newer than it, and the questions of `exists`
 -- behind it.
-abbrev pub task_of : Setting → List (List ℕ) → List PlanNode → ℕ → List (List ℕ) → Flags → List Asked
-    → Result (Task × List Asked) TaskFault
-task_of k suffixes nodes n oodate flags asked =
-    lines_from k (locals_of suffixes nodes n oodate) (manner_of flags (node_at nodes n).marks) [] 1 asked
-    (node_at nodes n).commands
+abbrev pub task_of : Setting → List (List ℕ) → List PlanNode → ℕ → List (List ℕ) → Mode → Flags
+    → List Asked → Result (Task × List Asked) TaskFault
+task_of k suffixes nodes n oodate mode flags asked =
+    lines_from k (locals_of suffixes nodes n oodate) (manner_of mode flags (node_at nodes n).marks) [] 1
+    asked (node_at nodes n).commands
     >>= λ lines. Ok (task_with k.variables (node_at nodes n).name lines.0, lines.1)
 
 -- The questions of `exists` behind it, also behind its fault.
-abbrev pub task_questions : Setting → List (List ℕ) → List PlanNode → ℕ → List (List ℕ) → Flags
+abbrev pub task_questions : Setting → List (List ℕ) → List PlanNode → ℕ → List (List ℕ) → Mode → Flags
     → List Asked → List Asked
-task_questions k suffixes nodes n oodate flags asked =
-    questions_from k (locals_of suffixes nodes n oodate) (manner_of flags (node_at nodes n).marks) asked
-    (node_at nodes n).commands
+task_questions k suffixes nodes n oodate mode flags asked =
+    questions_from k (locals_of suffixes nodes n oodate) (manner_of mode flags (node_at nodes n).marks)
+    asked (node_at nodes n).commands

@@ -10,7 +10,6 @@ ghost use Rattle.mk_plan.specs.Asking.{Asking, AskingBeside};
 ghost use Rattle.mk_plan.specs.Facts as spec;
 ghost use Rattle.mk_world.specs.Causes.{HasCause};
 
-use crate::look::is_missing_time;
 use mk_bytes::{Text, Texts};
 use mk_cond::Fun;
 use mk_expand::{Asked, FactFault, Facts};
@@ -136,7 +135,7 @@ impl<'a, W: World> MadeFacts<'a, W> {
         }
         match self.world.time(alloc, path.bytes()) {
             Ok(when) => {
-                let answer = !is_missing_time(&when);
+                let answer = !when.is_missing();
                 self.asked.push(Asked { path, answer }).unwrap();
                 Ok(answer)
             }
@@ -149,7 +148,8 @@ impl<'a, W: World> Facts for MadeFacts<'a, W> {
     ghost use Rattle.std.specs.Prelude.{◌≡◌, ℕ, List, []};
     ghost use Rattle.std.proofs.Common.{refl, ◌∙◌};
     ghost use Rattle.mk_plan.specs.Facts.{lists_of};
-    ghost use Rattle.mk_plan.specs.Asking.{Asking, AskingBeside, asking_none, asking_then, beside_none, beside_then};
+    ghost use Rattle.mk_plan.specs.Asking.{Asking, AskingBeside};
+    ghost use Rattle.mk_plan.specs.AskingLaws.{asking_none, asking_then, beside_none, beside_then};
 
     ghost lists = { λ facts. lists_of facts.made.now facts.requested.now };
 

@@ -8,8 +8,8 @@ mod copies;
 mod facts;
 mod fault;
 mod law;
-mod look;
 mod making;
+mod metas;
 mod oodate;
 mod plan;
 mod plan_law;
@@ -19,6 +19,7 @@ pub use facts::MadeFacts;
 pub use fault::{PlanFault, TaskFault};
 pub use law::newer_sources_do_not_count;
 pub use making::make_plan;
+pub use metas::is_meta;
 pub use plan::{NodeState, Nodes, Plan, PlanNode};
 pub use plan_law::{
     dependence_goes_back, planned_names_differ, planned_nodes_are_reached, plans_have_their_sources,

@@ -5,8 +5,7 @@ ghost use Rattle.mk_closure.specs.Members.{numbers_from, all_preds};
 ghost use Rattle.mk_closure.specs.Names.{name_in};
 ghost use Rattle.mk_graph.specs.Numbers.{AreBelow};
 ghost use Rattle.mk_graph.specs.Orders.{IsOrder};
-ghost use Rattle.mk_plan.specs.Looks.{OnLooks};
-ghost use Rattle.mk_plan.specs.Looks as looks;
+ghost use Rattle.mk_world.specs.Looks.{OnLooks};
 ghost use Rattle.mk_plan.specs.Plans as spec;
 ghost use Rattle.mk_plan.specs.Refusals.{IsOwnPlan, IsRefusedBy};
 ghost use Rattle.mk_plan.specs.declared.fault.PlanFault.TheVariants.{

@@ -11,13 +11,14 @@ ghost use Rattle.mk_plan.specs.Tasks.{setting_of};
 
 use crate::copies::copied;
 use crate::fault::TaskFault;
+use crate::metas::is_meta;
 use crate::oodate::refers;
 use crate::plan::{Nodes, Plan};
 use mk_ast::parse;
 use mk_bytes::{Items, NoMemory, Text, Texts};
 use mk_expand::{ExpandFault, Facts, Locals, expand};
 use mk_flags::Flags;
-use mk_graph::{Attr, Made};
+use mk_graph::{Attr, Made, Mode};
 use mk_scopes::Scopes;
 use mk_suffix::prefix_of;
 use mk_world::{Lines, Task, TaskLine};
@@ -32,13 +33,15 @@ pub struct Manner {
     pub silent: bool,
 }
 
-fn manner_of(plan: &Plan, n: u32, flags: &Flags) -> Manner
+fn manner_of(plan: &Plan, mode: &Mode, n: u32, flags: &Flags) -> Manner
     requires { n < length plan.now }
-    ensures { result ≡ spec.manner_of flags.now (node_at plan.now n).marks }
+    ensures { result ≡ spec.manner_of mode.now flags.now (node_at plan.now n).marks }
 {
     Manner {
         ignore: flags.ignore || plan.has(n, Attr::Ignore),
-        silent: flags.silent || plan.has(n, Attr::Silent),
+        silent: flags.silent
+            || plan.has(n, Attr::Silent)
+            || (mode.silent && is_meta(plan, mode, n)),
     }
 }
 
@@ -166,12 +169,13 @@ fn locals_of(
 
 /// The task of a node of a plan: its command lines, expanded with its local names, where these of
 /// its sources are newer than it. `@` before a line's text makes it silent, `-` ignored and `+`
-/// always run; the options and the attributes `.SILENT` and `.IGNORE` make all lines so. A line whose
-/// raw text has a reference with the plain name `.OODATE` or `?` anywhere in it is not compared with
-/// that of another build.
+/// always run; the options and the attributes `.SILENT` and `.IGNORE` make all lines so, and a true
+/// `silent` of `.MAKE.MODE` those of a node in meta mode silent. A line whose raw text has a reference
+/// with the plain name `.OODATE` or `?` anywhere in it is not compared with that of another build.
 ///
 /// A fault has the number of its line, the first such, counted from 1; it is `Failed` only where the
-/// count of the facts rose in this call or is at its end.
+/// count of the facts rose in this call or is at its end. The questions of `exists` are those of the
+/// lines up to it.
 pub fn task<F: Facts>(
     alloc: Global,
     plan: &Plan,
@@ -184,13 +188,16 @@ pub fn task<F: Facts>(
     requires { n < length plan.now }
     ensures task { MeansLines (F.asked facts.new) (λ task. (task, F.asked facts.new)) result
         (λ answers. spec.task_of (setting_of made.now.scopes (F.lists facts.old) answers)
-        made.now.suffixes plan.now n oodate.now flags.now (F.asked facts.old)) }
+        made.now.suffixes plan.now n oodate.now made.now.mode flags.now (F.asked facts.old)) }
+    ensures questions { RefusedBehind (F.asked facts.new) result
+        (λ answers. spec.task_questions (setting_of made.now.scopes (F.lists facts.old) answers)
+        made.now.suffixes plan.now n oodate.now made.now.mode flags.now (F.asked facts.old)) }
     ensures facts { Asks (F.leads facts.old facts.new) (F.lists facts.old) (F.lists facts.new)
         (F.asked facts.old) (F.asked facts.new) (F.faults facts.old) (F.faults facts.new)
         (without_line result) }
 {
     let locals = locals_of(alloc, &made.suffixes, plan, n, oodate)?;
-    let manner = manner_of(plan, n, flags);
+    let manner = manner_of(plan, &made.mode, n, flags);
     let lines = lines_of(
         alloc,
         &made.scopes,

@@ -3,7 +3,7 @@ use Rattle.std.proofs.Common.{◌≡◌, ◌⊎◌, ◌<◌, ◌≤◌, ℕ, Lis
 use Rattle.std.proofs.Common.{◌∙◌, inl, inr, refl, sym, ap, subst, arith}
 use Rattle.std.proofs.Math.Nat.{lt_irrefl}
 use Rattle.std.proofs.lemmas.Bool.{cases_lt}
-use Rattle.mk_plan.specs.Asking.{LooksAll, answers_by}
+use Rattle.mk_plan.specs.Asking.{answers_by}
 use Rattle.mk_plan.specs.Plans.{planned}
 use Rattle.mk_plan.specs.Tasks.{setting_of}
 use Rattle.mk_plan.specs.Refusals.{IsRefusedBy}
@@ -11,6 +11,7 @@ use Rattle.mk_plan.specs.declared.fault.PlanFault.{PlanFault}
 use Rattle.mk_plan.specs.declared.fault.PlanFault.TheVariants as plan
 use Rattle.mk_reader.specs.declared.fault.ReadFault.TheVariants as read
 use Rattle.mk_world.specs.Causes.{HasCause, Rose, last_count}
+use Rattle.mk_world.specs.Looks.{DatesAll as LooksAll}
 use Rattle.mk_world.specs.Runs.{Same}
 use Rattle.mk_world.specs.Talks.{Meaning}
 use Rattle.mk_world.specs.Told.{Told}

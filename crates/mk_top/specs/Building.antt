@@ -1,14 +1,14 @@
 -- Builds: a plan of the targets that are asked for is made, and its nodes are built.
 use Rattle.std.specs.Prelude.{◌≡◌, ◌⊎◌, ℕ, nat_le, Bool, true, false, not, ◌&&◌, List, [], map}
 use Rattle.std.specs.Prelude.{Option, Ok}
-use Rattle.mk_trace.specs.Builds.{IsBuild, moment}
+use Rattle.mk_trace.specs.Builds.{moment}
+use Rattle.mk_trace.specs.TrueBuilds.{IsTrueBuild}
 use Rattle.mk_decision.specs.Makers.{work_on}
 use Rattle.mk_trace.specs.Ends.{StandsBy, is_cut}
 use Rattle.mk_trace.specs.declared.result.BuildResult.{BuildResult}
 use Rattle.mk_trace.specs.declared.result.BuildResult.TheVariants as build
 use Rattle.mk_flags.specs.declared.Flags.{Flags}
 use Rattle.mk_graph.specs.declared.Made.{Made}
-use Rattle.mk_plan.specs.Looks.{OnLooks}
 use Rattle.mk_plan.specs.Plans.{planned}
 use Rattle.mk_plan.specs.Refusals.{IsRefusedBy}
 use Rattle.mk_plan.specs.declared.fault.PlanFault.{PlanFault}
@@ -17,6 +17,7 @@ use Rattle.mk_top.specs.Ends.{of_plan, of_build}
 use Rattle.mk_top.specs.declared.building.Went.{Went}
 use Rattle.mk_top.specs.declared.report.End.{End}
 use Rattle.mk_top.specs.declared.report.End.TheVariants.{NoMemory}
+use Rattle.mk_world.specs.Looks.{OnLooks}
 use Rattle.mk_world.specs.Sinks.{Gains}
 use Rattle.mk_world.specs.Talks.{Meaning}
 use Rattle.mk_world.specs.declared.history.History.{History}
@@ -74,7 +75,7 @@ pub record IsBuilt (meaning : Meaning) (made : Made) (flags : Flags) (first last
         (λ files. planned files made flags.requested flags.query ≡ Ok nodes)
     pub plan : went.plan ≡ names_of nodes
     pub result : BuildResult
-    pub built : IsBuild meaning (work_on nodes made flags) (is_cut result)
+    pub built : IsTrueBuild meaning (work_on nodes made flags) (is_cut result)
         (moment planned_at first.out []) (moment last.history last.out went.events)
         (StandsBy (work_on nodes made flags) result)
     pub end : IsEndOf nodes result went.end

@@ -57,7 +57,6 @@ plain_text what.Brace = codes "open brace"
 plain_text what.RuleSources = codes "rule with sources"
 plain_text what.TooManyNames = codes "too many names"
 plain_text (what.Error text) = text
-plain_text what.Unbuilt = codes "form is not built yet"
 plain_text (what.Cond at) = []
 plain_text (what.Count words names) = []
 plain_text (what.Expand fault) = []

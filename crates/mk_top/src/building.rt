@@ -1,6 +1,6 @@
 //! Builds of the targets that are asked for.
 ghost use Rattle.std.specs.Prelude.{◌≡◌, [], Option, Ok, IsTrue, IfOk};
-ghost use Rattle.mk_plan.specs.Looks.{OnLooks};
+ghost use Rattle.mk_world.specs.Looks.{OnLooks};
 ghost use Rattle.mk_plan.specs.Plans.{planned};
 ghost use Rattle.mk_top.specs.Building as spec;
 ghost use Rattle.mk_top.specs.Causes as runs;

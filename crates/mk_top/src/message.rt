@@ -117,7 +117,6 @@ fn plain_text(what: &What) -> [&[u8]; 2]
         What::RuleSources => [b"rule with sources", b""],
         What::TooManyNames => [b"too many names", b""],
         What::Error(text) => [text.bytes(), b""],
-        What::Unbuilt => [b"form is not built yet", b""],
         What::Cond(_) | What::Count(_, _) | What::Expand(_) => [b"", b""],
     }
 }

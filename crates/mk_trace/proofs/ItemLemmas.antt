@@ -9,7 +9,7 @@ use Rattle.mk_world.specs.declared.history.History.{History}
 use Rattle.mk_world.proofs.CallLemmas.{after_all-append, MayAll-append}
 use Rattle.mk_decision.specs.Decisions.{Work}
 use Rattle.mk_trace.specs.Builds.{Build, Makes, build_after, build_after_all, rules_of, failure_after, or_next, event_of}
-use Rattle.mk_trace.specs.Items.{Item, looks, keeps, refuses, starts, passes, waits, steps, ends, removes, leaves, reported, reported_all, happened, happened_all, output_of, outputs_of, FitsAll, Happened}
+use Rattle.mk_trace.specs.Items.{Item, looks, keeps, refuses, starts, passes, waits, steps, ends, changes, leaves, reported, reported_all, happened, happened_all, output_of, outputs_of, FitsAll, Happened}
 use Rattle.mk_trace.specs.Runs as run
 use Rattle.mk_trace.specs.declared.event.Event.{Event}
 use Rattle.mk_trace.specs.declared.event.Event.TheVariants.{End}
@@ -173,7 +173,7 @@ end-event failure node number status false = sym (none-next (event_of failure))
 item-failure : (tasks : run.Tasks) (failure : Option Failure) (item : Item)
     → event_of (failure_after tasks failure item)
     ≡ run.or_next (event_of failure) (run.first_failure tasks (reported item))
-item-failure tasks failure (looks node path when) = sym (none-next (event_of failure))
+item-failure tasks failure (looks node seen) = sym (none-next (event_of failure))
 item-failure tasks failure (keeps node) = sym (none-next (event_of failure))
 item-failure tasks failure (refuses node number what) =
     event_of-next failure (Some (Expand node number what))
@@ -184,7 +184,7 @@ item-failure tasks failure (steps ticket owner deed time) = sym (none-next (even
 item-failure tasks failure (ends node number owner ended) =
     end-event failure node number ended.status
     (run.fails (run.line_of (tasks node) number) ended.status)
-item-failure tasks failure (removes node path time) = sym (none-next (event_of failure))
+item-failure tasks failure (changes node change) = sym (none-next (event_of failure))
 item-failure tasks failure (leaves ticket owner) = sym (none-next (event_of failure))
 
 pub first_failure-append : (tasks : run.Tasks) (events more : List Event)

@@ -8,4 +8,14 @@ pub mod RunLemmas
 pub mod RunRows
 pub mod SettledLemmas
 pub mod TogetherLemmas
+pub mod TrueBuildLemmas
+pub mod TrueChildren
+pub mod TrueIdle
+pub mod TrueJobs
+pub mod TrueLemmas
+pub mod TrueRuns
+pub mod TrueStages
+pub mod TrueTasks
+pub mod TrueTexts
+pub mod TrueWholes
 pub mod WorldLemmas

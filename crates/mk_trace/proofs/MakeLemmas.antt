@@ -9,8 +9,8 @@ use Rattle.mk_world.specs.Told.{Told}
 use Rattle.mk_world.proofs.SinkLemmas.{Gains-nothing, Gains-then, GainsPart-then}
 use Rattle.mk_decision.specs.Decisions.{Work}
 use Rattle.mk_trace.specs.Builds.{Build, Moment, Makes, Prints, build_after_all, first_build, job_of}
-use Rattle.mk_trace.specs.Calls.{AreStepItems, Called, NoItem}
-use Rattle.mk_trace.specs.Items.{Item, happened_all, reported_all, outputs_of, FitsAll, Happened}
+use Rattle.mk_trace.specs.Calls.{AreStepItems, Called, NoItem, NoneLeft}
+use Rattle.mk_trace.specs.Items.{Item, looks, keeps, refuses, starts, passes, waits, steps, ends, changes, leaves, happened_all, reported_all, outputs_of, FitsAll, Happened}
 use Rattle.mk_trace.specs.Output.{Printed, printed_all, nothing_printed}
 use Rattle.mk_trace.specs.Growth.{Known, HasTasks, IsMade, SoFar, Standing, printed_by}
 use Rattle.mk_trace.specs.Runs as run
@@ -36,6 +36,26 @@ pub makes-steps : (work : Work) (tasks : run.Tasks) (build : Build) (items : Lis
     → AreStepItems items → Makes work tasks build items
 makes-steps work tasks build = on_steps (λ items. Makes work tasks build items) tt
     (λ ticket owner deed time items more. (tt, tt, tt, more))
+
+-- in neither of two lists a child is given up
+pub none-append : (items more : List Item) → NoneLeft items → NoneLeft more → NoneLeft (items ++ more)
+none-append [] more none then_none = then_none
+none-append (looks node seen ∷ items) more none then_none = none-append items more none then_none
+none-append (keeps node ∷ items) more none then_none = none-append items more none then_none
+none-append (refuses node number what ∷ items) more none then_none = none-append items more none then_none
+none-append (starts node number ticket owner cmd ∷ items) more none then_none =
+    none-append items more none then_none
+none-append (passes node number ∷ items) more none then_none = none-append items more none then_none
+none-append (waits ∷ items) more none then_none = none-append items more none then_none
+none-append (steps ticket owner deed time ∷ items) more none then_none =
+    none-append items more none then_none
+none-append (ends node number owner ended ∷ items) more none then_none =
+    none-append items more none then_none
+none-append (changes node change ∷ items) more none then_none = none-append items more none then_none
+none-append (leaves ticket owner ∷ items) more none then_none = absurd none
+
+pub none-steps : (items : List Item) → AreStepItems items → NoneLeft items
+none-steps = on_steps NoneLeft tt (λ ticket owner deed time items more. more)
 
 -- the items of a call, between the steps of children
 module _ (early own late : List Item) (early_are : AreStepItems early)
@@ -166,7 +186,7 @@ made-more work tasks cut first now next last later items mid own P Q reported ou
 pub so_far-called : (meaning : Meaning) (work : Work) (cut : Bool) (first now next : Moment)
     (last later : Option ℕ) (known more : Known) (P Q : Standing) (OwnItems : List Item → Type 0)
     → SoFar meaning work false first now last known P
-    → (call : Called meaning now.history next.history OwnItems)
+    → (call : Called meaning now.history next.history OwnItems) → NoneLeft call.own
     → next.events ≡ now.events ++ reported_all call.own
     → ((tasks : run.Tasks) → HasTasks tasks more → HasTasks tasks known)
     → ((tasks : run.Tasks) (build : Build) → HasTasks tasks more
@@ -174,14 +194,17 @@ pub so_far-called : (meaning : Meaning) (work : Work) (cut : Bool) (first now ne
     → ((tasks : run.Tasks) (build : Build) → HasTasks tasks more → P tasks build
     → PrintsOwn work tasks cut now next last later call.own)
     → SoFar meaning work cut first next later more Q
-so_far-called meaning work cut first now next last later known more P Q OwnItems so call events grow
-    step prints =
+so_far-called meaning work cut first now next last later known more P Q OwnItems so call none events
+    grow step prints =
     let mid = call.early ++ (call.own ++ call.late) in
     let reported = reported-between call.early call.own call.late call.early_steps call.late_steps in
     record {
       items = so.items ++ mid;
       reported = events ∙ rw (so.reported, reported_all-append so.items mid, reported) refl;
       told = told-then meaning so.items mid first.history now.history next.history so.told call.told;
+      none_left = none-append so.items mid so.none_left (none-append call.early (call.own ++ call.late)
+          (none-steps call.early call.early_steps)
+          (none-append call.own call.late none (none-steps call.late call.late_steps)));
       made = λ tasks has. made-more work tasks cut first now next last later so.items mid call.own P Q
           reported
           (outputs-between call.early call.own call.late call.early_steps call.late_steps)
@@ -190,32 +213,6 @@ so_far-called meaning work cut first now next last later known more P Q OwnItems
           (so.made tasks (grow tasks has)) (λ build. step tasks build has)
           (λ build. prints tasks build has);
     }
-
--- A build goes on by items of which none tells anything or prints.
-pub so_far-items : (meaning : Meaning) (work : Work) (first now next : Moment)
-    (last : Option ℕ) (known : Known) (P Q : Standing) (own : List Item)
-    → SoFar meaning work false first now last known P
-    → Told now.history next.history (Happened meaning own)
-    → next.events ≡ now.events → reported_all own ≡ [] → outputs_of own ≡ []
-    → next.out ≡ now.out
-    → ((tasks : run.Tasks) (build : Build) → P tasks build → GoesOn work tasks build own Q)
-    → SoFar meaning work false first next last known Q
-so_far-items meaning work first now next last known P Q own so told events reported outputs out step =
-    let call : Called meaning now.history next.history (λ items. items ≡ own) = record {
-      early = [];
-      own = own;
-      late = [];
-      early_steps = tt;
-      late_steps = tt;
-      is_own = refl;
-      told = subst (λ l. Told now.history next.history (Happened meaning l)) (sym (append-nil own)) told;
-    } in
-    so_far-called meaning work false first now next last last known known P Q (λ items. items ≡ own) so
-    call
-    (events ∙ (sym (append-nil now.events) ∙ ap (λ l. now.events ++ l) (sym reported)))
-    (λ tasks has. has) (λ tasks build has is. step tasks build is)
-    (λ tasks build has is. silent work tasks now next last own out outputs
-    (λ outs p. rw reported refl))
 
 -- what is so of a build, may be said less strongly
 pub so_far-weaken : (meaning : Meaning) (work : Work) (cut : Bool) (first now : Moment)
@@ -228,6 +225,7 @@ so_far-weaken meaning work cut first now last known more P Q so grow weaken = re
   items = so.items;
   reported = so.reported;
   told = so.told;
+  none_left = so.none_left;
   made = λ tasks has.
       let made = so.made tasks (grow tasks has) in
       record {
@@ -247,7 +245,7 @@ pub so_far-nothing : (meaning : Meaning) (work : Work) (first now next : Moment)
     → next.out ≡ now.out → SoFar meaning work false first next last known P
 so_far-nothing meaning work first now next last known P so call events out =
     so_far-called meaning work false first now next last last known known P P NoItem so call
-    (events ∙ rw call.is_own (sym (append-nil now.events))) (λ tasks has. has)
+    (rw call.is_own tt) (events ∙ rw call.is_own (sym (append-nil now.events))) (λ tasks has. has)
     (λ tasks build has is. rw call.is_own (record { makes = tt; stands = is }))
     (λ tasks build has is. rw call.is_own
     (silent work tasks now next last [] out refl (λ outputs p. refl)))
@@ -256,6 +254,7 @@ so_far-nothing meaning work first now next last known P so call events out =
 pub so_far-own : (meaning : Meaning) (work : Work) (first now next : Moment)
     (last : Option ℕ) (known more : Known) (P Q : Standing) (own : List Item)
     → SoFar meaning work false first now last known P
+    → NoneLeft own
     → happened_all own ≡ [] → ((stand : Stand) → FitsAll meaning stand own) → outputs_of own ≡ []
     → next.history ≡ now.history → next.events ≡ now.events ++ reported_all own
     → next.out ≡ now.out → ((tasks : run.Tasks) → HasTasks tasks more → HasTasks tasks known)
@@ -265,13 +264,14 @@ pub so_far-own : (meaning : Meaning) (work : Work) (first now next : Moment)
     → (outputs : List (List ℕ)) (p : Printed)
     → printed_all (job_of work tasks) outputs p (reported_all own) ≡ p)
     → SoFar meaning work false first next last more Q
-so_far-own meaning work first now next last known more P Q own so nothing fits none history events out
+so_far-own meaning work first now next last known more P Q own so stay nothing fits none history events
+    out
     grow goes prints =
     let call : Called meaning now.history next.history (λ items. items ≡ own) =
     subst (λ h. Called meaning now.history h (λ items. items ≡ own)) (sym history)
     (called-own meaning now.history own nothing fits) in
     so_far-called meaning work false first now next last last known more P Q (λ items. items ≡ own) so
-    call (rw call.is_own events) grow
+    call (rw call.is_own stay) (rw call.is_own events) grow
     (λ tasks build has is. rw call.is_own (goes tasks build has is))
     (λ tasks build has is. rw call.is_own
     (silent work tasks now next last own out none (prints tasks build has is)))

@@ -9,6 +9,7 @@ use Rattle.std.specs.List.{Contains}
 use Rattle.mk_plan.specs.Deciding.{Rules, may_decide, is_stopped}
 use Rattle.mk_plan.specs.declared.plan.NodeState.{NodeState}
 use Rattle.mk_plan.specs.declared.plan.NodeState.TheVariants.{Undecided, Open, Settled, Failed}
+use Rattle.mk_world.proofs.ChildLemmas.{child_in-none, child_in-front, child_in-last, contains-last, child_in-without, contains-without, Once, once-last, once-without, none-taken, child_in-step, once-step, contains-step}
 use Rattle.mk_world.specs.Calls.{EndsAs}
 use Rattle.mk_world.specs.History.{State as Stand, May as MayHappenNow, MayAll as MayHappen, after as stand_next, after_all as stand_after, child_in, children_after, stepped, without_child}
 use Rattle.mk_world.specs.Talks.{Meaning}
@@ -19,222 +20,15 @@ use Rattle.mk_world.specs.declared.step.Deed.{Deed}
 use Rattle.mk_world.specs.declared.step.Ended.{Ended}
 use Rattle.mk_decision.specs.Decisions.{Work}
 use Rattle.mk_trace.proofs.BegunLemmas.{may-undecided, Steady, start-within}
-use Rattle.mk_trace.specs.Builds.{Build, Own, Makes, MayMake, IsCommandOf, command_of, first_build, build_after, build_after_all, rules_of, own_after}
-use Rattle.mk_trace.specs.Items.{Item, looks, keeps, refuses, starts, passes, waits, steps, ends, removes, leaves, reported, happened, happened_all, FitsAll, IsEndOf}
+use Rattle.mk_trace.specs.Builds.{Build, Own, Makes, MayMake, IsCommandOf, command_of, first_build, build_after, build_after_all, rules_of, own_after, own_changed, with_collected, with_ticket}
+use Rattle.mk_trace.specs.Collected.{with_end}
+use Rattle.mk_trace.specs.declared.collected.Collected.{Collected}
+use Rattle.mk_trace.specs.Items.{Change, gone, head, whole, cut_head, cut_whole, changed, Item, looks, keeps, refuses, starts, passes, waits, steps, ends, changes, leaves, reported, happened, happened_all, FitsAll, IsEndOf}
 use Rattle.mk_trace.specs.Runs as run
-use Rattle.mk_trace.specs.Together.{IsNotDue, HasChild, AreTogether, NoneLeft, ChildrenBelongToNodes}
+use Rattle.mk_trace.specs.Together.{IsNotDue, HasChild, AreTogether, ChildrenBelongToNodes}
+use Rattle.mk_trace.specs.Calls.{NoneLeft}
 use Rattle.mk_trace.specs.declared.event.Event.{Event}
 use Rattle.mk_trace.specs.declared.event.Event.TheVariants.{Kept, Refused, Start, End, Wait}
-
--- children by their tickets
-
-child_in-ticket : (ticket : ℕ) (children : List Child) (child : Child)
-    → child_in children ticket ≡ Some child → child.ticket ≡ ticket
-child_in-ticket ticket [] child is = cc
-child_in-ticket ticket (first ∷ others) child is =
-    grind (arith, nat_tests, common_steps, child_in-ticket ticket others child)
-
-child_in-none : (ticket : ℕ) (children : List Child) (one : Child) → child_in children ticket ≡ None
-    → Contains children one → one.ticket ≢ ticket
-child_in-none ticket [] one none has same = absurd (omega (arith, has.1))
-child_in-none ticket (first ∷ others) one none (zero, less, is) same =
-    let here : (first.ticket == ticket) ≡ true =
-    eq-eqb first.ticket ticket (ap (λ (c : Child). c.ticket) is ∙ same) in
-    let found : child_in (first ∷ others) ticket ≡ Some first = rw here refl in cc
-child_in-none ticket (first ∷ others) one none (suc k, less, is) same =
-    child_in-none ticket others one
-    (cond_both (first.ticket == ticket) (Some first) (child_in others ticket)
-    (λ r. r ≡ None → child_in others ticket ≡ None) (λ _ given. cc) (λ _ given. given) none)
-    (k, omega (arith, less), is) same
-
--- one child more
-child_in-front : (children : List Child) (new : Child) (ticket : ℕ) (child : Child)
-    → child_in children ticket ≡ Some child → child_in (children ++ new ∷ []) ticket ≡ Some child
-child_in-front [] new ticket child is = cc
-child_in-front (first ∷ others) new ticket child is =
-    cond_both (first.ticket == ticket) (Some first) (child_in others ticket)
-    (λ r. r ≡ Some child → child_in ((first ∷ others) ++ new ∷ []) ticket ≡ Some child)
-    (λ here given. rw here given)
-    (λ other given. rw other (child_in-front others new ticket child given)) is
-
-child_in-last : (children : List Child) (new : Child) → child_in children new.ticket ≡ None
-    → child_in (children ++ new ∷ []) new.ticket ≡ Some new
-child_in-last [] new none = rw (eq-eqb new.ticket new.ticket refl) refl
-child_in-last (first ∷ others) new none =
-    cond_both (first.ticket == new.ticket) (Some first) (child_in others new.ticket)
-    (λ r. r ≡ None → child_in ((first ∷ others) ++ new ∷ []) new.ticket ≡ Some new)
-    (λ here given. cc) (λ other given. rw other (child_in-last others new given)) none
-
-contains-last : (children : List Child) (new one : Child) → Contains (children ++ new ∷ []) one
-    → Contains children one ⊎ (new ≡ one)
-contains-last [] new one (zero, less, is) = inr is
-contains-last [] new one (suc k, less, is) = absurd (omega (arith, less))
-contains-last (first ∷ others) new one (zero, less, is) = inl (0, omega arith, is)
-contains-last (first ∷ others) new one (suc k, less, is) =
-    elim (contains-last others new one (k, omega (arith, less), is)) [
-      | inl before ↦ inl (suc before.0, omega (arith, before.1), before.2)
-      | inr last ↦ inr last
-    ]
-
--- one child less
-child_in-without : (ticket other : ℕ) (children : List Child) (child : Child) → other ≢ ticket
-    → child_in children other ≡ Some child
-    → child_in (without_child ticket children) other ≡ Some child
-child_in-without ticket other [] child apart is = cc
-child_in-without ticket other (first ∷ others) child apart is =
-    cond_both (first.ticket == ticket) others (first ∷ without_child ticket others)
-    (λ l. child_in l other ≡ Some child)
-    (λ taken. cond_both (first.ticket == other) (Some first) (child_in others other)
-    (λ r. r ≡ Some child → child_in others other ≡ Some child)
-    (λ same given.
-    absurd (apart (sym (eqb-true first.ticket other same) ∙ eqb-true first.ticket ticket taken)))
-    (λ _ given. given) is)
-    (λ stays. cond_both (first.ticket == other) (Some first) (child_in others other)
-    (λ r. r ≡ Some child → child_in (first ∷ without_child ticket others) other ≡ Some child)
-    (λ same given. rw same given)
-    (λ differ given. rw differ (child_in-without ticket other others child apart given)) is)
-
-contains-without : (ticket : ℕ) (children : List Child) (one : Child)
-    → Contains (without_child ticket children) one → Contains children one
-contains-without ticket [] one has = has
-contains-without ticket (first ∷ others) one has =
-    cond_both (first.ticket == ticket) others (first ∷ without_child ticket others)
-    (λ l. Contains l one → Contains (first ∷ others) one)
-    (λ taken given. (suc given.0, omega (arith, given.1), given.2))
-    (λ stays given. at (contains-without ticket others one) given) has
-  where
-    at : (Contains (without_child ticket others) one → Contains others one)
-        → Contains (first ∷ without_child ticket others) one → Contains (first ∷ others) one
-    at go (zero, less, is) = (0, omega arith, is)
-    at go (suc k, less, is) =
-        let rest = go (k, omega (arith, less), is) in (suc rest.0, omega (arith, rest.1), rest.2)
-
--- no two children have one ticket
-abbrev Once : List Child → Type 0
-Once [] = Unit {0}
-Once (child ∷ more) = (child_in more child.ticket ≡ None) × Once more
-
-none-append : (children : List Child) (new : Child) (ticket : ℕ) → child_in children ticket ≡ None
-    → new.ticket ≢ ticket → child_in (children ++ new ∷ []) ticket ≡ None
-none-append [] new ticket none apart =
-    cond_both (new.ticket == ticket) (Some new) None (λ r. r ≡ None)
-    (λ same. absurd (apart (eqb-true new.ticket ticket same))) (λ other. refl)
-none-append (first ∷ others) new ticket none apart =
-    cond_both (first.ticket == ticket) (Some first) (child_in others ticket)
-    (λ r. r ≡ None → child_in ((first ∷ others) ++ new ∷ []) ticket ≡ None) (λ here given. cc)
-    (λ other given. rw other (none-append others new ticket given apart)) none
-
-head-none : (first : Child) (others : List Child) (ticket : ℕ) → child_in (first ∷ others) ticket ≡ None
-    → (first.ticket ≢ ticket) × (child_in others ticket ≡ None)
-head-none first others ticket none =
-    cond_both (first.ticket == ticket) (Some first) (child_in others ticket)
-    (λ r. r ≡ None → (first.ticket ≢ ticket) × (child_in others ticket ≡ None)) (λ here given. cc)
-    (λ other given.
-    ((λ same. false≢true (sym other ∙ eq-eqb first.ticket ticket same)), given)) none
-
-once-last : (children : List Child) (new : Child) → Once children → child_in children new.ticket ≡ None
-    → Once (children ++ new ∷ [])
-once-last [] new once none = (refl, tt)
-once-last (first ∷ others) new once none =
-    let parts = head-none first others new.ticket none in
-    (none-append others new first.ticket once.0 (λ same. parts.0 (sym same)), once-last others new once.1 parts.1)
-
-none-without : (ticket other : ℕ) (children : List Child) → child_in children other ≡ None
-    → child_in (without_child ticket children) other ≡ None
-none-without ticket other [] none = refl
-none-without ticket other (first ∷ others) none =
-    let parts = head-none first others other none in
-    cond_both (first.ticket == ticket) others (first ∷ without_child ticket others)
-    (λ l. child_in l other ≡ None) (λ taken. parts.1)
-    (λ stays. cond_both (first.ticket == other) (Some first)
-    (child_in (without_child ticket others) other) (λ r. r ≡ None)
-    (λ same. absurd (parts.0 (eqb-true first.ticket other same)))
-    (λ differ. none-without ticket other others parts.1))
-
-once-without : (ticket : ℕ) (children : List Child) → Once children → Once (without_child ticket children)
-once-without ticket [] once = tt
-once-without ticket (first ∷ others) once =
-    cond_both (first.ticket == ticket) others (first ∷ without_child ticket others) Once
-    (λ taken. once.1)
-    (λ stays. (none-without ticket first.ticket others once.0, once-without ticket others once.1))
-
--- the child that was taken out is not there any more
-none-taken : (ticket : ℕ) (children : List Child) → Once children
-    → child_in (without_child ticket children) ticket ≡ None
-none-taken ticket [] once = refl
-none-taken ticket (first ∷ others) once =
-    cond_both (first.ticket == ticket) others (first ∷ without_child ticket others)
-    (λ l. child_in l ticket ≡ None)
-    (λ taken. subst (λ k. child_in others k ≡ None) (eqb-true first.ticket ticket taken) once.0)
-    (λ stays. rw stays (none-taken ticket others once.1))
-
--- a step of a child changes neither tickets nor commands
-
-child_in-step : (ticket other : ℕ) (deed : Deed) (children : List Child) (child : Child)
-    → child_in children other ≡ Some child → (one : Child)
-    × (child_in (stepped ticket deed children) other ≡ Some one) × (one.cmd ≡ child.cmd)
-child_in-step ticket other deed [] child is = cc
-child_in-step ticket other deed (first ∷ others) child is =
-    let new : Child = record first { deeds = first.deeds ++ deed ∷ [] } in
-    let Goal = λ (l : List Child). (one : Child) × (child_in l other ≡ Some one) × (one.cmd ≡ child.cmd) in
-    cond_both (first.ticket == ticket) (new ∷ others) (first ∷ stepped ticket deed others) Goal
-    (λ steps_now. cond_both (first.ticket == other) (Some first) (child_in others other)
-    (λ r. r ≡ Some child → Goal (new ∷ others))
-    (λ same given.
-    let here : first ≡ child = cc in
-    (new, rw same refl, ap (λ (c : Child). c.cmd) here))
-    (λ differ given. (child, rw differ given, refl)) is)
-    (λ waits_on. cond_both (first.ticket == other) (Some first) (child_in others other)
-    (λ r. r ≡ Some child → Goal (first ∷ stepped ticket deed others))
-    (λ same given. (child, rw same given, refl))
-    (λ differ given.
-    let rest = child_in-step ticket other deed others child given in
-    (rest.0, rw differ rest.1, rest.2)) is)
-
-none-step : (ticket other : ℕ) (deed : Deed) (children : List Child) → child_in children other ≡ None
-    → child_in (stepped ticket deed children) other ≡ None
-none-step ticket other deed [] none = refl
-none-step ticket other deed (first ∷ others) none =
-    let parts = head-none first others other none in
-    let new : Child = record first { deeds = first.deeds ++ deed ∷ [] } in
-    let differ : (first.ticket == other) ≡ false = ne_eqb first.ticket other parts.0 in
-    cond_both (first.ticket == ticket) (new ∷ others) (first ∷ stepped ticket deed others)
-    (λ l. child_in l other ≡ None) (λ steps_now. rw differ parts.1)
-    (λ waits_on. rw differ (none-step ticket other deed others parts.1))
-
-once-step : (ticket : ℕ) (deed : Deed) (children : List Child) → Once children
-    → Once (stepped ticket deed children)
-once-step ticket deed [] once = tt
-once-step ticket deed (first ∷ others) once =
-    let new : Child = record first { deeds = first.deeds ++ deed ∷ [] } in
-    cond_both (first.ticket == ticket) (new ∷ others) (first ∷ stepped ticket deed others) Once
-    (λ steps_now. once)
-    (λ waits_on. (none-step ticket first.ticket deed others once.0, once-step ticket deed others once.1))
-
-contains-step : (ticket : ℕ) (deed : Deed) (children : List Child) (one : Child)
-    → Contains (stepped ticket deed children) one
-    → (before : Child) × Contains children before × (before.ticket ≡ one.ticket)
-contains-step ticket deed [] one has = absurd (omega (arith, has.1))
-contains-step ticket deed (first ∷ others) one has =
-    let new : Child = record first { deeds = first.deeds ++ deed ∷ [] } in
-    cond_both (first.ticket == ticket) (new ∷ others) (first ∷ stepped ticket deed others)
-    (λ l. Contains l one → (before : Child) × Contains (first ∷ others) before × (before.ticket ≡ one.ticket))
-    (λ steps_now given. now given)
-    (λ waits_on given. later (contains-step ticket deed others one) given) has
-  where
-    now : Contains (record first { deeds = first.deeds ++ deed ∷ [] } ∷ others) one
-        → (before : Child) × Contains (first ∷ others) before × (before.ticket ≡ one.ticket)
-    now (zero, less, is) = (first, (0, omega arith, refl), ap (λ (c : Child). c.ticket) is)
-    now (suc k, less, is) = (one, (suc k, less, is), refl)
-
-    later : (Contains (stepped ticket deed others) one
-        → (before : Child) × Contains others before × (before.ticket ≡ one.ticket))
-        → Contains (first ∷ stepped ticket deed others) one
-        → (before : Child) × Contains (first ∷ others) before × (before.ticket ≡ one.ticket)
-    later go (zero, less, is) = (first, (0, omega arith, refl), ap (λ (c : Child). c.ticket) is)
-    later go (suc k, less, is) =
-        let rest = go (k, omega (arith, less), is) in
-        (rest.0, (suc rest.1.0, omega (arith, rest.1.1), rest.1.2), rest.2)
 
 -- how nodes stand
 
@@ -438,7 +232,7 @@ fit-started : (work : Work) (tasks : run.Tasks) (state : run.State) (own : ℕ �
       started = λ one. if one == n then number else state.started one;
       due = run.anything;
     })
-    (λ one. if one == n then record { ticket = ticket } else own one)
+    (with_ticket own n ticket)
     (children ++ record { ticket = ticket; owner = owner; cmd = cmd; deeds = [] } ∷ [])
 fit-started work tasks state own children n number ticket owner cmd may is none fit = record {
   together = record { child = child; node = node; apart = apart };
@@ -458,9 +252,9 @@ fit-started work tasks state own children n number ticket owner cmd may is none 
     }
 
     mine : ℕ → Own
-    mine = λ one. if one == n then record { ticket = ticket } else own one
+    mine = with_ticket own n ticket
 
-    is-mine : mine n ≡ record { ticket = ticket }
+    is-mine : mine n ≡ record { ticket = ticket; collected = (own n).collected }
     is-mine = rw (eq-eqb n n refl) refl
 
     is-other : (node : ℕ) → node ≢ n → mine node ≡ own node
@@ -628,6 +422,45 @@ fit-ended work tasks state own children n number ticket failed stops due is_open
     same-node node has same =
         fit.together.apart node n has (is_open, subst (IsNotDue n) (sym due) tt) (same ∙ sym mine)
 
+-- what jobs have collected does not count
+fit-collected : (work : Work) (tasks : run.Tasks) (state : run.State) (own : ℕ → Own)
+    (children : List Child) (n : ℕ) (collected : Collected) → Fit work tasks state own children
+    → Fit work tasks state (with_collected own n collected) children
+fit-collected work tasks state own children n collected fit = record {
+  together = record {
+    child = λ node has.
+        let was = fit.together.child node has in
+        (was.0, ap (child_in children) (same node) ∙ was.1, was.2);
+    node = λ one has.
+        let found = fit.together.node one has in (found.0, found.1, same found.0 ∙ found.2);
+    apart = λ node other has also is.
+        fit.together.apart node other has also (sym (same node) ∙ (is ∙ same other));
+  };
+  once = fit.once;
+  steady = fit.steady;
+  free = fit.free;
+}
+  where
+    by : (node : ℕ) (b : Bool)
+        → (if b then record { ticket = (own node).ticket; collected = collected } else own node).ticket
+        ≡ (own node).ticket
+    by node true = refl
+    by node false = refl
+
+    same : (node : ℕ) → (with_collected own n collected node).ticket ≡ (own node).ticket
+    same node = by node (node == n)
+
+-- make changes a file
+fit-changed : (work : Work) (tasks : run.Tasks) (state : run.State) (own : ℕ → Own) (stand : Stand)
+    (n : ℕ) (change : Change) → Fit work tasks state own stand.children
+    → Fit work tasks state (own_changed own n change) (stand_after stand (changed change ∷ [])).children
+fit-changed work tasks state own stand n (gone path time) fit = fit
+fit-changed work tasks state own stand n (head path bytes time) fit =
+    fit-collected work tasks state own stand.children n _ fit
+fit-changed work tasks state own stand n (whole path bytes time) fit = fit
+fit-changed work tasks state own stand n (cut_head path part time) fit = fit
+fit-changed work tasks state own stand n (cut_whole path part time) fit = fit
+
 -- a child does a step
 fit-stepped : (work : Work) (tasks : run.Tasks) (state : run.State) (own : ℕ → Own)
     (children : List Child) (ticket : ℕ) (deed : Deed) → Fit work tasks state own children
@@ -699,9 +532,9 @@ together-all : (meaning : Meaning) (work : Work) (tasks : run.Tasks) (build : Bu
     → AreTogether work tasks (build_after_all work tasks build items).run
     (build_after_all work tasks build items).own (stand_after stand (happened_all items)).children
 together-all meaning work tasks build [] stand fit makes may fits none = fit.together
-together-all meaning work tasks build (looks node path when ∷ items) stand fit makes may fits none =
-    together-all meaning work tasks (build_after work tasks build (looks node path when)) items
-    (stand_after stand (happened (looks node path when))) fit makes.3 may.1 fits.1 none
+together-all meaning work tasks build (looks node seen ∷ items) stand fit makes may fits none =
+    together-all meaning work tasks (build_after work tasks build (looks node seen)) items
+    (stand_after stand (happened (looks node seen))) fit makes.3 may.1 fits.1 none
 together-all meaning work tasks build (keeps node ∷ items) stand fit makes may fits none =
     together-all meaning work tasks (build_after work tasks build (keeps node)) items stand
     (fit-settled work tasks build.run build.own stand.children node Settled (λ is. cc) makes.0.0 fit)
@@ -743,13 +576,15 @@ together-all meaning work tasks build (ends node number owner ended ∷ items) s
     let due = taken-due build.run node number ended.status build.run.due fit.free makes.0.0 in
     together-all meaning work tasks (build_after work tasks build (ends node number owner ended)) items
     (stand_after stand (happened (ends node number owner ended)))
+    (fit-collected work tasks _ build.own _ node (with_end (build.own node).collected number ended)
     (fit-ended work tasks build.run build.own stand.children node number ended.ticket.0
     (run.fails (run.line_of (tasks node) number) ended.status)
     (nat_le (length (tasks node)) number || is_stopped (rules_of work) build.run.nodes) due.0 due.1
-    makes.2 fit) makes.3 may.1 fits.1 none
-together-all meaning work tasks build (removes node path time ∷ items) stand fit makes may fits none =
-    together-all meaning work tasks (build_after work tasks build (removes node path time)) items
-    (stand_after stand (happened (removes node path time))) fit makes.3 may.1 fits.1 none
+    makes.2 fit)) makes.3 may.1 fits.1 none
+together-all meaning work tasks build (changes node change ∷ items) stand fit makes may fits none =
+    together-all meaning work tasks (build_after work tasks build (changes node change)) items
+    (stand_after stand (happened (changes node change)))
+    (fit-changed work tasks build.run build.own stand node change fit) makes.3 may.1 fits.1 none
 together-all meaning work tasks build (leaves ticket owner ∷ items) stand fit makes may fits none =
     absurd none
 

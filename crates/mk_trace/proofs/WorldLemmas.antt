@@ -1,9 +1,12 @@
 -- What calls of a world add, as items.
-use Rattle.std.proofs.Common.{◌≡◌, ◌∙◌, ℕ, ◌==◌, List, [], ◌∷◌, ◌++◌, Option, Some, None, Bool, true, false, if◌then◌else◌}
+use Rattle.std.proofs.Common.{◌≡◌, ◌⊎◌, ◌∙◌, inl, inr, ℕ, ◌==◌, List, [], ◌∷◌, ◌++◌, Option, Some, None, Bool, true, false, if◌then◌else◌}
 use Rattle.std.proofs.Common.{refl, sym, ap, subst, arith}
 use Rattle.std.proofs.lemmas.Grind.{common_steps}
-use Rattle.mk_world.specs.Calls.{AreSteps, IsTaken, AddsEvents, Adds, OwnNothing, OwnTime, OwnGone, OwnStart, OwnEnd, OwnLeft, left_all}
+use Rattle.mk_world.proofs.ChildLemmas.{child_in-ticket}
+use Rattle.mk_world.specs.Calls.{AreSteps, IsTaken, AddsEvents, Adds, OwnNothing, OwnTime, OwnRead, OwnStamp, OwnPut, OwnPart, OwnStampPart, OwnPutPart, OwnGone, OwnStart, OwnEnd, OwnLeft, left_all}
 use Rattle.mk_world.specs.History.{State as Stand, MayAll as MayHappen, after_all as stand_after, state_of, child_in}
+use Rattle.mk_world.specs.Looks.{Seen, dated, read, OwnSeen}
+use Rattle.mk_world.specs.Sinks.{Begins}
 use Rattle.mk_world.specs.Talks.{Meaning}
 use Rattle.mk_world.specs.declared.command.Cmd.{Cmd}
 use Rattle.mk_world.specs.declared.history.Child.{Child}
@@ -11,9 +14,8 @@ use Rattle.mk_world.specs.declared.history.Happening.{Happening}
 use Rattle.mk_world.specs.declared.history.Happening.TheVariants as world
 use Rattle.mk_world.specs.declared.history.History.{History}
 use Rattle.mk_world.specs.declared.step.Ended.{Ended}
-use Rattle.mk_world.specs.declared.time.When.{When}
-use Rattle.mk_trace.specs.Calls.{AreStepItems, AreLeaveItems, Called, NoItem, StartItem, EndItem, LookItem, GoneItem}
-use Rattle.mk_trace.specs.Items.{Item, looks, starts, steps, ends, removes, leaves, happened, happened_all, FitsAll, IsEndOf}
+use Rattle.mk_trace.specs.Calls.{AreStepItems, AreLeaveItems, Called, NoItem, StartItem, EndItem, LookItem, GoneItem, ChangeItem, PartItem}
+use Rattle.mk_trace.specs.Items.{Change, gone, head, whole, cut_head, cut_whole, changed, Item, looks, starts, steps, ends, changes, leaves, happened, happened_all, FitsAll, IsEndOf}
 use Rattle.mk_trace.proofs.CallLemmas.{on_steps}
 use Rattle.mk_trace.proofs.ItemLemmas.{happened_all-append, FitsAll-append}
 
@@ -115,26 +117,13 @@ called-start meaning before after node number ticket owner cmd adds =
     (λ stand own is. (starts node number ticket owner cmd ∷ [], sym is, (tt, tt), refl))
     (starts node number ticket owner cmd ∷ []) refl adds
 
-found-ticket : (first child : Child) (ticket : ℕ) (rest : Option Child)
-    → (rest ≡ Some child → child.ticket ≡ ticket) → (b : Bool) → (first.ticket == ticket) ≡ b
-    → (if b then Some first else rest) ≡ Some child → child.ticket ≡ ticket
-found-ticket first child ticket rest more true same found = grind (arith, common_steps)
-found-ticket first child ticket rest more false other found = more found
-
-child_in-ticket : (children : List Child) (ticket : ℕ) (child : Child)
-    → child_in children ticket ≡ Some child → child.ticket ≡ ticket
-child_in-ticket [] ticket child is = cc
-child_in-ticket (first ∷ children) ticket child is =
-    found-ticket first child ticket (child_in children ticket)
-    (child_in-ticket children ticket child) (first.ticket == ticket) refl is
-
 ends_for : (meaning : Meaning) (node number : ℕ) (ended : Ended) (stand : Stand)
     (own : List Happening) (child : Option Child)
     → child_in stand.children ended.ticket.0 ≡ child → IsTaken meaning ended child own
     → ItemsFor meaning (EndItem node number ended) stand own
 ends_for meaning node number ended stand own None is taken = absurd taken
 ends_for meaning node number ended stand own (Some child) is taken =
-    let ticket = child_in-ticket stand.children ended.ticket.0 child is in (
+    let ticket = child_in-ticket ended.ticket.0 stand.children child is in (
       ends node number child.owner ended ∷ [],
       ap (λ t. world.End t child.owner ∷ []) (sym ticket) ∙ sym taken.0,
       (
@@ -176,14 +165,18 @@ called-left meaning before after adds =
     (λ stand own is. subst (ItemsFor meaning AreLeaveItems stand) (sym is)
     (leaves_for meaning stand stand.children)) [] tt adds
 
--- a look at a time
-pub called-look : (meaning : Meaning) (before after : Option History) (node : ℕ) (path : List ℕ)
-    (when : When) → Adds meaning before after (OwnTime path when)
-    → Called meaning before after (LookItem node (record { path = path; when = when }))
-called-look meaning before after node path when adds =
-    called meaning (OwnTime path when) (LookItem node (record { path = path; when = when })) before after
-    (λ stand own is. (looks node path when ∷ [], sym is.0, (is.1, tt), refl))
-    (looks node path when ∷ []) refl adds
+-- a look
+look_for : (meaning : Meaning) (node : ℕ) (seen : Seen) (stand : Stand) (own : List Happening)
+    → OwnSeen seen stand own → ItemsFor meaning (LookItem node seen) stand own
+look_for meaning node (dated one) stand own is = (looks node (dated one) ∷ [], sym is.0, (is.1, tt), refl)
+look_for meaning node (read path bytes) stand own is =
+    (looks node (read path bytes) ∷ [], sym is.0, (is.1, tt), refl)
+
+pub called-look : (meaning : Meaning) (before after : Option History) (node : ℕ) (seen : Seen)
+    → Adds meaning before after (OwnSeen seen) → Called meaning before after (LookItem node seen)
+called-look meaning before after node seen adds =
+    called meaning (OwnSeen seen) (LookItem node seen) before after
+    (look_for meaning node seen) (looks node seen ∷ []) refl adds
 
 -- a removal
 pub called-gone : (meaning : Meaning) (before after : Option History) (node : ℕ) (path : List ℕ)
@@ -191,5 +184,53 @@ pub called-gone : (meaning : Meaning) (before after : Option History) (node : �
     → Called meaning before after (GoneItem node path)
 called-gone meaning before after node path adds =
     called meaning (OwnGone path) (GoneItem node path) before after
-    (λ stand own is. (removes node path is.0 ∷ [], sym is.1, (tt, tt), (is.0, refl)))
-    (removes node path 0 ∷ []) (0, refl) adds
+    (λ stand own is. (changes node (gone path is.0) ∷ [], sym is.1, (tt, tt), (is.0, refl)))
+    (changes node (gone path 0) ∷ []) (0, refl) adds
+
+-- a head, or a part of one
+pub called-head : (meaning : Meaning) (before after : Option History) (node : ℕ) (path bytes : List ℕ)
+    (time : ℕ) → Adds meaning before after (OwnStamp path bytes time)
+    → Called meaning before after (ChangeItem node (head path bytes time))
+called-head meaning before after node path bytes time adds =
+    called meaning (OwnStamp path bytes time) (ChangeItem node (head path bytes time)) before after
+    (λ stand own is. (changes node (head path bytes time) ∷ [], sym is, (tt, tt), refl))
+    (changes node (head path bytes time) ∷ []) refl adds
+
+-- a whole file, or a part of one
+pub called-whole : (meaning : Meaning) (before after : Option History) (node : ℕ)
+    (path bytes : List ℕ) (time : ℕ) → Adds meaning before after (OwnPut path bytes time)
+    → Called meaning before after (ChangeItem node (whole path bytes time))
+called-whole meaning before after node path bytes time adds =
+    called meaning (OwnPut path bytes time) (ChangeItem node (whole path bytes time)) before after
+    (λ stand own is. (changes node (whole path bytes time) ∷ [], sym is, (tt, tt), refl))
+    (changes node (whole path bytes time) ∷ []) refl adds
+
+part_for : (meaning : Meaning) (node : ℕ) (written : List ℕ → ℕ → Happening)
+    (cut : List ℕ → ℕ → Change) → ((part : List ℕ) (time : ℕ) → changed (cut part time) ≡ written part time)
+    → (bytes : List ℕ) (stand : Stand) (own : List Happening) → OwnPart written bytes stand own
+    → ItemsFor meaning (PartItem node cut bytes) stand own
+part_for meaning node written cut same bytes stand own (inl none) = ([], sym none, tt, inl refl)
+part_for meaning node written cut same bytes stand own (inr is) = (
+  changes node (cut is.0 is.1) ∷ [],
+  ap (λ e. e ∷ []) (same is.0 is.1) ∙ sym is.3,
+  (tt, tt),
+  inr (is.0, is.1, is.2, refl),
+)
+
+pub called-head_part : (meaning : Meaning) (before after : Option History) (node : ℕ)
+    (path bytes : List ℕ) → Adds meaning before after (OwnStampPart path bytes)
+    → Called meaning before after (PartItem node (λ part time. cut_head path part time) bytes)
+called-head_part meaning before after node path bytes adds =
+    called meaning (OwnStampPart path bytes) (PartItem node (λ part time. cut_head path part time) bytes)
+    before after
+    (part_for meaning node _ (λ part time. cut_head path part time) (λ part time. refl) bytes) []
+    (inl refl) adds
+
+pub called-whole_part : (meaning : Meaning) (before after : Option History) (node : ℕ)
+    (path bytes : List ℕ) → Adds meaning before after (OwnPutPart path bytes)
+    → Called meaning before after (PartItem node (λ part time. cut_whole path part time) bytes)
+called-whole_part meaning before after node path bytes adds =
+    called meaning (OwnPutPart path bytes) (PartItem node (λ part time. cut_whole path part time) bytes)
+    before after
+    (part_for meaning node _ (λ part time. cut_whole path part time) (λ part time. refl) bytes) []
+    (inl refl) adds

@@ -1,21 +1,29 @@
 -- What make has to do in a build: why each node is kept, started or refused.
-use Rattle.std.specs.Prelude.{◌≡◌, ◌⊎◌, ℕ, ◌==◌, nat_lt, List, [], ◌∷◌, ◌++◌, Option, Some, None, Bool, true, false, not, ◌&&◌, if◌then◌else◌}
+use Rattle.std.specs.Prelude.{◌≡◌, ℕ, ◌<◌, ◌^◌, ◌==◌, nat_le, nat_lt, List, [], ◌∷◌, ◌++◌, length, Option, Some, None, Bool, true, false, not, ◌&&◌, if◌then◌else◌}
+use Rattle.mk_meta.specs.Texts as texts
+use Rattle.mk_meta.specs.Texts.{meta_text}
+use Rattle.mk_meta.specs.TrueHistory.{meta_path}
 use Rattle.mk_plan.specs.Deciding.{Rules}
 use Rattle.mk_plan.specs.Plans.{node_at}
-use Rattle.mk_plan.specs.Asking.{Seen}
 use Rattle.mk_sched.specs.Schedule.{predecessors}
 use Rattle.mk_world.specs.Talks.{Meaning}
-use Rattle.mk_world.specs.Sinks.{Gains, GainsPart}
+use Rattle.mk_world.specs.Looks.{Seen, dated}
+use Rattle.mk_world.specs.Sinks.{Begins, Gains, GainsPart}
 use Rattle.mk_world.specs.Told.{Told}
 use Rattle.mk_world.specs.declared.command.Cmd.{Cmd}
 use Rattle.mk_world.specs.declared.command.TaskLine.{TaskLine}
 use Rattle.mk_world.specs.declared.history.History.{History}
+use Rattle.mk_world.specs.declared.time.When.{When}
 use Rattle.mk_decision.specs.Decisions.{Work, IsKept, IsBegun, IsRefused}
 use Rattle.mk_decision.specs.Makers.{jobs_of}
-use Rattle.mk_trace.specs.Items.{Item, looks, keeps, refuses, starts, passes, waits, steps, ends, removes, leaves, reported, reported_all, happened_all, outputs_of, Happened}
+use Rattle.mk_trace.specs.Calls.{GivesUpLast}
+use Rattle.mk_trace.specs.Collected.{IsCountable, nothing_collected, begun, with_end, has_meta, meta_of}
+use Rattle.mk_trace.specs.Items.{Change, gone, head, whole, cut_head, cut_whole}
+use Rattle.mk_trace.specs.Items.{Item, looks, keeps, refuses, starts, passes, waits, steps, ends, changes, leaves, reported, reported_all, happened_all, outputs_of, Happened}
 use Rattle.mk_trace.specs.Output.{Job, output}
 use Rattle.mk_trace.specs.Runs as run
 use Rattle.mk_trace.specs.Settled.{EachSettled}
+use Rattle.mk_trace.specs.declared.collected.Collected.{Collected}
 use Rattle.mk_trace.specs.declared.event.Event.{Event}
 use Rattle.mk_trace.specs.declared.event.Event.TheVariants.{End, Refused}
 use Rattle.mk_trace.specs.declared.result.Failure.{Failure}
@@ -29,37 +37,52 @@ rules_of work = record {
   keep_going = work.flags.keep_going;
 }
 
--- what the open job of a node has: the ticket of its child
+-- what the open job of a node has: the ticket of its child, and what it has collected
 pub record Own : Type 0 where
   pub ticket : ℕ
+  pub collected : Collected
+
+-- What make has to do before anything else.
+pub data Duty : Type 0 where
+  free : Duty
+  -- the target of this failed node is removed
+  remove : (node : ℕ) → Duty
+  -- the first line of this node is started, for whose job a head was written
+  begin : (node : ℕ) → Duty
+  -- the job of this node is over, and its target's time is asked
+  date : (node : ℕ) → Duty
+  -- its meta file is written
+  close : (node : ℕ) → Duty
+  -- a write of make was refused: nothing more is done
+  stop : Duty
 
 -- How a build stands: its run, what was seen to decide each node, what each node's open job has, the
--- first failure, and the failed node whose target is to be removed next.
+-- first failure, and what make has to do next.
 pub record Build : Type 0 where
   pub run : run.State
   pub seen : ℕ → List Seen
   pub own : ℕ → Own
   pub failure : Option Failure
-  pub doomed : Option ℕ
+  pub duty : Duty
 
 abbrev pub first_build : Work → Build
 first_build work = record {
   run = run.first_state (rules_of work);
   seen = λ node. [];
-  own = λ node. record { ticket = 0 };
+  own = λ node. record { ticket = 0; collected = nothing_collected };
   failure = None;
-  doomed = None;
+  duty = free;
 }
 
 -- With `.DELETE_ON_ERROR` the target of a failed job is removed, unless it is phony or precious.
 abbrev pub is_removed : Work → ℕ → Bool
 is_removed work node =
-    work.delete_on_error && (not (node_at work.plan node).marks.phony
+    work.mode.delete_on_error && (not (node_at work.plan node).marks.phony
     && not (node_at work.plan node).marks.precious)
 
 abbrev pub seen_after : (ℕ → List Seen) → Item → ℕ → List Seen
-seen_after seen (looks node path when) =
-    λ one. if one == node then seen one ++ record { path = path; when = when } ∷ [] else seen one
+seen_after seen (looks node look) =
+    λ one. if one == node then seen one ++ look ∷ [] else seen one
 seen_after seen (keeps node) = seen
 seen_after seen (refuses node number what) = seen
 seen_after seen (starts node number ticket owner cmd) = seen
@@ -67,20 +90,37 @@ seen_after seen (passes node number) = seen
 seen_after seen waits = seen
 seen_after seen (steps ticket owner deed time) = seen
 seen_after seen (ends node number owner ended) = seen
-seen_after seen (removes node path time) = seen
+seen_after seen (changes node change) = seen
 seen_after seen (leaves ticket owner) = seen
 
+-- a node's job has this ticket now, or has collected this
+abbrev pub with_ticket : (ℕ → Own) → ℕ → ℕ → ℕ → Own
+with_ticket own node ticket =
+    λ one. if one == node then record { ticket = ticket; collected = (own one).collected } else own one
+
+abbrev pub with_collected : (ℕ → Own) → ℕ → Collected → ℕ → Own
+with_collected own node collected =
+    λ one. if one == node then record { ticket = (own one).ticket; collected = collected } else own one
+
+-- a head opens a job, whose stamp is its time
+abbrev pub own_changed : (ℕ → Own) → ℕ → Change → ℕ → Own
+own_changed own node (head path bytes time) = with_collected own node (begun time)
+own_changed own node (gone path time) = own
+own_changed own node (whole path bytes time) = own
+own_changed own node (cut_head path part time) = own
+own_changed own node (cut_whole path part time) = own
+
 abbrev pub own_after : (ℕ → Own) → Item → ℕ → Own
-own_after own (looks node path when) = own
+own_after own (looks node seen) = own
 own_after own (keeps node) = own
 own_after own (refuses node number what) = own
-own_after own (starts node number ticket owner cmd) =
-    λ one. if one == node then record { ticket = ticket } else own one
+own_after own (starts node number ticket owner cmd) = with_ticket own node ticket
 own_after own (passes node number) = own
 own_after own waits = own
 own_after own (steps ticket owner deed time) = own
-own_after own (ends node number owner ended) = own
-own_after own (removes node path time) = own
+own_after own (ends node number owner ended) =
+    with_collected own node (with_end (own node).collected number ended)
+own_after own (changes node change) = own_changed own node change
 own_after own (leaves ticket owner) = own
 
 -- the first of two, where it is there
@@ -95,28 +135,57 @@ failure_after tasks failure (refuses node number what) =
 failure_after tasks failure (ends node number owner ended) =
     if run.fails (run.line_of (tasks node) number) ended.status
     then or_next failure (Some (JobFailed node number ended.status)) else failure
-failure_after tasks failure (looks node path when) = failure
+failure_after tasks failure (looks node seen) = failure
 failure_after tasks failure (keeps node) = failure
 failure_after tasks failure (starts node number ticket owner cmd) = failure
 failure_after tasks failure (passes node number) = failure
 failure_after tasks failure waits = failure
 failure_after tasks failure (steps ticket owner deed time) = failure
-failure_after tasks failure (removes node path time) = failure
+failure_after tasks failure (changes node change) = failure
 failure_after tasks failure (leaves ticket owner) = failure
 
-abbrev pub doomed_after : Work → run.Tasks → Option ℕ → Item → Option ℕ
-doomed_after work tasks doomed (ends node number owner ended) =
-    if run.fails (run.line_of (tasks node) number) ended.status && is_removed work node
-    then Some node else None
-doomed_after work tasks doomed (removes node path time) = None
-doomed_after work tasks doomed (looks node path when) = doomed
-doomed_after work tasks doomed (keeps node) = doomed
-doomed_after work tasks doomed (refuses node number what) = doomed
-doomed_after work tasks doomed (starts node number ticket owner cmd) = doomed
-doomed_after work tasks doomed (passes node number) = doomed
-doomed_after work tasks doomed waits = doomed
-doomed_after work tasks doomed (steps ticket owner deed time) = doomed
-doomed_after work tasks doomed (leaves ticket owner) = doomed
+-- Before the first line of a node in meta mode its job was opened.
+abbrev pub opening : Work → ℕ → ℕ → Duty
+opening work node number = if (number == 1) && has_meta work node then begin node else free
+
+-- behind the last line of a job in meta mode its meta file is due
+abbrev pub closing : Work → ℕ → Bool → Duty
+closing work node over = if over && has_meta work node then date node else free
+
+-- behind the end of a line: where it has failed, its node's target may have to be removed
+abbrev pub behind_end : Work → ℕ → Bool → Bool → Duty
+behind_end work node true over = if is_removed work node then remove node else free
+behind_end work node false over = closing work node over
+
+abbrev pub behind_look : Duty → Duty
+behind_look (date node) = close node
+behind_look free = free
+behind_look (remove node) = remove node
+behind_look (begin node) = begin node
+behind_look (close node) = close node
+behind_look stop = stop
+
+abbrev pub behind_change : ℕ → Change → Duty
+behind_change node (gone path time) = free
+behind_change node (head path bytes time) = begin node
+behind_change node (whole path bytes time) = free
+behind_change node (cut_head path part time) = stop
+behind_change node (cut_whole path part time) = stop
+
+abbrev pub duty_after : Work → run.Tasks → Duty → Item → Duty
+duty_after work tasks duty (looks node seen) = behind_look duty
+duty_after work tasks duty (keeps node) = duty
+duty_after work tasks duty (refuses node number what) = duty
+duty_after work tasks duty (starts node number ticket owner cmd) = free
+duty_after work tasks duty (passes node number) =
+    closing work node (nat_le (length (tasks node)) number)
+duty_after work tasks duty waits = duty
+duty_after work tasks duty (steps ticket owner deed time) = duty
+duty_after work tasks duty (ends node number owner ended) =
+    behind_end work node (run.fails (run.line_of (tasks node) number) ended.status)
+    (nat_le (length (tasks node)) number)
+duty_after work tasks duty (changes node change) = behind_change node change
+duty_after work tasks duty (leaves ticket owner) = duty
 
 abbrev pub build_after : Work → run.Tasks → Build → Item → Build
 build_after work tasks build item = record {
@@ -124,7 +193,7 @@ build_after work tasks build item = record {
   seen = seen_after build.seen item;
   own = own_after build.own item;
   failure = failure_after tasks build.failure item;
-  doomed = doomed_after work tasks build.doomed item;
+  duty = duty_after work tasks build.duty item;
 }
 
 abbrev pub build_after_all : Work → run.Tasks → Build → List Item → Build
@@ -145,41 +214,91 @@ abbrev pub HasReason : Work → run.Tasks → Build → ℕ → ℕ → Type 0
 HasReason work tasks build node number =
     number ≡ 1 → IsBegun work node (build.seen node) (tasks node)
 
+-- A job of a node in meta mode is opened when the node may be decided and is out of date: these bytes
+-- are the head of its meta file.
+pub record IsHead (work : Work) (tasks : run.Tasks) (build : Build) (node : ℕ) (path bytes : List ℕ)
+    : Type 0
+  where
+    pub may : run.MayDecide (rules_of work) build.run node
+    pub reason : IsBegun work node (build.seen node) (tasks node)
+    pub in_meta : has_meta work node ≡ true
+    pub path_is : path ≡ meta_path (node_at work.plan node).name
+    pub bytes_are : bytes ≡ texts.head (node_at work.plan node).name
+
+-- These bytes are the meta file of a node's job, by what the job has collected.
+pub record IsWhole (work : Work) (tasks : run.Tasks) (build : Build) (node : ℕ) (path bytes : List ℕ)
+    : Type 0
+  where
+    pub path_is : path ≡ meta_path (node_at work.plan node).name
+    pub bytes_are : bytes ≡ meta_text (meta_of work node (tasks node) (build.own node).collected)
+    pub countable : IsCountable (build.own node).collected
+    pub few : length (tasks node) < 2 ^ 32
+
+-- what make changes for a node
+abbrev pub MayChange : Work → run.Tasks → Build → ℕ → Change → Type 0
+MayChange work tasks build node (gone path time) = path ≡ (node_at work.plan node).name
+MayChange work tasks build node (head path bytes time) = IsHead work tasks build node path bytes
+MayChange work tasks build node (whole path bytes time) = IsWhole work tasks build node path bytes
+MayChange work tasks build node (cut_head path part time) =
+    (bytes : List ℕ) × IsHead work tasks build node path bytes × Begins part bytes
+MayChange work tasks build node (cut_whole path part time) =
+    (bytes : List ℕ) × IsWhole work tasks build node path bytes × Begins part bytes
+
 -- Make looks only for the node that may be decided, so between the first look and the decision no child
--- is started and none is taken in.
+-- is started and none is taken in; and at the target of a job that is over.
 abbrev pub MayMake : Work → run.Tasks → Build → Item → Type 0
-MayMake work tasks build (looks node path when) = run.MayDecide (rules_of work) build.run node
+MayMake work tasks build (looks node seen) =
+    build.duty ≡ free → run.MayDecide (rules_of work) build.run node
 MayMake work tasks build (keeps node) = IsKept work node (build.seen node) (tasks node)
 MayMake work tasks build (refuses node number what) = IsRefused work node (build.seen node) number what
 MayMake work tasks build (starts node number ticket owner cmd) =
     HasReason work tasks build node number
-    × IsCommandOf work (run.line_of (tasks node) number) cmd × (owner ≡ 0)
+    × IsCommandOf work (run.line_of (tasks node) number) cmd
+    × (owner ≡ (build.own node).collected.owner)
 MayMake work tasks build (passes node number) = HasReason work tasks build node number
 MayMake work tasks build waits = Unit {0}
 MayMake work tasks build (steps ticket owner deed time) = Unit {0}
 MayMake work tasks build (ends node number owner ended) =
     (build.own node).ticket ≡ ended.ticket.0
-MayMake work tasks build (removes node path time) = path ≡ (node_at work.plan node).name
+MayMake work tasks build (changes node change) = MayChange work tasks build node change
 MayMake work tasks build (leaves ticket owner) = Unit {0}
 
--- A target that is to be removed is removed before make does anything else.
-abbrev pub MayFollow : Option ℕ → Item → Type 0
-MayFollow doomed (removes node path time) = doomed ≡ Some node
-MayFollow doomed (steps ticket owner deed time) = Unit {0}
-MayFollow doomed (leaves ticket owner) = Unit {0}
-MayFollow doomed (looks node path when) = doomed ≡ None
-MayFollow doomed (keeps node) = doomed ≡ None
-MayFollow doomed (refuses node number what) = doomed ≡ None
-MayFollow doomed (starts node number ticket owner cmd) = doomed ≡ None
-MayFollow doomed (passes node number) = doomed ≡ None
-MayFollow doomed waits = doomed ≡ None
-MayFollow doomed (ends node number owner ended) = doomed ≡ None
+-- a look for a decision, or, where that is due, at the time of the target of a job that is over
+abbrev pub MayLook : Work → Duty → ℕ → Seen → Type 0
+MayLook work free node seen = Unit {0}
+MayLook work (date one) node seen =
+    (node ≡ one) × ((when : When) × (seen ≡ dated (record { path = (node_at work.plan node).name; when = when })))
+MayLook work (remove one) node seen = ⊥
+MayLook work (begin one) node seen = ⊥
+MayLook work (close one) node seen = ⊥
+MayLook work stop node seen = ⊥
+
+-- which duty a change of make's own does
+abbrev pub due_change : ℕ → Change → Duty
+due_change node (gone path time) = remove node
+due_change node (head path bytes time) = free
+due_change node (whole path bytes time) = close node
+due_change node (cut_head path part time) = free
+due_change node (cut_whole path part time) = close node
+
+-- Make does what it has to do before anything else.
+abbrev pub MayFollow : Work → Duty → Item → Type 0
+MayFollow work duty (looks node seen) = MayLook work duty node seen
+MayFollow work duty (keeps node) = duty ≡ free
+MayFollow work duty (refuses node number what) = duty ≡ free
+MayFollow work duty (starts node number ticket owner cmd) = duty ≡ opening work node number
+MayFollow work duty (passes node number) = duty ≡ opening work node number
+MayFollow work duty waits = duty ≡ free
+MayFollow work duty (steps ticket owner deed time) = Unit {0}
+MayFollow work duty (ends node number owner ended) = duty ≡ free
+MayFollow work duty (changes node change) = duty ≡ due_change node change
+MayFollow work duty (leaves ticket owner) = Unit {0}
 
 -- Each item follows those before it by the rules of runs, and for its reason.
 abbrev pub Makes : Work → run.Tasks → Build → List Item → Type 0
 Makes work tasks build [] = Unit {0}
 Makes work tasks build (item ∷ items) =
-    run.MayAll (rules_of work) tasks build.run (reported item) × MayFollow build.doomed item
+    run.MayAll (rules_of work) tasks build.run (reported item) × MayFollow work build.duty item
     × MayMake work tasks build item × Makes work tasks (build_after work tasks build item) items
 
 abbrev pub job_of : Work → run.Tasks → Job
@@ -208,7 +327,7 @@ event_of None = None
 
 -- A build from one moment to another: there is one list of items whose events are those of the
 -- report, which the history tells where the world does, and whose output was printed. Each child
--- that was started was taken in or given up.
+-- that was started was taken in or given up, and children are given up last.
 pub record IsBuild (meaning : Meaning) (work : Work) (cut : Bool) (first last : Moment)
     (Stands : Build → Type 0) : Type 0 where
   pub tasks : run.Tasks
@@ -220,5 +339,6 @@ pub record IsBuild (meaning : Meaning) (work : Work) (cut : Bool) (first last : 
   pub settled : Told first.history last.history (λ old new. EachSettled (happened_all items))
   pub printed : Prints cut first last (output (job_of work tasks) (outputs_of items) last.events)
   pub stands : Stands (build_after_all work tasks (first_build work) items)
+  pub gives_up : GivesUpLast items
   pub failure : run.first_failure tasks last.events
       ≡ event_of (build_after_all work tasks (first_build work) items).failure

@@ -2,18 +2,18 @@
 use Rattle.std.specs.Prelude.{◌≡◌, ℕ, ◌<◌, ◌≤◌, Option, Some, None, Bool, true, false}
 use Rattle.mk_world.specs.Causes.{Rose}
 use Rattle.mk_decision.specs.Decisions.{Work}
-use Rattle.mk_trace.specs.Builds.{Build, rules_of}
+use Rattle.mk_trace.specs.Builds.{Build, free, rules_of}
 use Rattle.mk_trace.specs.Runs as run
 use Rattle.mk_trace.specs.declared.result.BuildResult.{BuildResult}
 use Rattle.mk_trace.specs.declared.result.BuildResult.TheVariants as ended
 use Rattle.mk_trace.specs.declared.result.Failure.{Failure}
 use Rattle.mk_trace.specs.declared.result.Failure.TheVariants as failing
 
--- a build that is over: no event may follow, and the first failure is known
+-- a build that is over: no event may follow, the first failure is known, and make has done what it had to
 pub record IsOver (work : Work) (failure : Option Failure) (build : Build) : Type 0 where
   pub over : run.IsOver (rules_of work) build.run
   pub failed : build.failure ≡ failure
-  pub none_doomed : build.doomed ≡ None
+  pub none_due : build.duty ≡ free
 
 -- How a build stands at its end. It is over where the outside did not end it.
 abbrev pub StandsBy : Work → BuildResult → Build → Type 0

@@ -5,6 +5,7 @@ use Rattle.mk_world.specs.Told.{Told}
 use Rattle.mk_world.specs.declared.command.TaskLine.{TaskLine}
 use Rattle.mk_decision.specs.Decisions.{Work}
 use Rattle.mk_trace.specs.Builds.{Build, Moment, Makes, Prints, first_build, build_after_all, job_of}
+use Rattle.mk_trace.specs.Calls.{NoneLeft}
 use Rattle.mk_trace.specs.Items.{Item, reported_all, outputs_of, Happened}
 use Rattle.mk_trace.specs.Output.{Printed, printed_all, nothing_printed}
 use Rattle.mk_trace.specs.Runs as run
@@ -40,5 +41,6 @@ pub record SoFar (meaning : Meaning) (work : Work) (cut : Bool) (first now : Mom
   pub items : List Item
   pub reported : now.events ≡ reported_all items
   pub told : Told first.history now.history (Happened meaning items)
+  pub none_left : NoneLeft items
   pub made : (tasks : run.Tasks) → HasTasks tasks known
       → IsMade work tasks cut first now last items Stands

@@ -2,7 +2,8 @@
 use Rattle.std.specs.Prelude.{◌≡◌, ℕ, List, [], ◌∷◌, ◌++◌, Option, Some, None}
 use Rattle.mk_expand.specs.declared.fault.ExpandFault.{ExpandFault}
 use Rattle.mk_world.specs.Calls.{EndsAs, when_of}
-use Rattle.mk_world.specs.History.{State as Stand, MayAll as MayHappen, after_all as stand_after, child_in, state_of}
+use Rattle.mk_world.specs.History.{State as Stand, MayAll as MayHappen, after_all as stand_after, child_in, contents, state_of}
+use Rattle.mk_world.specs.Looks.{Seen, dated, read}
 use Rattle.mk_world.specs.Talks.{Meaning}
 use Rattle.mk_world.specs.declared.command.Cmd.{Cmd}
 use Rattle.mk_world.specs.declared.history.Child.{Child}
@@ -11,13 +12,25 @@ use Rattle.mk_world.specs.declared.history.Happening.TheVariants as world
 use Rattle.mk_world.specs.declared.history.History.{History}
 use Rattle.mk_world.specs.declared.step.Deed.{Deed}
 use Rattle.mk_world.specs.declared.step.Ended.{Ended}
-use Rattle.mk_world.specs.declared.time.When.{When}
 use Rattle.mk_trace.specs.declared.event.Event.{Event}
 use Rattle.mk_trace.specs.declared.event.Event.TheVariants.{Kept, Refused, Start, End, Wait}
 
+-- What make itself changes for a node.
+pub data Change : Type 0 where
+  -- the target of a failed job was removed
+  gone : (path : List ℕ) → (time : ℕ) → Change
+  -- the head of a meta file was written, with which a job begins
+  head : (path bytes : List ℕ) → (time : ℕ) → Change
+  -- the whole meta file of a job was written
+  whole : (path bytes : List ℕ) → (time : ℕ) → Change
+  -- a head was refused, and this part of it stands
+  cut_head : (path part : List ℕ) → (time : ℕ) → Change
+  -- a whole file was refused, and this part of it stands
+  cut_whole : (path part : List ℕ) → (time : ℕ) → Change
+
 pub data Item : Type 0 where
-  -- make looked at the time of a path, to decide a node
-  looks : (node : ℕ) → (path : List ℕ) → (when : When) → Item
+  -- make looked at a path, to decide a node, or at its target when its job was over
+  looks : (node : ℕ) → (seen : Seen) → Item
   -- a node was kept
   keeps : (node : ℕ) → Item
   -- a line of a node could not be expanded
@@ -32,14 +45,14 @@ pub data Item : Type 0 where
   steps : (ticket owner : ℕ) → (deed : Deed) → (time : ℕ) → Item
   -- the child of a line of a node was taken in
   ends : (node number owner : ℕ) → (ended : Ended) → Item
-  -- the target of a failed node was removed
-  removes : (node : ℕ) → (path : List ℕ) → (time : ℕ) → Item
+  -- make changed a file for a node
+  changes : (node : ℕ) → (change : Change) → Item
   -- a child was given up
   leaves : (ticket owner : ℕ) → Item
 
 -- what the report tells of it
 abbrev pub reported : Item → List Event
-reported (looks node path when) = []
+reported (looks node seen) = []
 reported (keeps node) = Kept node ∷ []
 reported (refuses node number what) = Refused node number ∷ []
 reported (starts node number ticket owner cmd) = Start node number ∷ []
@@ -47,16 +60,28 @@ reported (passes node number) = Start node number ∷ End node number 0 ∷ []
 reported waits = Wait ∷ []
 reported (steps ticket owner deed time) = []
 reported (ends node number owner ended) = End node number ended.status ∷ []
-reported (removes node path time) = []
+reported (changes node change) = []
 reported (leaves ticket owner) = []
 
 abbrev pub reported_all : List Item → List Event
 reported_all [] = []
 reported_all (item ∷ items) = reported item ++ reported_all items
 
+-- the path of a look
+abbrev pub path_of : Seen → List ℕ
+path_of (dated one) = one.path
+path_of (read path bytes) = path
+
+abbrev pub changed : Change → Happening
+changed (gone path time) = world.Gone path time
+changed (head path bytes time) = world.Stamp path bytes time
+changed (whole path bytes time) = world.Put path bytes time
+changed (cut_head path part time) = world.Stamp path part time
+changed (cut_whole path part time) = world.Put path part time
+
 -- what happened in the world
 abbrev pub happened : Item → List Happening
-happened (looks node path when) = world.Look path ∷ []
+happened (looks node seen) = world.Look (path_of seen) ∷ []
 happened (keeps node) = []
 happened (refuses node number what) = []
 happened (starts node number ticket owner cmd) = world.Start ticket owner cmd ∷ []
@@ -64,7 +89,7 @@ happened (passes node number) = []
 happened waits = []
 happened (steps ticket owner deed time) = world.Step ticket owner deed time ∷ []
 happened (ends node number owner ended) = world.End ended.ticket.0 owner ∷ []
-happened (removes node path time) = world.Gone path time ∷ []
+happened (changes node change) = changed change ∷ []
 happened (leaves ticket owner) = world.Left ticket owner ∷ []
 
 abbrev pub happened_all : List Item → List Happening
@@ -73,7 +98,7 @@ happened_all (item ∷ items) = happened item ++ happened_all items
 
 -- the outputs of the children that were taken in, in order
 abbrev pub output_of : Item → List (List ℕ)
-output_of (looks node path when) = []
+output_of (looks node seen) = []
 output_of (keeps node) = []
 output_of (refuses node number what) = []
 output_of (starts node number ticket owner cmd) = []
@@ -81,7 +106,7 @@ output_of (passes node number) = []
 output_of waits = []
 output_of (steps ticket owner deed time) = []
 output_of (ends node number owner ended) = ended.output ∷ []
-output_of (removes node path time) = []
+output_of (changes node change) = []
 output_of (leaves ticket owner) = []
 
 abbrev pub outputs_of : List Item → List (List ℕ)
@@ -94,9 +119,14 @@ IsEndOf meaning ended owner None = ⊥
 IsEndOf meaning ended owner (Some child) =
     (child.ticket ≡ ended.ticket.0) × (child.owner ≡ owner) × EndsAs meaning ended child
 
+-- a look was answered with what stood there
+abbrev pub IsSeenIn : Stand → Seen → Type 0
+IsSeenIn stand (dated one) = one.when ≡ when_of (stand.files one.path)
+IsSeenIn stand (read path bytes) = bytes ≡ contents stand.files path
+
 -- what the world answered fits to how things stood
 abbrev pub Fits : Meaning → Stand → Item → Type 0
-Fits meaning stand (looks node path when) = when ≡ when_of (stand.files path)
+Fits meaning stand (looks node seen) = IsSeenIn stand seen
 Fits meaning stand (keeps node) = Unit {0}
 Fits meaning stand (refuses node number what) = Unit {0}
 Fits meaning stand (starts node number ticket owner cmd) = Unit {0}
@@ -105,7 +135,7 @@ Fits meaning stand waits = Unit {0}
 Fits meaning stand (steps ticket owner deed time) = Unit {0}
 Fits meaning stand (ends node number owner ended) =
     IsEndOf meaning ended owner (child_in stand.children ended.ticket.0)
-Fits meaning stand (removes node path time) = Unit {0}
+Fits meaning stand (changes node change) = Unit {0}
 Fits meaning stand (leaves ticket owner) = Unit {0}
 
 abbrev pub FitsAll : Meaning → Stand → List Item → Type 0

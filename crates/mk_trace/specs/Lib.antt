@@ -1,5 +1,6 @@
 pub mod Builds
 pub mod Calls
+pub mod Collected
 pub mod Ends
 pub mod Growth
 pub mod Items
@@ -9,3 +10,4 @@ pub mod Runs
 pub mod Settled
 pub mod Steps
 pub mod Together
+pub mod TrueBuilds

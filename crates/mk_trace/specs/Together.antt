@@ -7,7 +7,8 @@ use Rattle.mk_world.specs.Talks.{Meaning}
 use Rattle.mk_world.specs.declared.history.Child.{Child}
 use Rattle.mk_decision.specs.Decisions.{Work}
 use Rattle.mk_trace.specs.Builds.{Own, Makes, IsCommandOf, first_build, build_after_all}
-use Rattle.mk_trace.specs.Items.{Item, looks, keeps, refuses, starts, passes, waits, steps, ends, removes, leaves, happened_all, FitsAll}
+use Rattle.mk_trace.specs.Calls.{NoneLeft}
+use Rattle.mk_trace.specs.Items.{Item, happened_all, FitsAll}
 use Rattle.mk_trace.specs.Runs as run
 
 -- no line of this node is due
@@ -32,20 +33,6 @@ pub record AreTogether (work : Work) (tasks : run.Tasks) (state : run.State) (ow
       × ((own node).ticket ≡ one.ticket)
   pub apart : (node other : ℕ) → HasChild state node → HasChild state other
       → (own node).ticket ≡ (own other).ticket → node ≡ other
-
--- no child is given up
-abbrev pub NoneLeft : List Item → Type 0
-NoneLeft [] = Unit {0}
-NoneLeft (leaves ticket owner ∷ items) = ⊥
-NoneLeft (looks node path when ∷ items) = NoneLeft items
-NoneLeft (keeps node ∷ items) = NoneLeft items
-NoneLeft (refuses node number what ∷ items) = NoneLeft items
-NoneLeft (starts node number ticket owner cmd ∷ items) = NoneLeft items
-NoneLeft (passes node number ∷ items) = NoneLeft items
-NoneLeft (waits ∷ items) = NoneLeft items
-NoneLeft (steps ticket owner deed time ∷ items) = NoneLeft items
-NoneLeft (ends node number owner ended ∷ items) = NoneLeft items
-NoneLeft (removes node path time ∷ items) = NoneLeft items
 
 -- In a build that begins where no child runs and gives none up, nodes and children belong together.
 abbrev pub ChildrenBelongToNodes : Type 0

@@ -1,6 +1,7 @@
 //! What holds of runs, by their rules alone, and of builds beside what happens in the world.
 ghost use Rattle.mk_trace.specs.Together.{ChildrenBelongToNodes};
 ghost use Rattle.mk_trace.specs.RunLaws.{CutRunsAreBegun, DecidedDependOnSettled, DecidesFirstReady, OverIsSettled};
+ghost use Rattle.mk_trace.specs.TrueBuilds.{MetaFilesStayTrue};
 
 /// What is called a cut run is the beginning of a legal run: whatever has happened so far, the run can
 /// still come to its end.
@@ -28,4 +29,10 @@ pub fn runs_that_are_over_are_settled()
 /// ticket, and no two nodes have one ticket.
 pub fn children_belong_to_nodes()
     ensures { ChildrenBelongToNodes }
+{}
+
+/// Where meta files tell what happened before a build, they do so behind it, as far as jobs have kept
+/// apart: whatever was built, and however the build ended.
+pub fn meta_files_stay_true()
+    ensures { MetaFilesStayTrue }
 {}

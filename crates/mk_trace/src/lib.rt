@@ -5,13 +5,15 @@
 //! started, what is printed, and how it ends. No loop stands here.
 #![tactic(auto)]
 
+mod collected;
 mod event;
 mod law;
 mod result;
 
+pub use collected::Collected;
 pub use event::{Event, Events};
 pub use law::{
     children_belong_to_nodes, cut_runs_are_begun_runs, decided_nodes_depend_on_settled_ones,
-    runs_that_are_over_are_settled, the_first_ready_node_is_decided,
+    meta_files_stay_true, runs_that_are_over_are_settled, the_first_ready_node_is_decided,
 };
 pub use result::{BuildEnd, BuildResult, Failure};

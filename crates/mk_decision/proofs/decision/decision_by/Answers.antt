@@ -1,12 +1,13 @@
-use Rattle.std.proofs.Common.{◌≡◌, ◌∙◌, ◌<◌, [], length, true, false, inr, refl, sym}
+use Rattle.std.proofs.Common.{◌≡◌, [], map, refl}
 use Rattle.mk_world.proofs.SinkLemmas.{OnErr-from}
-use Rattle.mk_plan.proofs.TaskLemmas.{task_of-length}
-use Rattle.mk_plan.specs.Asking.{answered, answers_by}
-use Rattle.mk_plan.specs.Tasks.{setting_of}
-use Rattle.mk_decision.specs.Decisions.{HasTask, is_outdated, newer_of}
+use Rattle.mk_world.specs.Looks.{answered, dated}
+use Rattle.mk_decision.specs.Ages.{source_ages}
+use Rattle.mk_decision.specs.Decisions.{HasTask, newer_of}
 use Rattle.mk_decision.specs.Makers.{work_of}
-use Rattle.mk_decision.proofs.DecisionLemmas.{decided-fault, sight-of}
+use Rattle.mk_decision.proofs.DecisionLemmas.{decided-fault, decided-task}
 use Rattle.mk_decision.proofs.LookLemmas.{looks-asked, looks-none}
+use Rattle.mk_decision.proofs.PieceLemmas.{if_ok, on_err}
+use Rattle.mk_decision.proofs.SightLemmas.{some-behind}
 use Rattle.mk_decision.proofs.decision.decision_by.Goals as goal
 
 pub returns-in_err-verdict-clause-halted : goal.returns-in_err-verdict-clause-halted
@@ -25,70 +26,38 @@ returns-in-Err-clause-decided g c =
     decided-fault g.W.World.meaning work _ _ n c.in-Err.fault c.refused.result times.target times.sources
     (answered asked.questions) c.requires.walk
     (looks-asked g.W.World.meaning asked.questions _ _ asked.told) (rw newer at asked.task)
-    c.refused.ensures
+    (rw newer at asked.faulty) c.refused.ensures
 
 pub returns-in-Err-clause-halted : goal.returns-in-Err-clause-halted
 returns-in-Err-clause-halted g c =
     let asked = c.in-Err.ensures.task in
     OnErr-from c.refused.result (record {
-      seen = answered asked.questions;
+      seen = map dated (answered asked.questions);
       looked = looks-asked g.W.World.meaning asked.questions _ _ asked.told;
     })
 
-pub returns-then-verdict-clause-decided : goal.returns-then-verdict-clause-decided
-returns-then-verdict-clause-decided g c =
+pub returns-in-Ok-clause-decided : goal.returns-in-Ok-clause-decided
+returns-in-Ok-clause-decided g c =
     let times = c.args.times.now in
     let work = work_of c.args.maker.now in
     let n = c.args.node in
     let newer : c.in_ok-verdict.verdict.newer ≡ newer_of work n times.target times.sources =
     c.in_ok-verdict.ensures.newer in
+    let ages : c.in_ok-verdict.verdict.ages ≡ source_ages work.plan n times.sources =
+    c.in_ok-verdict.ensures.ages in
     let asked = c.in-Ok.ensures.task in
     let looked = answered asked.questions in
     let task : HasTask work n times.target times.sources looked c.in-Ok.task =
     rw newer at asked.task in
-    let stale : is_outdated work n times.target times.sources ≡ true =
-    sym c.in_ok-verdict.ensures.stale ∙ c.if-verdict.true in
-    let some : 0 < length c.in-Ok.task.lines =
-    rw (task_of-length (setting_of work.variables work.lists (answers_by looked)) work.suffixes
-    work.plan n (newer_of work n times.target times.sources) work.flags [] _ c.in-Ok.task task)
-    c.requires.some in (
-      looked,
-      looks-asked g.W.World.meaning asked.questions _ _ asked.told,
-      (
-        (
-          sight-of work n times.target times.sources looked c.requires.walk,
-          c.in-Ok.task,
-          task,
-          stale,
-          refl,
-        ),
-        some,
-      ),
-    )
+    if_ok c.decision_of.result (λ decision seen.
+    decided-task g.W.World.meaning work _ _ _ n c.in-Ok.task _ decision times.target times.sources looked
+    seen.0 c.requires.walk (looks-asked g.W.World.meaning asked.questions _ _ asked.told) c.requires.some
+    task (rw ages at seen.1) seen.2 refl (rw ages at seen.3)) c.decision_of.ensures.seen
 
-pub returns-clause-decided : goal.returns-clause-decided
-returns-clause-decided g c =
-    let times = c.args.times.now in
-    let work = work_of c.args.maker.now in
-    let n = c.args.node in
-    let newer : c.in_ok-verdict.verdict.newer ≡ newer_of work n times.target times.sources =
-    c.in_ok-verdict.ensures.newer in
+pub returns-in-Ok-clause-halted : goal.returns-in-Ok-clause-halted
+returns-in-Ok-clause-halted g c =
     let asked = c.in-Ok.ensures.task in
-    let looked = answered asked.questions in
-    let task : HasTask work n times.target times.sources looked c.in-Ok.task =
-    rw newer at asked.task in
-    let fresh : is_outdated work n times.target times.sources ≡ false =
-    sym c.in_ok-verdict.ensures.stale ∙ c.if-verdict.false in (
-      looked,
-      looks-asked g.W.World.meaning asked.questions _ _ asked.told,
-      (
-        c.in-Ok.task.lines,
-        inr (
-          sight-of work n times.target times.sources looked c.requires.walk,
-          c.in-Ok.task,
-          task,
-          fresh,
-          refl,
-        ),
-      ),
-    )
+    on_err c.decision_of.result
+    (some-behind g.W.World.meaning _ _ _ (map dated (answered asked.questions))
+    (looks-asked g.W.World.meaning asked.questions _ _ asked.told))
+    c.decision_of.ensures.some

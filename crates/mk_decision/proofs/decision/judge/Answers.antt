@@ -13,9 +13,9 @@ source_ages-requires-clause-seen c =
 pub newer_names-requires : goal.newer_names-requires
 newer_names-requires c =
     rw (
-      c.as_slice-ages.ensures.value,
+      c.as_slice-dated.ensures.value,
       c.as_slice-places.ensures.value,
-      c.in_ok-dated.ensures,
+      c.in_ok-ages.ensures,
       c.sources.ensures,
     )
     (ages-long c.args.maker.now.plan.now c.args.node c.args.times.now.sources)

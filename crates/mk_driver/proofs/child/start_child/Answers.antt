@@ -13,5 +13,5 @@ returns-in-Err-clause-refused g c =
 
 pub returns-clause-done : goal.returns-clause-done
 returns-clause-done g c =
-    called-start g.W.World.meaning _ _ c.args.place.node c.args.place.number c.args.ticket 0
-    c.args.cmd.now c.in_default.ensures.done
+    called-start g.W.World.meaning _ _ c.args.place.node c.args.place.number c.args.ticket
+    c.args.owner.0 c.args.cmd.now c.in_default.ensures.done

@@ -6,7 +6,7 @@ use Rattle.mk_trace.specs.Builds.{moment}
 use Rattle.mk_trace.specs.declared.event.Event.TheVariants as event
 use Rattle.mk_driver.proofs.EndingLemmas.{halted-waiting, so_far-taken, wait-facts, within-plan}
 use Rattle.mk_driver.proofs.EventLemmas.{set-last}
-use Rattle.mk_driver.proofs.LineLemmas.{found}
+use Rattle.mk_driver.proofs.LineLemmas.{found, halted}
 use Rattle.mk_trace.proofs.MakeLemmas.{so_far-weaken}
 use Rattle.mk_driver.proofs.JobLemmas.{fits-taken, left-taken, some-taken}
 use Rattle.mk_driver.proofs.ending.take_in.Goals as goal
@@ -84,11 +84,35 @@ returns-in_err-print_end-clause-halted g c =
           c.take_job-job.new.jobs.items course.failure job c.line_at.result.now ended course.last_shown first
           (moment (g.W.World.history c.args.world.now) (g.S.Sink.held c.args.out.now) course.events)
           (moment (g.W.World.history c.wait_child.new.world) (g.S.Sink.held c.print_end.new.out)
-          c.set_last.new.self) at.2 facts.0 facts.1 c.take_job-job.ensures out.token.open_now has
+          c.set_last.new.self) at.2 facts.0 facts.1 c.take_job-job.ensures out.token has
           (c.in_ok-ended.ensures.done job.node job.number) told
           (rw (← c.are_many.ensures, ← c.bytes.ensures.value) c.in_err-print_end.ensures.cut))
           (λ tasks has_tasks. has_tasks) (λ tasks build has_tasks is. tt),
     ))
+
+pub returns-in_err-keep_end-clause-halted : goal.returns-in_err-keep_end-clause-halted
+returns-in_err-keep_end-clause-halted g c =
+    let p = err_from_is_err_and c.from_residual-in_err-keep_end.result
+    c.from_residual-in_err-keep_end.ensures.1 in
+    let work = work_of c.args.maker.now in
+    let course = c.args.course.now in
+    let ended = c.in_ok-ended.ended in
+    let job = c.take_job-job.result in
+    let facts = wait-facts _ _ _ _ _ _ c.requires.fits c.requires.wait in
+    let out = fits-taken _ _ _ _ _ _ _ _ _ job c.requires.fits c.take_job-job.ensures
+    c.in_ok-ended.ensures.taken in
+    let told = c.set_last.ensures ∙ rw c.in_ok-ended.ensures.told
+    (set-last course.events event.Wait (event.End 0 0 0) (event.End job.node job.number ended.status)) in
+    let has = found c.line_at.result.now job.task.lines job.number c.line_at.ensures (out.one, out.has) in
+    rw p.1 (λ first at.
+    halted g.W.World.meaning work p.0 first _ (g.S.Sink.held c.print_end.new.out) c.set_last.new.self _ at.0
+    _ (so_far-taken g.W.World.meaning work false at.0 course.sched.nodes course.jobs.items
+    c.take_job-job.new.jobs.items course.failure job c.line_at.result.now ended course.last_shown first
+    (moment (g.W.World.history c.args.world.now) (g.S.Sink.held c.args.out.now) course.events)
+    (moment (g.W.World.history c.wait_child.new.world) (g.S.Sink.held c.print_end.new.out)
+    c.set_last.new.self) at.2 facts.0 facts.1 c.take_job-job.ensures out.token has
+    (c.in_ok-ended.ensures.done job.node job.number) told
+    (rw (← c.are_many.ensures, ← c.bytes.ensures.value) c.in_ok-print_end.ensures.done)))
 
 pub returns-in_err-end_line-clause-halted : goal.returns-in_err-end_line-clause-halted
 returns-in_err-end_line-clause-halted g c =
@@ -108,12 +132,12 @@ returns-in_err-end_line-clause-halted g c =
     c.in_err-end_line.ensures.halted first (g.S.Sink.held c.print_end.new.out) (
       at.0,
       at.1,
-      rw (c.in_ok-print_end.ensures.last, c.bytes.ensures.value)
+      rw (c.in_ok-print_end.ensures.last, c.bytes.ensures.value, c.in_ok-keep_end.ensures)
           (so_far-taken g.W.World.meaning work false at.0 course.sched.nodes course.jobs.items
           c.take_job-job.new.jobs.items course.failure job c.line_at.result.now ended course.last_shown first
           (moment (g.W.World.history c.args.world.now) (g.S.Sink.held c.args.out.now) course.events)
           (moment (g.W.World.history c.wait_child.new.world) (g.S.Sink.held c.print_end.new.out)
-          c.set_last.new.self) at.2 facts.0 facts.1 c.take_job-job.ensures out.token.open_now has
+          c.set_last.new.self) at.2 facts.0 facts.1 c.take_job-job.ensures out.token has
           (c.in_ok-ended.ensures.done job.node job.number) told
           (rw (← c.are_many.ensures, ← c.bytes.ensures.value) c.in_ok-print_end.ensures.done)),
     ))
@@ -134,12 +158,12 @@ returns-clause-goes g c =
     c.in_ok-end_line.ensures.goes first (g.S.Sink.held c.print_end.new.out) (
       at.0,
       at.1,
-      rw (c.in_ok-print_end.ensures.last, c.bytes.ensures.value)
+      rw (c.in_ok-print_end.ensures.last, c.bytes.ensures.value, c.in_ok-keep_end.ensures)
           (so_far-taken g.W.World.meaning work false at.0 course.sched.nodes course.jobs.items
           c.take_job-job.new.jobs.items course.failure job c.line_at.result.now ended course.last_shown first
           (moment (g.W.World.history c.args.world.now) (g.S.Sink.held c.args.out.now) course.events)
           (moment (g.W.World.history c.wait_child.new.world) (g.S.Sink.held c.print_end.new.out)
-          c.set_last.new.self) at.2 facts.0 facts.1 c.take_job-job.ensures out.token.open_now has
+          c.set_last.new.self) at.2 facts.0 facts.1 c.take_job-job.ensures out.token has
           (c.in_ok-ended.ensures.done job.node job.number) told
           (rw (← c.are_many.ensures, ← c.bytes.ensures.value) c.in_ok-print_end.ensures.done)),
     )

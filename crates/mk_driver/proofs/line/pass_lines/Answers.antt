@@ -12,15 +12,15 @@ lines-preserved c =
     record {
       from = omega (arith, from);
       within = omega (arith, more);
-      behind = λ scene open_scene behind.
-          behind-passes scene l.events c.pass_line.new.events c.args.node c.args.lines.now l.passed next.0
-          open_scene (l.invariant.behind scene open_scene behind) more next.2 next.3
+      behind = λ scene open_scene collected behind.
+          behind-passes scene l.events c.pass_line.new.events c.args.node c.args.lines.now collected
+          l.passed next.0 open_scene (l.invariant.behind scene open_scene collected behind) more next.2 next.3
           c.in_ok-pass_line.ensures.told;
     }
 
 pub returns-in_err-pass_line-clause-halted : goal.returns-in_err-pass_line-clause-halted
 returns-in_err-pass_line-clause-halted c =
-    OnErr-from c.from_residual.result (λ scene open_scene behind.
-    behind-halted scene c.lines.events c.pass_line.new.events c.args.node c.args.lines.now
-    c.lines.passed (c.lines.invariant.behind scene open_scene behind)
+    OnErr-from c.from_residual.result (λ scene open_scene collected behind.
+    behind-halted scene c.lines.events c.pass_line.new.events c.args.node c.args.lines.now collected
+    c.lines.passed (c.lines.invariant.behind scene open_scene collected behind)
     c.in_err-pass_line.ensures.untold)

@@ -1,5 +1,6 @@
 use Rattle.std.proofs.Common.{◌≤◌, ◌-◌, length}
 use Rattle.mk_driver.specs.Scenes.{Scene, IsOpenScene, BehindIn}
+use Rattle.mk_trace.specs.declared.collected.Collected.{Collected}
 use Rattle.mk_driver.proofs.line.pass_lines.Given as goal
 
 -- so many lines have ended, and those behind the first ones were empty
@@ -8,8 +9,8 @@ invariant-lines l = record {
   from : l.done ≤ l.passed;
   within : l.passed ≤ length l.lines;
   behind : (scene : Scene) → IsOpenScene scene l.node
-      → BehindIn scene l.fn.events l.node l.lines l.done
-      → BehindIn scene l.events l.node l.lines l.passed;
+      → (collected : Collected) → BehindIn scene l.fn.events l.node l.lines collected l.done
+      → BehindIn scene l.events l.node l.lines collected l.passed;
 }
 
 abbrev pub decreases-lines : goal.decreases-lines

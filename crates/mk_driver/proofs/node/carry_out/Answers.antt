@@ -8,8 +8,9 @@ use Rattle.mk_driver.specs.Halts.{of_world}
 use Rattle.mk_decision.specs.Makers.{work_of}
 use Rattle.mk_driver.specs.Progress.{undecided}
 use Rattle.mk_sched.specs.Schedule.{Schedule}
-use Rattle.mk_driver.proofs.DecideLemmas.{so_far-begun, so_far-keeps, so_far-refuses}
+use Rattle.mk_driver.proofs.DecideLemmas.{halted-opening, so_far-keeps, so_far-opened, so_far-refuses}
 use Rattle.mk_driver.proofs.JobLemmas.{fits-begun, fits-kept, fits-refused}
+use Rattle.mk_driver.proofs.EndingLemmas.{within-plan}
 use Rattle.mk_driver.proofs.LineLemmas.{halted}
 use Rattle.mk_trace.proofs.MakeLemmas.{so_far-nothing}
 use Rattle.mk_driver.proofs.NodeLemmas.{may_decide-of, undecided-less, unknown-set, unstopped-begun}
@@ -98,6 +99,30 @@ returns-in_ok-push-in-Refuse-clause-nodes g c =
     rw c.refused.ensures (undecided-less c.args.course.now.sched.nodes c.args.node _ d.within
     d.undecided refl)
 
+pub open_job-requires : goal.open_job-requires
+open_job-requires g c =
+    let d = decided c.args.course.now.sched c.args.node c.requires.next in
+    record {
+      within = within-plan (work_of c.args.maker.now) c.args.course.now.sched _ _ _ _ _ _ c.requires.fits
+          d.within;
+    }
+
+pub returns-in_err-collected-in-Make-clause-halted : goal.returns-in_err-collected-in-Make-clause-halted
+returns-in_err-collected-in-Make-clause-halted g c =
+    let p = err_from_is_err_and c.from_residual-in_err-collected-in-Make.result
+    c.from_residual-in_err-collected-in-Make.ensures.1 in
+    let work = work_of c.args.maker.now in
+    let course = c.args.course.now in
+    let n = c.args.node in
+    let d = decided course.sched n c.requires.next in
+    let may = may_decide-of (rules_of work) course.sched n c.requires.fits.rules_are c.requires.next in
+    rw p.1 (λ seen dec first out at.
+    let made = rw c.in-Make.is at dec in
+    halted-opening g.W.World.meaning work (of_world p.0) at.0 course.sched.nodes course.jobs.items
+    course.failure n c.in-Make.task.lines seen course.last_shown first
+    (g.W.World.history c.args.world.now) (g.W.World.history c.open_job.new.world) out course.events at.2
+    d.undecided may at.1 made.0 c.in_err-collected-in-Make.ensures.refused)
+
 pub run_on-requires-clause-fits : goal.run_on-requires-clause-fits
 run_on-requires-clause-fits g c =
     rw c.started.ensures (fits-begun _ _ _ _ _ _ _ c.requires.fits c.requires.next).0
@@ -113,8 +138,8 @@ run_on-requires-clause-going g c =
     rw c.started.ensures (unstopped-begun (rules_of (work_of c.args.maker.now)) course.sched c.args.node
     c.requires.fits.rules_are d.within d.undecided d.going)
 
-pub returns-in-Make-clause-goes : goal.returns-in-Make-clause-goes
-returns-in-Make-clause-goes g c =
+pub returns-in_ok-collected-in-Make-clause-goes : goal.returns-in_ok-collected-in-Make-clause-goes
+returns-in_ok-collected-in-Make-clause-goes g c =
     let work = work_of c.args.maker.now in
     let course = c.args.course.now in
     let n = c.args.node in
@@ -124,13 +149,14 @@ returns-in-Make-clause-goes g c =
     on_ok c.run_on.result (λ goes seen dec first out at.
     let made = rw c.in-Make.is at dec in
     goes first out (rw c.started.ensures
-    (so_far-begun g.W.World.meaning work at.0 course.sched.nodes course.jobs.items course.failure n
-    c.in-Make.task.lines seen course.last_shown first _ at.2 d.within d.undecided may apart at.1 made.0
-    made.1)))
+    (so_far-opened g.W.World.meaning work at.0 course.sched.nodes course.jobs.items course.failure n
+    c.in-Make.task.lines seen course.last_shown first (moment (g.W.World.history c.args.world.now) out course.events)
+    (moment (g.W.World.history c.open_job.new.world) out course.events) c.in_ok-collected-in-Make.collected at.2
+    d.within d.undecided may apart at.1 made.0 made.1 c.in_ok-collected-in-Make.ensures.opened refl refl)))
     c.run_on.ensures.goes
 
-pub returns-in-Make-clause-halted : goal.returns-in-Make-clause-halted
-returns-in-Make-clause-halted g c =
+pub returns-in_ok-collected-in-Make-clause-halted : goal.returns-in_ok-collected-in-Make-clause-halted
+returns-in_ok-collected-in-Make-clause-halted g c =
     let work = work_of c.args.maker.now in
     let course = c.args.course.now in
     let n = c.args.node in
@@ -140,13 +166,14 @@ returns-in-Make-clause-halted g c =
     if_err c.run_on.result (λ fault halts seen dec first out at.
     let made = rw c.in-Make.is at dec in
     halts first out (rw c.started.ensures
-    (so_far-begun g.W.World.meaning work at.0 course.sched.nodes course.jobs.items course.failure n
-    c.in-Make.task.lines seen course.last_shown first _ at.2 d.within d.undecided may apart at.1 made.0
-    made.1)))
+    (so_far-opened g.W.World.meaning work at.0 course.sched.nodes course.jobs.items course.failure n
+    c.in-Make.task.lines seen course.last_shown first (moment (g.W.World.history c.args.world.now) out course.events)
+    (moment (g.W.World.history c.open_job.new.world) out course.events) c.in_ok-collected-in-Make.collected at.2
+    d.within d.undecided may apart at.1 made.0 made.1 c.in_ok-collected-in-Make.ensures.opened refl refl)))
     c.run_on.ensures.halted
 
-pub returns-in-Make-clause-nodes : goal.returns-in-Make-clause-nodes
-returns-in-Make-clause-nodes g c =
+pub returns-in_ok-collected-in-Make-clause-nodes : goal.returns-in_ok-collected-in-Make-clause-nodes
+returns-in_ok-collected-in-Make-clause-nodes g c =
     let course = c.args.course.now in
     let d = decided course.sched c.args.node c.requires.next in
     let less = undecided-less course.sched.nodes c.args.node _ d.within d.undecided refl in

@@ -1,0 +1,74 @@
+-- That the meta files which a build leaves tell what happened.
+use Rattle.std.specs.Prelude.{◌≡◌, ◌⊎◌, ℕ, Bool, List, [], ◌∷◌, ◌++◌, flat_map, Some, slice_get}
+use Rattle.std.specs.List.{Contains}
+use Rattle.mk_meta.specs.TrueHistory.{JobEvent, begun as begun_event, did, ended as ended_event, Alone, IsTrueHistory, changed_paths, job_events, meta_path}
+use Rattle.mk_plan.specs.Plans.{node_at}
+use Rattle.mk_plan.specs.declared.plan.NodeState.TheVariants.{Open}
+use Rattle.mk_world.specs.History.{state_of}
+use Rattle.mk_world.specs.Lawful.{IsLawful}
+use Rattle.mk_world.specs.Talks.{Meaning}
+use Rattle.mk_world.specs.Told.{Told}
+use Rattle.mk_world.specs.declared.history.History.{History}
+use Rattle.mk_world.specs.declared.step.Deed.{Deed}
+use Rattle.mk_decision.specs.Decisions.{Work}
+use Rattle.mk_trace.specs.Builds.{Build, IsBuild, Makes, Moment, begin, date, close, first_build, build_after, build_after_all}
+use Rattle.mk_trace.specs.Calls.{GivesUpLast}
+use Rattle.mk_trace.specs.Items.{Item, changes, head, steps, happened_all, Happened}
+use Rattle.mk_trace.specs.Runs as run
+
+-- The job of a node is open, from its head to its whole meta file, or to the end that ends it.
+abbrev pub IsOpenJob : Build → ℕ → Type 0
+IsOpenJob build node =
+    (slice_get build.run.nodes node ≡ Some Open)
+    ⊎ ((build.duty ≡ begin node) ⊎ ((build.duty ≡ date node) ⊎ (build.duty ≡ close node)))
+
+-- and it is so before each of these items
+abbrev pub IsOpenAlong : Work → run.Tasks → Build → ℕ → List Item → Type 0
+IsOpenAlong work tasks build node [] = Unit {0}
+IsOpenAlong work tasks build node (item ∷ items) =
+    IsOpenJob build node × IsOpenAlong work tasks (build_after work tasks build item) node items
+
+abbrev pub deed_of : JobEvent → List Deed
+deed_of (begun_event cmd) = []
+deed_of (did deed) = deed ∷ []
+deed_of ended_event = []
+
+-- what the children of a job did in these items
+abbrev pub deeds_in : ℕ → List Item → List Deed
+deeds_in stamp items = flat_map deed_of (job_events stamp (happened_all items))
+
+-- Jobs keep apart: no child changes a meta file. While a job is open, nothing but its own children changes
+-- its target, or what these change.
+pub record IsApart (work : Work) (tasks : run.Tasks) (items : List Item) : Type 0 where
+  pub steps_apart : (ticket owner time : ℕ) (deed : Deed) (target : List ℕ)
+      → Contains items (steps ticket owner deed time)
+      → Contains (changed_paths (deed ∷ [])) (meta_path target) → ⊥
+  pub jobs_apart : (before during after : List Item) (node stamp : ℕ) (path bytes : List ℕ)
+      → items ≡ before ++ changes node (head path bytes stamp) ∷ (during ++ after)
+      → IsOpenAlong work tasks
+      (build_after_all work tasks (first_build work)
+      (before ++ changes node (head path bytes stamp) ∷ [])) node during
+      → Alone stamp ((node_at work.plan node).name ∷ changed_paths (deeds_in stamp during))
+      (happened_all during)
+
+-- Where meta files tell what happened before a build, they do so behind it, as far as jobs have kept
+-- apart, and whatever it is that was built, and however it ended.
+abbrev pub MetaFilesStayTrue : Type 0
+MetaFilesStayTrue =
+    (meaning : Meaning) (work : Work) (tasks : run.Tasks) (items : List Item) (old new : History)
+    → IsLawful meaning old → (state_of old).children ≡ [] → IsTrueHistory meaning.next old
+    → Makes work tasks (first_build work) items → Happened meaning items old new
+    → GivesUpLast items → IsApart work tasks items → IsTrueHistory meaning.next new
+
+-- Where no child runs before a build, the history is one that may have come about, meta files tell what
+-- happened, and jobs keep apart, meta files tell what happened behind it.
+abbrev pub StaysTrue : Meaning → Work → run.Tasks → List Item → History → History → Type 0
+StaysTrue meaning work tasks items old new =
+    IsLawful meaning old → (state_of old).children ≡ [] → IsTrueHistory meaning.next old
+    → IsApart work tasks items → IsTrueHistory meaning.next new
+
+-- A build, whose meta files tell what happened where those before it did.
+pub record IsTrueBuild (meaning : Meaning) (work : Work) (cut : Bool) (first last : Moment)
+    (Stands : Build → Type 0) : Type 0 where
+  pub build : IsBuild meaning work cut first last Stands
+  pub meta_files : Told first.history last.history (StaysTrue meaning work build.tasks build.items)
