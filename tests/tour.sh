@@ -1,0 +1,158 @@
+#!/usr/bin/env bash
+# A tour of meta mode on a real machine: examples/tool is built, changed and built again, and each run
+# starts exactly the commands that the change reaches. Run it at the top of the repository, where the
+# program stands at crates/bmake/out/bmake. Its last line is 'N passed, M failed'.
+set -u
+program=${BMAKE:-$PWD/crates/bmake/out/bmake}
+room=$(mktemp -d) || exit 1
+trap 'rm -rf "$room"' EXIT
+unset MAKEFLAGS BMAKE_FILEMON
+passed=0
+failed=0
+
+for needed in cc strace; do
+    if ! command -v "$needed" >/dev/null; then
+        echo "skipped: the tour of meta mode (there is no $needed)"
+        echo "0 passed, 0 failed"
+        exit 0
+    fi
+done
+if ! strace -f -D -o "$room/trace" true 2>/dev/null || [ ! -s "$room/trace" ]; then
+    echo 'skipped: the tour of meta mode (strace may not trace here)'
+    echo "0 passed, 0 failed"
+    exit 0
+fi
+if [ ! -x "$program" ]; then
+    echo "there is no program $program"
+    echo "0 passed, 1 failed"
+    exit 1
+fi
+
+# A copy of the example, as it stands beside the recorder.
+copy() {
+    mkdir -p "$1/examples/tool" "$1/tools"
+    cp tools/fmtrace "$1/tools/"
+    cp -R examples/tool/. "$1/examples/tool/"
+    rm -f "$1"/examples/tool/{tool,*.o,*.meta,local/*.h}
+}
+
+copy "$room/tour"
+copy "$room/clean"
+top=$PWD
+cd "$room/tour/examples/tool" || exit 1
+
+flags=-O2
+link_flags=-s
+
+# The commands that make an object, and the program.
+compile() {
+    printf '../../tools/fmtrace cc %s -Ilocal -Iinclude -c %s.c -o %s.o\n' "$flags" "$1" "$1"
+}
+
+link() {
+    printf '../../tools/fmtrace cc %s -o tool main.o table.o words.o\n' "$link_flags"
+}
+
+objects() {
+    for object; do compile "$object"; done
+}
+
+# One step: what it shows, the shell lines before the run, the words of the run, the commands that are
+# wanted, by the shell line that prints them, and what the program then prints. Between the change and the
+# run there is a pause: the clock of a file system goes in steps, and a file that was changed in the step in
+# which a job began counts as changed behind it.
+step() {
+    local shows before=: words='' wanted=: says=$'2 the\n1 and\n1 cat\n1 dog' is wrong=''
+    local "$@"
+    eval "$before" || wrong='the change failed'
+    sleep 0.02
+    # The words are parted by the blanks between them.
+    # shellcheck disable=SC2086
+    "$program" $words >"$room/out" 2>"$room/err" </dev/null
+    is=$?
+    [ "$is" = 0 ] || wrong="$wrong; status $is"
+    eval "$wanted" | cmp -s - "$room/out" || wrong="$wrong; standard output: $(cat "$room/out")"
+    [ ! -s "$room/err" ] || wrong="$wrong; standard error: $(cat "$room/err")"
+    is=$(echo 'the cat and the dog' | ./tool)
+    [ "$is" = "$says" ] || wrong="$wrong; the program says: $is"
+    if [ -z "$wrong" ]; then
+        passed=$((passed + 1))
+    else
+        failed=$((failed + 1))
+        printf 'failed: %s: %s\n' "$shows" "$wrong"
+    fi
+}
+
+step shows='all is built' wanted='objects main table words; link'
+
+step shows='a second run prints and starts nothing'
+
+step shows='nor does one with several jobs' words='-j 4'
+
+step shows='a header that no makefile names was edited, which two sources include' \
+    before='echo "/* Words. */" >>include/words.h' wanted='objects main words; link'
+
+step shows='nothing more is to do'
+
+step shows='a header was edited that one source includes' \
+    before='echo "/* Letters. */" >>include/letters.h' wanted='objects words; link'
+
+step shows='a header appeared earlier in the include path' \
+    before='echo "#define IS_LETTER(c) ((c) > 100)" >local/letters.h' wanted='objects words; link' \
+    says=$'2 the\n1 n\n1 og\n1 t'
+
+step shows='it is found there from now on' says=$'2 the\n1 n\n1 og\n1 t'
+
+step shows='it was edited' before='echo "#define IS_LETTER(c) ((c) >= 97)" >local/letters.h' \
+    wanted='objects words; link'
+
+step shows='it is gone again' before='rm local/letters.h' wanted='objects words; link'
+
+step shows='a header appeared that nothing looks for' before='echo "#error" >local/other.h'
+
+flags=-O1
+step shows='the flags of the compiler reach the objects' words=CFLAGS=-O1 wanted='objects main table words; link'
+
+step shows='the same flags again' words=CFLAGS=-O1
+
+link_flags=-rdynamic
+step shows='the flags of the linker reach the program alone' words='CFLAGS=-O1 LDFLAGS=-rdynamic' wanted=link
+
+flags=-O2
+link_flags=-s
+step shows='the flags of the makefile again' wanted='objects main table words; link'
+
+step shows='an object was removed' before='rm table.o' wanted='objects table; link'
+
+step shows='an object was edited by hand' before='echo 1 >>words.o' wanted='objects words; link'
+
+step shows='an object of another build was put in its place' before='cp main.o table.o' wanted='objects table; link'
+
+step shows='the program was edited by hand' before='echo 1 >>tool' wanted=link
+
+step shows='the record of an object was removed' before='rm main.o.meta' wanted='objects main; link'
+
+step shows='the record of an object was cut' before='head -c 200 words.o.meta >cut; mv cut words.o.meta' \
+    wanted='objects words; link'
+
+step shows='a source was edited' before='cp main.c old; sed -i "s/%zu %s/%zu times %s/" main.c' \
+    wanted='objects main; link' says=$'2 times the\n1 times and\n1 times cat\n1 times dog'
+
+step shows='the old source was put back' before='cp old main.c; rm old' wanted='objects main; link'
+
+step shows='nothing is left to do'
+
+# What stands now is what a clean build of the same sources leaves.
+step shows='a clean build leaves the same' before='cp include/* ../../../clean/examples/tool/include/
+        cd ../../../clean/examples/tool' wanted='objects main table words; link'
+for file in main.o table.o words.o tool; do
+    if cmp "$room/tour/examples/tool/$file" "$room/clean/examples/tool/$file"; then
+        passed=$((passed + 1))
+    else
+        failed=$((failed + 1))
+    fi
+done
+
+cd "$top" || exit 1
+echo "$passed passed, $failed failed"
+[ "$failed" = 0 ]
