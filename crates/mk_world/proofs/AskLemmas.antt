@@ -24,6 +24,7 @@ ran_as meaning cmd old new own base events lawful is =
       steps = is.0;
       base = base;
       event = event;
+      lawful = may.0;
       files = files_of-asked meaning old new cmd is.0 base event may.0.1;
     }
 

@@ -2,7 +2,7 @@
 use Rattle.std.specs.Prelude.{◌≡◌, ◌⊎◌, ℕ, List, [], ◌∷◌, ◌++◌, Option, None}
 use Rattle.mk_world.specs.Calls.{Answers}
 use Rattle.mk_world.specs.Deeds.{Store, put}
-use Rattle.mk_world.specs.History.{MayAll, files_of, state_of}
+use Rattle.mk_world.specs.History.{May, MayAll, files_of, state_of}
 use Rattle.mk_world.specs.Talks.{Meaning, after_doing, does}
 use Rattle.mk_world.specs.Told.{Told}
 use Rattle.mk_world.specs.declared.command.Cmd.{Cmd}
@@ -42,11 +42,13 @@ pub record LooksAt (path : List ℕ) (old new : History) : Type 0 where
   pub base : new.base ≡ old.base
   pub events : (new.events ≡ old.events) ⊎ (new.events ≡ old.events ++ Look path ∷ [])
 
--- make ran a command to its end, and the files are those after it; nothing else happened
+-- make ran a command to its end, which may happen then, and the files are those after it; nothing else
+-- happened
 pub record Ran (meaning : Meaning) (cmd : Cmd) (old new : History) : Type 0 where
   pub steps : List Timed
   pub base : new.base ≡ old.base
   pub event : new.events ≡ old.events ++ Ask cmd steps ∷ []
+  pub lawful : May meaning (state_of old) (Ask cmd steps)
   pub files : files_of new ≡ after_doing meaning cmd (files_of old)
 
 -- make ran a command to its end, and was answered with what it does on the files
