@@ -1,8 +1,10 @@
+pub mod AlongLemmas
 pub mod BegunLemmas
 pub mod CallLemmas
 pub mod ItemLemmas
 pub mod MakeLemmas
 pub mod OutputLemmas
+pub mod QuestionLemmas
 pub mod QuietLemmas
 pub mod RunLemmas
 pub mod RunRows

@@ -1025,13 +1025,13 @@ module _ (meaning : Meaning) (work : Work) (tasks : run.Tasks) (entry : Stand)
         (on_steps StaysTrue stays-none stays-step late late_are)
         (λ ticket owner items more. stays-leave ticket owner (items ++ late) more) left left_are
 
-makes-first : (work : Work) (tasks : run.Tasks) (build : Build) (items more : List Item)
+pub makes-first : (work : Work) (tasks : run.Tasks) (build : Build) (items more : List Item)
     → Makes work tasks build (items ++ more) → Makes work tasks build items
 makes-first work tasks build [] more makes = tt
 makes-first work tasks build (item ∷ items) more makes =
     (makes.0, makes.1, makes.2, makes-first work tasks (build_after work tasks build item) items more makes.3)
 
-fits-first : (meaning : Meaning) (stand : Stand) (items more : List Item) → FitsAll meaning stand (items ++ more)
+pub fits-first : (meaning : Meaning) (stand : Stand) (items more : List Item) → FitsAll meaning stand (items ++ more)
     → FitsAll meaning stand items
 fits-first meaning stand [] more fits = tt
 fits-first meaning stand (item ∷ items) more fits =

@@ -1,13 +1,15 @@
 -- That the meta files which a build leaves tell what happened.
 use Rattle.std.specs.Prelude.{◌≡◌, ◌⊎◌, ℕ, Bool, List, [], ◌∷◌, ◌++◌, flat_map, Some, slice_get}
-use Rattle.std.specs.List.{Contains}
+use Rattle.std.specs.List.{AllByRecursion, Contains}
 use Rattle.mk_meta.specs.TrueHistory.{JobEvent, begun as begun_event, did, ended as ended_event, Alone, IsTrueHistory, changed_paths, job_events, meta_path}
 use Rattle.mk_plan.specs.Plans.{node_at}
 use Rattle.mk_plan.specs.declared.plan.NodeState.TheVariants.{Open}
-use Rattle.mk_world.specs.History.{state_of}
+use Rattle.mk_world.specs.History.{state_of, timed_effects}
 use Rattle.mk_world.specs.Lawful.{IsLawful}
 use Rattle.mk_world.specs.Talks.{Meaning}
 use Rattle.mk_world.specs.Told.{Told}
+use Rattle.mk_world.specs.declared.history.Happening.{Happening}
+use Rattle.mk_world.specs.declared.history.Happening.TheVariants as world
 use Rattle.mk_world.specs.declared.history.History.{History}
 use Rattle.mk_world.specs.declared.step.Deed.{Deed}
 use Rattle.mk_decision.specs.Decisions.{Work}
@@ -60,15 +62,58 @@ MetaFilesStayTrue =
     → Makes work tasks (first_build work) items → Happened meaning items old new
     → GivesUpLast items → IsApart work tasks items → IsTrueHistory meaning.next new
 
--- Where no child runs before a build, the history is one that may have come about, meta files tell what
--- happened, and jobs keep apart, meta files tell what happened behind it.
-abbrev pub StaysTrue : Meaning → Work → run.Tasks → List Item → History → History → Type 0
-StaysTrue meaning work tasks items old new =
+-- a history, and behind it what happened in these items of a build
+abbrev pub behind : History → List Item → History
+behind old items = record { base = old.base; events = old.events ++ happened_all items }
+
+-- Where no child runs before a build, the history is one that may have come about, and meta files tell
+-- what happened, they do so at every moment of the build up to which jobs have kept apart.
+abbrev pub StaysTrue : Meaning → Work → run.Tasks → List Item → History → Type 0
+StaysTrue meaning work tasks items old =
     IsLawful meaning old → (state_of old).children ≡ [] → IsTrueHistory meaning.next old
-    → IsApart work tasks items → IsTrueHistory meaning.next new
+    → (so_far later : List Item) → items ≡ so_far ++ later → IsApart work tasks so_far
+    → IsTrueHistory meaning.next (behind old so_far)
+
+-- make looked, or asked for what a command prints
+abbrev pub IsQuestion : Happening → Type 0
+IsQuestion (world.Look path) = Unit {0}
+IsQuestion (world.Ask cmd asked) = Unit {0}
+IsQuestion (world.Edit path bytes time) = ⊥
+IsQuestion (world.Stamp path bytes time) = ⊥
+IsQuestion (world.Put path bytes time) = ⊥
+IsQuestion (world.Gone path time) = ⊥
+IsQuestion (world.Start ticket owner cmd) = ⊥
+IsQuestion (world.Step ticket owner deed time) = ⊥
+IsQuestion (world.End ticket owner) = ⊥
+IsQuestion (world.Left ticket owner) = ⊥
+
+-- a command that make asked changed no file
+abbrev pub LeavesFiles : Happening → Type 0
+LeavesFiles (world.Ask cmd asked) = timed_effects asked ≡ []
+LeavesFiles (world.Look path) = Unit {0}
+LeavesFiles (world.Edit path bytes time) = Unit {0}
+LeavesFiles (world.Stamp path bytes time) = Unit {0}
+LeavesFiles (world.Put path bytes time) = Unit {0}
+LeavesFiles (world.Gone path time) = Unit {0}
+LeavesFiles (world.Start ticket owner cmd) = Unit {0}
+LeavesFiles (world.Step ticket owner deed time) = Unit {0}
+LeavesFiles (world.End ticket owner) = Unit {0}
+LeavesFiles (world.Left ticket owner) = Unit {0}
+
+-- a history, and behind it these events
+abbrev pub longer : History → List Happening → History
+longer old more = record { base = old.base; events = old.events ++ more }
+
+-- Questions that change no file leave meta files true.
+abbrev pub QuestionsKeepTruth : Type 0
+QuestionsKeepTruth =
+    (meaning : Meaning) (old : History) (more : List Happening)
+    → AllByRecursion IsQuestion more → AllByRecursion LeavesFiles more
+    → IsTrueHistory meaning.next old → IsTrueHistory meaning.next (longer old more)
 
 -- A build, whose meta files tell what happened where those before it did.
 pub record IsTrueBuild (meaning : Meaning) (work : Work) (cut : Bool) (first last : Moment)
     (Stands : Build → Type 0) : Type 0 where
   pub build : IsBuild meaning work cut first last Stands
-  pub meta_files : Told first.history last.history (StaysTrue meaning work build.tasks build.items)
+  pub meta_files : Told first.history last.history
+      (λ old new. StaysTrue meaning work build.tasks build.items old)

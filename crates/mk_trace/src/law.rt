@@ -1,7 +1,7 @@
 //! What holds of runs, by their rules alone, and of builds beside what happens in the world.
 ghost use Rattle.mk_trace.specs.Together.{ChildrenBelongToNodes};
 ghost use Rattle.mk_trace.specs.RunLaws.{CutRunsAreBegun, DecidedDependOnSettled, DecidesFirstReady, OverIsSettled};
-ghost use Rattle.mk_trace.specs.TrueBuilds.{MetaFilesStayTrue};
+ghost use Rattle.mk_trace.specs.TrueBuilds.{MetaFilesStayTrue, QuestionsKeepTruth};
 
 /// What is called a cut run is the beginning of a legal run: whatever has happened so far, the run can
 /// still come to its end.
@@ -35,4 +35,10 @@ pub fn children_belong_to_nodes()
 /// apart: whatever was built, and however the build ended.
 pub fn meta_files_stay_true()
     ensures { MetaFilesStayTrue }
+{}
+
+/// Where meta files tell what happened, they do so behind looks, and behind commands that make asks and
+/// that change no file.
+pub fn questions_keep_meta_files_true()
+    ensures { QuestionsKeepTruth }
 {}

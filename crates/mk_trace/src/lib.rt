@@ -14,6 +14,7 @@ pub use collected::Collected;
 pub use event::{Event, Events};
 pub use law::{
     children_belong_to_nodes, cut_runs_are_begun_runs, decided_nodes_depend_on_settled_ones,
-    meta_files_stay_true, runs_that_are_over_are_settled, the_first_ready_node_is_decided,
+    meta_files_stay_true, questions_keep_meta_files_true, runs_that_are_over_are_settled,
+    the_first_ready_node_is_decided,
 };
 pub use result::{BuildEnd, BuildResult, Failure};
