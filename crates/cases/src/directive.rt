@@ -10,6 +10,8 @@ pub enum Directive {
     Schedule,
     Schedules,
     Fail,
+    Made,
+    Refused,
     Run,
     Edit,
     Remove,
@@ -37,7 +39,7 @@ pub enum Place {
     Want,
 }
 
-const NAMES: [(Directive, &str, Place); 19] = [
+const NAMES: [(Directive, &str, Place); 21] = [
     (Directive::Case, "case", Place::Head),
     (Directive::File, "file", Place::Setup),
     (Directive::Environment, "environment", Place::Setup),
@@ -45,6 +47,8 @@ const NAMES: [(Directive, &str, Place); 19] = [
     (Directive::Schedule, "schedule", Place::Setup),
     (Directive::Schedules, "schedules", Place::Setup),
     (Directive::Fail, "fail", Place::Setup),
+    (Directive::Made, "made", Place::Setup),
+    (Directive::Refused, "refused", Place::Setup),
     (Directive::Run, "run", Place::Step),
     (Directive::Edit, "edit", Place::Step),
     (Directive::Remove, "remove", Place::Step),
