@@ -11,7 +11,7 @@ use Rattle.mk_plan.specs.declared.fault.PlanFault.{PlanFault}
 use Rattle.mk_plan.specs.declared.fault.PlanFault.TheVariants as plan
 use Rattle.mk_reader.specs.declared.fault.ReadFault.TheVariants as read
 use Rattle.mk_world.specs.Causes.{HasCause, Rose, last_count}
-use Rattle.mk_world.specs.Looks.{DatesAll as LooksAll}
+use Rattle.mk_world.specs.Looks.{DatesAll}
 use Rattle.mk_world.specs.Runs.{Same}
 use Rattle.mk_world.specs.Talks.{Meaning}
 use Rattle.mk_world.specs.Told.{Told}
@@ -51,7 +51,7 @@ outside_fault : (end : End) → IsOutside end
 outside_fault end (inl failed) = (plan.Failed, failed, inl refl)
 outside_fault end (inr want) = (plan.NoMemory, want, inr refl)
 
-looked-none : (h : Option History) → Told h h (LooksAll [])
+looked-none : (h : Option History) → Told h h (DatesAll [])
 looked-none None = tt
 looked-none (Some h) = refl
 

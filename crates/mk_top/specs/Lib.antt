@@ -4,4 +4,5 @@ pub mod Ends
 pub mod Meaning
 pub mod Messages
 pub mod Runs
+pub mod TrueRuns
 pub mod Words

@@ -16,7 +16,7 @@ use Rattle.mk_reader.specs.Reading.{reading}
 use Rattle.mk_reader.specs.Results.{ReadBy}
 use Rattle.mk_reader.specs.declared.fault.ReadFault.{ReadFault}
 use Rattle.mk_scopes.specs.declared.scopes.Env.{Env}
-use Rattle.mk_world.specs.Looks.{Dated as Seen, DatesAll as LooksAll}
+use Rattle.mk_world.specs.Looks.{Dated, DatesAll}
 use Rattle.mk_world.specs.Runs.{Same}
 use Rattle.mk_world.specs.Sinks.{Gains, GainsPart}
 use Rattle.mk_world.specs.Talks.{Meaning}
@@ -99,8 +99,8 @@ pub record Only (outcome : Outcome) (first last : Point) (went : Went) : Type 0 
 pub record PrintsAll (variables : Variables) (lists : Lists) (all : List Print) (first last : Point)
     (went : Went) : Type 0
   where
-    pub looked : List Seen
-    pub told : Told first.history last.history (LooksAll looked)
+    pub looked : List Dated
+    pub told : Told first.history last.history (DatesAll looked)
     pub printed : Printed (all_printed (setting_of variables lists (answers_by looked)) [] 0 all)
         (record { before = first.out; after = last.out }) went.end
     pub unbuilt : went ≡ unbuilt went.end

@@ -7,6 +7,7 @@ ghost use Rattle.mk_top.specs.Causes.{EndCause, LineCause, WorldCause, SinkCause
 ghost use Rattle.mk_top.specs.Ends as ends;
 ghost use Rattle.mk_top.specs.Meaning as spec;
 ghost use Rattle.mk_top.specs.Runs as runs;
+ghost use Rattle.mk_top.specs.TrueRuns.{IsTrueRun};
 ghost use Rattle.mk_top.specs.declared.report.End.TheVariants.{
   WorldFault as world_failed,
   SinkFault as sink_failed,
@@ -158,8 +159,11 @@ fn finish<S: Sink>(words: &Texts, went: End, err: &mut S) -> End
 ///
 /// It reads the words, then the makefiles, whose messages it writes on `err`, and then prints on `out`
 /// what the words ask for, each print on its line as soon as it is evaluated. Where they ask for no
-/// print it makes a plan of the targets and builds it, with so many jobs and by times. Every end but
-/// `Done` and `SinkFault` has its line on `err`, which is written last.
+/// print it makes a plan of the targets and builds it, with so many jobs, by times and, in meta mode, by
+/// meta files. Every end but `Done` and `SinkFault` has its line on `err`, which is written last.
+///
+/// Where meta files told what happened before the run, they do so at every moment of it, as far as the
+/// commands of `!=` change no file and jobs keep apart.
 pub fn run<W: World, S: Sink>(
     alloc: Global,
     words: &Texts,
@@ -170,7 +174,7 @@ pub fn run<W: World, S: Sink>(
 ) -> Report
     requires directory { IsTrue (is_clean_directory env.now.cwd) }
     requires idle { W.runs world.old [] }
-    ensures ran { runs.IsRun W.meaning words.now env.now
+    ensures ran { IsTrueRun W.meaning words.now env.now
         (point (W.history world.old) (S.held out.old))
         (point (W.history world.new) (S.held out.new))
         (record { before = S.held err.old; after = S.held err.new }) result }
