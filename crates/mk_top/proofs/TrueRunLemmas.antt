@@ -139,7 +139,7 @@ told-before {A} {Related} {before} {after} {new} is then_is told =
 goes-true : (meaning : Meaning) (meant : Meant) (old read : History) (first last : Point)
     (went : Went) (new : History) → OnlyAsked meaning old read → first.history ≡ Some read
     → last.history ≡ Some new → (goes : Goes meaning meant first last went)
-    → StaysTrue meaning (built_in meant goes) old new
+    → StaysTrue meaning (built_in meaning meant first last went goes) old new
 goes-true meaning (only outcome) old read first last went new asked at is goes =
     let same = told-at at is goes.same in
     asking-true meaning None old new
@@ -200,14 +200,15 @@ does-told meaning env (Ok order) first last err went new at is does = read does.
 does-true : (meaning : Meaning) (env : Env) (order : Result Order End) (first last : Point) (err : Held)
     (went : Went) (old new : History) → first.history ≡ Some old → last.history ≡ Some new
     → (does : Does meaning env order first last err went)
-    → StaysTrue meaning (built_for order does) old new
+    → StaysTrue meaning (built_for meaning env order first last err went does) old new
 does-true meaning env (Err end) first last err went old new at is does =
     let same = told-at at is does.0.same in
     asking-true meaning None old new (asked-same meaning old new same.base same.events)
 does-true meaning env (Ok order) first last err went old new at is does = read does.read_at refl
   where
     read : (read_at : Option History) → does.read_at ≡ read_at
-        → StaysTrue meaning (built_in (by_reading order does.read) does.goes) old new
+        → StaysTrue meaning
+        (built_in meaning (by_reading order does.read) (point does.read_at first.out) last went does.goes) old new
     read None here =
         absurd (goes-told meaning (by_reading order does.read) (point does.read_at first.out) last went new here
         is does.goes)
@@ -229,6 +230,8 @@ true-run {meaning} {words} {env} {first} {last} {err} {report} run = record {
         → Told before after (StaysTrue meaning (build_of run))
     told before None at is = tt
     told None (Some new) at is =
-        absurd (does-told meaning env run.carried.order first last _ run.went new at is run.carried.does)
+        absurd (does-told meaning env run.carried.order first last
+        (record { before = err.before; after = run.err_at }) run.went new at is run.carried.does)
     told (Some old) (Some new) at is =
-        does-true meaning env run.carried.order first last _ run.went old new at is run.carried.does
+        does-true meaning env run.carried.order first last
+        (record { before = err.before; after = run.err_at }) run.went old new at is run.carried.does

@@ -1,5 +1,6 @@
 -- That the meta files which a run leaves tell what happened.
-use Rattle.std.specs.Prelude.{◌≡◌, ◌⊎◌, inl, inr, ℕ, List, [], ◌++◌, Option, Some, None, Result, Ok, Err}
+use Rattle.std.specs.Prelude.{◌≡◌, ◌⊎◌, ℕ, List, [], ◌++◌, Option, Some, None, Result, Ok, Err}
+use Rattle.std.proofs.Common.{inl, inr}
 use Rattle.std.specs.List.{AllByRecursion}
 use Rattle.mk_cli.specs.declared.order.Order.{Order}
 use Rattle.mk_decision.specs.Decisions.{Work}
@@ -30,27 +31,30 @@ pub record Built : Type 0 where
   pub items : List Item
 
 -- the build behind the reading, where it comes to one
-abbrev pub built_in : {meaning : Meaning} {first last : Point} {went : Went} (meant : Meant)
+abbrev pub built_in : (meaning : Meaning) (meant : Meant) (first last : Point) (went : Went)
     → Goes meaning meant first last went → Option Built
-built_in (only outcome) goes = None
-built_in (prints variables lists all) goes = None
-built_in (builds made flags) (inl unplanned) = None
-built_in (builds made flags) (inr is) = Some (record {
+built_in meaning (only outcome) first last went goes = None
+built_in meaning (prints variables lists all) first last went goes = None
+built_in meaning (builds made flags) first last went (inl unplanned) = None
+built_in meaning (builds made flags) first last went (inr is) = Some (record {
   planned_at = is.planned_at;
   work = work_on is.nodes made flags;
   tasks = is.built.build.tasks;
   items = is.built.build.items;
 })
 
-abbrev pub built_for : {meaning : Meaning} {env : Env} {first last : Point} {err : Held} {went : Went}
-    (order : Result Order End) → Does meaning env order first last err went → Option Built
-built_for (Ok order) does = built_in (by_reading order does.read) does.goes
-built_for (Err end) does = None
+abbrev pub built_for : (meaning : Meaning) (env : Env) (order : Result Order End) (first last : Point)
+    (err : Held) (went : Went) → Does meaning env order first last err went → Option Built
+built_for meaning env (Ok order) first last err went does =
+    built_in meaning (by_reading order does.read) (point does.read_at first.out) last went does.goes
+built_for meaning env (Err end) first last err went does = None
 
 -- the build of a run, where it comes to one
 abbrev pub build_of : {meaning : Meaning} {words : List (List ℕ)} {env : Env} {first last : Point}
     {err : Held} {report : Report} → IsRun meaning words env first last err report → Option Built
-build_of run = built_for run.carried.order run.carried.does
+build_of {meaning} {words} {env} {first} {last} {err} {report} run =
+    built_for meaning env run.carried.order first last
+    (record { before = err.before; after = run.err_at }) run.went run.carried.does
 
 -- At this moment of a run, the jobs of its build have kept apart so far.
 abbrev pub KeptApart : Option Built → History → Type 0
