@@ -1,0 +1,288 @@
+-- A node that is being decided: what its looks saw so far.
+use Rattle.std.proofs.Common.{◌≡◌, ◌≢◌, ◌∙◌, ◌⊎◌, ℕ, zero, suc, ◌+◌, ◌<◌, ◌==◌, ◌&&◌, ◌||◌, not, nat_le, List, [], ◌∷◌, ◌++◌, length, set, slice_get, Option, Some, None, Bool, true, false, if◌then◌else◌}
+use Rattle.std.proofs.Common.{inl, inr, refl, sym, ap, subst, arith, append_assoc, eq-eqb, ne_eqb}
+use Rattle.std.proofs.lemmas.Bool.{cases_eq, false≢true, false_from_ne_true}
+use Rattle.std.proofs.lemmas.List.{append-nil}
+use Rattle.std.proofs.lemmas.Slice.Eq.{bytes_eq-Decides}
+use Rattle.std.specs.List.{Contains, list_any}
+use Rattle.std.specs.Str.{bytes_eq}
+use Rattle.mk_clean.proofs.CleanLemmas.{changed_first, changed_last}
+use Rattle.mk_clean.proofs.StepLemmas.{steps_clean}
+use Rattle.mk_clean.proofs.WalkLemmas.{left_alone}
+use Rattle.mk_clean.specs.Clean.{CleanJob, Plan, IsAmong, clean_build, cleared, deeds_of, is_changed}
+use Rattle.mk_clean.specs.Declared.{IsDeclared, IsOwn, IsPrivate}
+use Rattle.mk_clean.specs.Same.{AreFirstSteps, steps_of, own_step}
+use Rattle.mk_clean.specs.Turns as turn
+use Rattle.mk_clean.specs.Turns.{Turn, after_turns, MayTurns, with_look}
+use Rattle.mk_decision.specs.Decisions.{Work}
+use Rattle.mk_headline.proofs.GoodLemmas.{Good, sources-ready, waits-ready, NoneRemoved}
+use Rattle.mk_headline.proofs.LookLemmas.{AllSeen, all-more, IsDated, SawWhen, saw-when, IsOf, AllOf, of-last, seen_of, seen_in, is_look_at, is_looked, first_look, first-other, first-before, first-now, seen-last}
+use Rattle.mk_headline.proofs.PastLemmas.{Past}
+use Rattle.mk_headline.proofs.PlanLemmas.{meta_path-is, job-among, job-has, clean-node, are-distinct, names-differ, node-is}
+use Rattle.mk_headline.proofs.StageLemmas.{may-append}
+use Rattle.mk_headline.proofs.TurnLemmas.{each-node, Turning, look-passed, look-taken}
+use Rattle.mk_headline.specs.Plans.{clean_plan, has_job, is_meta_path}
+use Rattle.mk_headline.specs.Premises.{IsWellMade}
+use Rattle.mk_meta.specs.TrueHistory.{LeavesAlone, changed_paths, meta_path}
+use Rattle.mk_plan.specs.Deciding.{may_decide, is_stopped}
+use Rattle.mk_plan.specs.Plans.{node_at}
+use Rattle.mk_plan.specs.declared.plan.NodeState.{NodeState}
+use Rattle.mk_plan.specs.declared.plan.NodeState.TheVariants.{Undecided, Open, Settled, Failed}
+use Rattle.mk_trace.proofs.TrueChildren.{step-leaves}
+use Rattle.mk_trace.proofs.TrueRuns.{slice-other, slice-same, ended_run, IsFree, taken-due}
+use Rattle.mk_trace.specs.Builds.{Build, Duty, free, remove, begin, date, close, stop, MayLook, Makes, build_after, opening, rules_of}
+use Rattle.mk_trace.specs.Collected.{has_meta}
+use Rattle.mk_trace.specs.Items.{Change, gone, head, whole, cut_head, cut_whole, Item, looks, keeps, refuses, starts, passes, waits, steps, ends, changes, leaves, path_of, happened, happened_all, IsSeenIn, Fits}
+use Rattle.mk_trace.specs.Runs as run
+use Rattle.mk_trace.specs.Together.{HasChild}
+use Rattle.mk_world.specs.Calls.{when_of}
+use Rattle.mk_world.specs.Deeds.{Store, changes as changes_of}
+use Rattle.mk_world.specs.History.{State as Stand, Filed, FileMap, after_all as stand_after, at_time, contents, effected_all, filed}
+use Rattle.mk_world.specs.Looks.{Seen, dated, read}
+use Rattle.mk_world.specs.Talks.{Meaning}
+use Rattle.mk_world.specs.declared.step.Deed.{Deed}
+
+-- lists
+
+contains-any : (paths : List (List ℕ)) (path : List ℕ) → Contains paths path
+    → list_any (λ one. bytes_eq one path) paths ≡ true
+contains-any [] path has = absurd (omega (arith, has.1))
+contains-any (one ∷ paths) path (zero, less, is) = rw ((bytes_eq-Decides one path).1 is) refl
+contains-any (one ∷ paths) path (suc k, less, is) =
+    or_right (bytes_eq one path) _ (contains-any paths path (k, omega (arith, less), is))
+  where
+    or_right : (a b : Bool) → b ≡ true → (a || b) ≡ true
+    or_right true b given = refl
+    or_right false b given = given
+
+some-same : (n m : ℕ) → Some n ≡ Some m → n ≡ m
+some-same n m is = cc
+
+steps_of-append : (node : ℕ) (first second : List Turn)
+    → steps_of node (first ++ second) ≡ steps_of node first ++ steps_of node second
+steps_of-append node [] second = refl
+steps_of-append node (one ∷ first) second =
+    ap (λ l. own_step node one ++ l) (steps_of-append node first second)
+    ∙ sym (append_assoc (own_step node one) (steps_of node first) (steps_of node second))
+
+not-nil : (deeds : List Deed) (deed : Deed) → deeds ++ deed ∷ [] ≡ [] → ⊥
+not-nil [] deed is = absurd cc
+not-nil (one ∷ deeds) deed is = absurd cc
+
+set-back : (nodes : List NodeState) (m n : ℕ) (stands : NodeState) → (stands ≡ Undecided → ⊥)
+    → slice_get (set nodes m stands) n ≡ Some Undecided → (n ≢ m) × (slice_get nodes n ≡ Some Undecided)
+set-back nodes m n stands decided is = elim (cases_eq n m) [
+  | inl same ↦
+      absurd (decided (slice-same nodes m stands Undecided
+      (subst (λ k. slice_get (set nodes m stands) k ≡ Some Undecided) same is)))
+  | inr other ↦ (other, sym (slice-other nodes m n stands other) ∙ is)
+]
+
+ended-back : (state : run.State) (m number n : ℕ) (failed stops : Bool)
+    → slice_get (ended_run state m number failed stops).nodes n ≡ Some Undecided
+    → slice_get state.nodes n ≡ Some Undecided
+ended-back state m number n true stops is = (set-back state.nodes m n Failed (λ same. absurd cc) is).1
+ended-back state m number n false true is = (set-back state.nodes m n Settled (λ same. absurd cc) is).1
+ended-back state m number n false false is = is
+
+opening-begins : (m n : ℕ) (b : Bool) → (if b then begin m else free) ≡ begin n → n ≡ m
+opening-begins m n true is = cc
+opening-begins m n false is = absurd cc
+
+opening-stop : (m : ℕ) (b : Bool) → (if b then begin m else free) ≡ stop → ⊥
+opening-stop m true is = absurd cc
+opening-stop m false is = absurd cc
+
+-- a line begins where nothing is due for the node that may be decided
+start-decides : (work : Work) (tasks : run.Tasks) (state : run.State) (m number : ℕ) (due : run.Due)
+    → due ≡ run.anything → run.MayStart (rules_of work) tasks state m number due
+    → may_decide (rules_of work) state.nodes ≡ Some m
+start-decides work tasks state m number run.anything is may = may.0
+start-decides work tasks state m number run.child is may = absurd may
+start-decides work tasks state m number (run.line one next) is may = absurd cc
+start-decides work tasks state m number (run.close one last) is may = absurd may
+
+put-elsewhere : (files : FileMap) (path other bytes : List ℕ) (time : ℕ) → is_meta_path path ≡ true
+    → is_meta_path other ≡ false
+    → (if bytes_eq path other then filed (Some bytes) time else files other) ≡ files other
+put-elsewhere files path other bytes time meta none =
+    ap (λ b. if b then filed (Some bytes) time else files other)
+    (false_from_ne_true (bytes_eq path other)
+    (λ is. false≢true (sym none ∙ (ap is_meta_path (sym ((bytes_eq-Decides path other).0 is)) ∙ meta))))
+
+module _ (meaning : Meaning) (work : Work) (tasks : run.Tasks) (entry : Stand)
+    (idle : entry.children ≡ []) (well : IsWellMade work)
+    (declared : IsDeclared (clean_plan work tasks)
+    (clean_build meaning (clean_plan work tasks) (contents entry.files)))
+    (no_meta : (n : ℕ) → has_job (node_at work.plan n) ≡ true
+    → is_meta_path (node_at work.plan n).name ≡ false) where
+  abbrev plan : Plan
+  plan = clean_plan work tasks
+
+  abbrev name : ℕ → List ℕ
+  name n = (node_at work.plan n).name
+
+  abbrev IsGood : List Item → Build → Stand → List Turn → turn.Build → Type 0
+  IsGood = Good meaning work tasks entry idle well
+
+  -- no step of another node's job changes the path of a node that is not decided yet
+  target-stays : (done : List Item) (build : Build) (stand : Stand) (turns : List Turn) (clean : turn.Build)
+      (ticket owner time : ℕ) (deed : Deed) → IsGood done build stand turns clean
+      → Turning meaning work tasks build stand clean (steps ticket owner deed time) → (n : ℕ)
+      → slice_get build.run.nodes n ≡ Some Undecided → has_job (node_at work.plan n) ≡ true
+      → LeavesAlone (name n) (at_time time (changes_of deed))
+  target-stays done build stand turns clean ticket owner time deed good now n undecided has =
+      step-leaves time (name n) deed (λ given. clash (contains-any (changed_paths (deed ∷ [])) (name n) given))
+    where
+      j : ℕ
+      j = now.turned.0
+
+      all : List CleanJob
+      all = clean_build meaning plan (contents entry.files)
+
+      may : MayTurns meaning plan (turn.first_build (contents entry.files)) (turns ++ turn.steps j deed ∷ [])
+      may = may-append meaning work tasks (turn.first_build (contents entry.files)) turns (turn.steps j deed ∷ []) good.may
+          (subst (λ c. MayTurns meaning plan c (turn.steps j deed ∷ [])) (sym good.at)
+          (subst (MayTurns meaning plan clean) now.turned.3 now.may))
+
+      mine : steps_of j (turn.steps j deed ∷ []) ≡ deed ∷ []
+      mine = rw (eq-eqb j j refl) refl
+
+      told : steps_of j (turns ++ turn.steps j deed ∷ []) ≡ steps_of j turns ++ deed ∷ []
+      told = steps_of-append j turns (turn.steps j deed ∷ []) ∙ ap (λ l. steps_of j turns ++ l) mine
+
+      first : (steps_of j (turns ++ turn.steps j deed ∷ []) ≡ [])
+          ⊎ AreFirstSteps all j (steps_of j (turns ++ turn.steps j deed ∷ []))
+          → AreFirstSteps all j (steps_of j turns ++ deed ∷ [])
+      first (inl none) = absurd (not-nil (steps_of j turns) deed (sym told ∙ none))
+      first (inr are) = subst (AreFirstSteps all j) told are
+
+      begun : AreFirstSteps all j (steps_of j turns ++ deed ∷ [])
+      begun = first ((steps_clean meaning plan (contents entry.files) declared
+          (are-distinct meaning work tasks (contents entry.files) well) (turns ++ turn.steps j deed ∷ []) may).begun j)
+
+      clash : is_changed (deed ∷ []) (name n) ≡ true → ⊥
+      clash given =
+          let changes_it : is_changed (deeds_of begun.one) (name n) ≡ true =
+          subst (λ l. is_changed l (name n) ≡ true) (sym begun.are)
+          (changed_first (name n) (steps_of j turns ++ deed ∷ []) begun.rest
+          (changed_last (name n) (steps_of j turns) (deed ∷ []) given)) in
+          let within_n = (job-has work n (job-among work n has)).0 in
+          by within_n (declared.changes begun.one begun.among (name n) changes_it)
+        where
+          by : n < length work.plan → IsOwn plan begun.one (name n) ⊎ IsPrivate plan all begun.one (name n) → ⊥
+          by within_n (inl own) =
+              let within = (job-has work begun.one.node
+              (clean-node meaning plan plan.order (cleared plan (contents entry.files)) begun.one begun.among)).0 in
+              let same : begun.one.node ≡ n = names-differ work well begun.one.node n within within_n own.name in
+              let opens : slice_get build.run.nodes n ≡ Some Open =
+              subst (λ k. slice_get build.run.nodes k ≡ Some Open) (sym begun.node_is ∙ same) now.turned.1.0 in
+              let both : Some Open ≡ Some Undecided = sym opens ∙ undecided in
+              absurd cc
+          by within_n (inr private) = false≢true (sym private.no_node ∙ node-is work tasks n within_n)
+
+  -- the meta file of a node was looked at, and since then nothing but looks for it and steps has happened
+  pub record ReadAt (n : ℕ) (done : List Item) (build : Build) (clean : turn.Build) : Type 0 where
+    pub front : List Item
+    pub path : List ℕ
+    pub bytes : Option (List ℕ)
+    pub late : List Item
+    pub cut : done ≡ front ++ looks n (read path bytes) ∷ late
+    pub of : AllOf n late
+    pub first : List Seen
+    pub first_dated : AllSeen IsDated first
+    pub seen_is : build.seen n ≡ first ++ read path bytes ∷ seen_in late
+    pub looks_are : (other : List ℕ)
+        → clean.looks n other ≡ first_look (stand_after entry (happened_all front)) late other
+    pub may : run.MayDecide (rules_of work) build.run n
+    pub free_now : build.duty ≡ free
+
+  -- or it was not
+  pub record NotRead (n : ℕ) (build : Build) (clean : turn.Build) : Type 0 where
+    pub dated_all : AllSeen IsDated (build.seen n)
+    pub none : (path : List ℕ) → clean.looks n path ≡ None
+
+  abbrev pub SawTarget : ℕ → Stand → Seen → Type 0
+  SawTarget n stand seen = path_of seen ≡ name n → SawWhen (when_of (stand.files (name n))) seen
+
+  -- what was seen for a node: its own file stands as each look at it saw it
+  pub record Deciding (n : ℕ) (done : List Item) (build : Build) (stand : Stand) (clean : turn.Build) : Type 0 where
+    pub target : has_job (node_at work.plan n) ≡ true → AllSeen (SawTarget n stand) (build.seen n)
+    pub phase : NotRead n build clean ⊎ ReadAt n done build clean
+
+  abbrev pub EachDeciding : List Item → Build → Stand → turn.Build → Type 0
+  EachDeciding done build stand clean =
+      (n : ℕ) → slice_get build.run.nodes n ≡ Some Undecided → (build.duty ≡ begin n → ⊥)
+      → (build.duty ≡ stop → ⊥) → Deciding n done build stand clean
+
+  -- an item that is no look keeps it, where the meta file was not looked at
+  kept-on : (n : ℕ) (done : List Item) (item : Item) (build later : Build) (stand then_stand : Stand)
+      (clean then_clean : turn.Build) → later.seen n ≡ build.seen n
+      → (has_job (node_at work.plan n) ≡ true → then_stand.files (name n) ≡ stand.files (name n))
+      → then_clean.looks ≡ clean.looks → (ReadAt n done build clean → ⊥)
+      → Deciding n done build stand clean → Deciding n (done ++ item ∷ []) later then_stand then_clean
+  kept-on n done item build later stand then_stand clean then_clean seen files looks_same none deciding = record {
+    target = λ has.
+        subst (AllSeen (SawTarget n then_stand)) (sym seen)
+        (subst (λ (f : Option Filed). AllSeen (λ s. path_of s ≡ name n → SawWhen (when_of f) s) (build.seen n))
+        (sym (files has)) (deciding.target has));
+    phase = by deciding.phase;
+  }
+    where
+      by : NotRead n build clean ⊎ ReadAt n done build clean
+          → NotRead n later then_clean ⊎ ReadAt n (done ++ item ∷ []) later then_clean
+      by (inl not_read) = inl (record {
+        dated_all = subst (AllSeen IsDated) (sym seen) not_read.dated_all;
+        none = λ path. ap (λ l. l n path) looks_same ∙ not_read.none path;
+      })
+      by (inr read_at) = absurd (none read_at)
+
+  -- the node that may be decided is one
+  only : (n m : ℕ) (build : Build) → may_decide (rules_of work) build.run.nodes ≡ Some n
+      → may_decide (rules_of work) build.run.nodes ≡ Some m → n ≡ m
+  only n m build first second = some-same n m (sym first ∙ second)
+
+  -- a step
+  stepped : (n : ℕ) (done : List Item) (build : Build) (stand : Stand) (clean : turn.Build)
+      (ticket owner time : ℕ) (deed : Deed) (then_clean : turn.Build) → then_clean.looks ≡ clean.looks
+      → (has_job (node_at work.plan n) ≡ true → LeavesAlone (name n) (at_time time (changes_of deed)))
+      → Deciding n done build stand clean
+      → Deciding n (done ++ steps ticket owner deed time ∷ []) build
+      (stand_after stand (happened (steps ticket owner deed time))) then_clean
+  stepped n done build stand clean ticket owner time deed then_clean same leave deciding = record {
+    target = λ has.
+        let files = left_alone (name n) stand.files (at_time time (changes_of deed)) (leave has) in
+        subst (λ (f : Option Filed). AllSeen (λ s. path_of s ≡ name n → SawWhen (when_of f) s) (build.seen n))
+        (sym files) (deciding.target has);
+    phase = by deciding.phase;
+  }
+    where
+      item : Item
+      item = steps ticket owner deed time
+
+      by : NotRead n build clean ⊎ ReadAt n done build clean
+          → NotRead n build then_clean ⊎ ReadAt n (done ++ item ∷ []) build then_clean
+      by (inl not_read) = inl (record {
+        dated_all = not_read.dated_all;
+        none = λ path. ap (λ l. l n path) same ∙ not_read.none path;
+      })
+      by (inr at) = inr (record {
+        front = at.front;
+        path = at.path;
+        bytes = at.bytes;
+        late = at.late ++ item ∷ [];
+        cut = ap (λ l. l ++ item ∷ []) at.cut
+            ∙ append_assoc at.front (looks n (read at.path at.bytes) ∷ at.late) (item ∷ []);
+        of = of-last n at.late item at.of tt;
+        first = at.first;
+        first_dated = at.first_dated;
+        seen_is = at.seen_is
+            ∙ ap (λ l. at.first ++ read at.path at.bytes ∷ l)
+            (sym (seen-last at.late item ∙ append-nil (seen_in at.late)));
+        looks_are = λ path.
+            ap (λ l. l n path) same
+            ∙ (at.looks_are path
+            ∙ sym (first-other (stand_after entry (happened_all at.front)) at.late item path refl));
+        may = at.may;
+        free_now = at.free_now;
+      })

@@ -1,0 +1,9 @@
+pub mod DecideLemmas
+pub mod FirstLemmas
+pub mod GoodLemmas
+pub mod LookLemmas
+pub mod LoopLemmas
+pub mod PastLemmas
+pub mod PlanLemmas
+pub mod StageLemmas
+pub mod TurnLemmas
