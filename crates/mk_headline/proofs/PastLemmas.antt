@@ -70,7 +70,7 @@ may-run rules tasks state [] more may later = later
 may-run rules tasks state (event ∷ events) more may later =
     (may.0, may-run rules tasks (run.after rules tasks state event) events more may.1 later)
 
-settled-at : (nodes : List NodeState) (n : ℕ) → get_or nodes n Undecided ≡ Settled
+pub settled-at : (nodes : List NodeState) (n : ℕ) → get_or nodes n Undecided ≡ Settled
     → slice_get nodes n ≡ Some Settled
 settled-at [] n is = absurd cc
 settled-at (one ∷ nodes) zero is = ap Some is

@@ -265,7 +265,7 @@ among-at test (first ∷ places) one all among =
       | inr later ↦ among-at test places one (second-true (test first) _ all) later
     ]
 
-before-less : (nodes : List PlanNode) (place n one : ℕ) → are_ordered place nodes ≡ true
+pub before-less : (nodes : List PlanNode) (place n one : ℕ) → are_ordered place nodes ≡ true
     → is_among (node_at nodes n).before one ≡ true → one < place + n
 before-less [] place n one ordered among = absurd (false≢true among)
 before-less (node ∷ nodes) place zero one ordered among =

@@ -136,7 +136,7 @@ module _ (meaning : Meaning) (work : Work) (tasks : run.Tasks) where
 
   -- looks
 
-  pub look-passed : (build : Build) (stand : Stand) (clean : turn.Build) (n : ℕ) (seen : Seen)
+  abbrev pub look-passed : (build : Build) (stand : Stand) (clean : turn.Build) (n : ℕ) (seen : Seen)
       → contents stand.files ≡ clean.files → FitsAllNodes build stand clean
       → Turning build stand clean (looks n seen)
   look-passed build stand clean n seen files nodes = record {
@@ -148,7 +148,7 @@ module _ (meaning : Meaning) (work : Work) (tasks : run.Tasks) where
     looks = λ none. refl;
   }
 
-  pub look-taken : (build : Build) (stand : Stand) (clean : turn.Build) (n : ℕ) (seen : Seen)
+  abbrev pub look-taken : (build : Build) (stand : Stand) (clean : turn.Build) (n : ℕ) (seen : Seen)
       → contents stand.files ≡ clean.files → FitsAllNodes build stand clean
       → clean.stage n ≡ waiting → SourcesSettled plan clean n
       → Turning build stand clean (looks n seen)
