@@ -1,5 +1,5 @@
 -- A node that is being decided: what its looks saw so far.
-use Rattle.std.proofs.Common.{◌≡◌, ◌≢◌, ◌∙◌, ◌⊎◌, ℕ, zero, suc, ◌+◌, ◌<◌, ◌==◌, ◌&&◌, ◌||◌, not, nat_le, List, [], ◌∷◌, ◌++◌, length, set, slice_get, Option, Some, None, Bool, true, false, if◌then◌else◌}
+use Rattle.std.proofs.Common.{◌≡◌, ◌≢◌, ◌∙◌, ◌⊎◌, ℕ, zero, suc, ◌+◌, ◌<◌, ◌==◌, ◌&&◌, ◌||◌, nat_le, List, [], ◌∷◌, ◌++◌, length, set, slice_get, Option, Some, None, Bool, true, false, if◌then◌else◌}
 use Rattle.std.proofs.Common.{inl, inr, refl, sym, ap, subst, arith, append_assoc, eq-eqb, ne_eqb}
 use Rattle.std.proofs.lemmas.Bool.{cases_eq, false≢true, false_from_ne_true}
 use Rattle.std.proofs.lemmas.List.{append-nil}
@@ -9,41 +9,40 @@ use Rattle.std.specs.Str.{bytes_eq}
 use Rattle.mk_clean.proofs.CleanLemmas.{changed_first, changed_last}
 use Rattle.mk_clean.proofs.StepLemmas.{steps_clean}
 use Rattle.mk_clean.proofs.WalkLemmas.{left_alone}
-use Rattle.mk_clean.specs.Clean.{CleanJob, Plan, IsAmong, clean_build, cleared, deeds_of, is_changed}
+use Rattle.mk_clean.specs.Clean.{CleanJob, Plan, clean_build, cleared, deeds_of, is_changed}
 use Rattle.mk_clean.specs.Declared.{IsDeclared, IsOwn, IsPrivate}
 use Rattle.mk_clean.specs.Same.{AreFirstSteps, steps_of, own_step}
 use Rattle.mk_clean.specs.Turns as turn
 use Rattle.mk_clean.specs.Turns.{Turn, after_turns, MayTurns, with_look}
 use Rattle.mk_decision.specs.Decisions.{Work}
-use Rattle.mk_headline.proofs.GoodLemmas.{Good, sources-ready, waits-ready, NoneRemoved}
-use Rattle.mk_headline.proofs.LookLemmas.{AllSeen, all-more, IsDated, SawWhen, saw-when, IsOf, AllOf, of-last, seen_of, seen_in, is_look_at, is_looked, first_look, first-other, first-before, first-now, seen-last}
+use Rattle.mk_headline.proofs.GoodLemmas.{Good, sources-ready, waits-ready}
+use Rattle.mk_headline.proofs.LookLemmas.{AllSeen, all-more, IsDated, SawWhen, saw-when, AllOf, of-last, seen_in, is_looked, first_look, first-other, first-before, first-now, seen-last}
 use Rattle.mk_headline.proofs.PastLemmas.{Past}
 use Rattle.mk_headline.proofs.PlanLemmas.{meta_path-is, job-among, job-has, clean-node, are-distinct, names-differ, node-is}
 use Rattle.mk_headline.proofs.StageLemmas.{may-append}
 use Rattle.mk_headline.proofs.TurnLemmas.{each-node, Turning, look-passed, look-taken}
 use Rattle.mk_headline.specs.Plans.{clean_plan, has_job, is_meta_path}
 use Rattle.mk_headline.specs.Premises.{IsWellMade}
-use Rattle.mk_meta.specs.TrueHistory.{LeavesAlone, changed_paths, meta_path}
+use Rattle.mk_meta.specs.TrueHistory.{LeavesAlone, changed_paths}
 use Rattle.mk_plan.specs.Deciding.{may_decide, is_stopped}
 use Rattle.mk_plan.specs.Plans.{node_at}
 use Rattle.mk_plan.specs.declared.plan.NodeState.{NodeState}
 use Rattle.mk_plan.specs.declared.plan.NodeState.TheVariants.{Undecided, Open, Settled, Failed}
 use Rattle.mk_trace.proofs.TrueChildren.{step-leaves}
-use Rattle.mk_trace.proofs.TrueRuns.{slice-other, slice-same, ended_run, IsFree, taken-due}
+use Rattle.mk_trace.proofs.TrueRuns.{slice-other, slice-same, ended_run, taken-due}
 use Rattle.mk_trace.proofs.BegunLemmas.{may-undecided}
 use Rattle.mk_trace.proofs.ItemLemmas.{happened_all-append}
-use Rattle.mk_trace.specs.Builds.{Build, Duty, free, remove, begin, date, close, stop, MayLook, Makes, behind_look, build_after, first_build, opening, or_next, rules_of}
+use Rattle.mk_trace.specs.Builds.{Build, Duty, free, remove, begin, date, close, stop, MayLook, Makes, behind_look, build_after, first_build, or_next, rules_of}
 use Rattle.mk_trace.specs.Calls.{NoneLeft}
 use Rattle.mk_trace.specs.declared.result.Failure.{Failure}
 use Rattle.mk_world.proofs.CallLemmas.{after_all-append}
 use Rattle.mk_world.specs.Outer.{Over}
 use Rattle.mk_trace.specs.Collected.{has_meta}
-use Rattle.mk_trace.specs.Items.{Change, gone, head, whole, cut_head, cut_whole, Item, looks, keeps, refuses, starts, passes, waits, steps, ends, changes, leaves, path_of, happened, happened_all, IsSeenIn, Fits}
+use Rattle.mk_trace.specs.Items.{gone, head, whole, cut_head, cut_whole, Item, looks, keeps, refuses, starts, passes, waits, steps, ends, changes, leaves, path_of, happened, happened_all, IsSeenIn}
 use Rattle.mk_trace.specs.Runs as run
-use Rattle.mk_trace.specs.Together.{HasChild}
 use Rattle.mk_world.specs.Calls.{when_of}
-use Rattle.mk_world.specs.Deeds.{Store, changes as changes_of}
-use Rattle.mk_world.specs.History.{State as Stand, Filed, FileMap, after_all as stand_after, at_time, contents, effected_all, filed}
+use Rattle.mk_world.specs.Deeds.{changes as changes_of}
+use Rattle.mk_world.specs.History.{State as Stand, Filed, FileMap, after_all as stand_after, at_time, contents, filed}
 use Rattle.mk_world.specs.Looks.{Seen, dated, read}
 use Rattle.mk_world.specs.Talks.{Meaning}
 use Rattle.mk_world.specs.declared.step.Deed.{Deed}

@@ -1,25 +1,22 @@
 -- Builds that are over leave what the clean build leaves.
-use Rattle.std.proofs.Common.{◌≡◌, ◌≢◌, ◌∙◌, ◌⊎◌, ℕ, suc, ◌<◌, List, [], ◌∷◌, ◌++◌, length, map, get_or, slice_get, Option, Some, None, Bool, true}
-use Rattle.std.proofs.Common.{inl, inr, refl, sym, ap, subst, arith}
-use Rattle.std.proofs.lemmas.List.{append-nil}
+use Rattle.std.proofs.Common.{◌≡◌, ◌∙◌, ℕ, suc, ◌<◌, List, [], ◌∷◌, ◌++◌, length, get_or, slice_get, Option, Some, None, true}
+use Rattle.std.proofs.Common.{refl, sym, ap, subst, arith}
 use Rattle.mk_clean.proofs.BesideLemmas.{builds_clean}
 use Rattle.mk_clean.proofs.StepLemmas.{steps_clean}
-use Rattle.mk_clean.specs.Clean.{CleanJob, Plan, IsAmong, clean_build, cleared}
+use Rattle.mk_clean.specs.Clean.{cleared}
 use Rattle.mk_clean.specs.Same.{HasCleanFiles}
-use Rattle.mk_clean.specs.Turns as turn
 use Rattle.mk_decision.specs.Decisions.{Work}
 use Rattle.mk_decision.specs.Makers.{jobs_of}
-use Rattle.mk_graph.specs.Walks.{is_among, preds_of}
+use Rattle.mk_graph.specs.Walks.{is_among}
 use Rattle.mk_headline.proofs.FullLemmas.{makes-first, full_turns}
 use Rattle.mk_headline.proofs.KeepLemmas.{fits-parts}
 use Rattle.mk_headline.proofs.PastLemmas.{settled-at}
 use Rattle.mk_headline.proofs.PlanLemmas.{are-distinct, before-less, clean-node, job-has}
-use Rattle.mk_headline.specs.Laws.{BuildsAreClean, DoneBuildsAreClean, IsBuildOfTurns, IsClean, IsReady}
+use Rattle.mk_headline.specs.Laws.{BuildsAreClean, DoneBuildsAreClean, IsClean, IsReady}
 use Rattle.mk_headline.specs.Plans.{clean_plan}
 use Rattle.mk_headline.specs.Premises.{IsWellMade}
-use Rattle.mk_plan.specs.Plans.{node_at}
 use Rattle.mk_plan.specs.declared.plan.PlanNode.{PlanNode}
-use Rattle.mk_plan.specs.declared.plan.NodeState.TheVariants.{Undecided, Open, Settled}
+use Rattle.mk_plan.specs.declared.plan.NodeState.TheVariants.{Undecided, Settled}
 use Rattle.mk_sched.proofs.StartLemmas.{predecessors-at}
 use Rattle.mk_sched.specs.Schedule.{predecessors}
 use Rattle.mk_trace.proofs.BegunLemmas.{open-some}
@@ -29,7 +26,7 @@ use Rattle.mk_trace.proofs.MakeLemmas.{after-steps, none-append, none-steps}
 use Rattle.mk_trace.proofs.RunLemmas.{over_settled}
 use Rattle.mk_trace.proofs.TogetherLemmas.{children_belong}
 use Rattle.mk_trace.proofs.TrueChildren.{child_in-contains}
-use Rattle.mk_trace.specs.Builds.{Build, IsBuild, Makes, Moment, event_of, first_build, build_after_all, rules_of}
+use Rattle.mk_trace.specs.Builds.{Build, Makes, event_of, first_build, build_after_all, rules_of}
 use Rattle.mk_trace.specs.Calls.{AreLeaveItems, AreStepItems, GivesUpLast, NoneLeft}
 use Rattle.mk_trace.specs.Ends.{IsOver}
 use Rattle.mk_trace.specs.Items.{Item, leaves, happened_all, reported_all, Happened, FitsAll}
@@ -39,7 +36,6 @@ use Rattle.mk_trace.specs.RunLaws.{StandBehind}
 use Rattle.mk_trace.specs.Runs as run
 use Rattle.mk_trace.specs.declared.event.Event.{Event}
 use Rattle.mk_world.proofs.CallLemmas.{MayAll-parts}
-use Rattle.mk_world.specs.Deeds.{Store}
 use Rattle.mk_world.specs.History.{State as Stand, MayAll as MayHappen, MayLeave, after_all as stand_after, child_in, files_of, state_of}
 use Rattle.mk_world.specs.Talks.{Meaning}
 use Rattle.mk_world.specs.Told.{Told}

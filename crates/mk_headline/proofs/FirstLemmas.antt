@@ -1,28 +1,26 @@
 -- Builds that keep no node with commands.
-use Rattle.std.proofs.Common.{◌≡◌, ◌≢◌, ◌∙◌, ◌⊎◌, ℕ, List, [], ◌∷◌, ◌++◌, Option, Some, None, Bool, true, false}
-use Rattle.std.proofs.Common.{inl, inr, refl, sym, ap, subst}
+use Rattle.std.proofs.Common.{◌≡◌, ◌∙◌, ℕ, List, [], ◌∷◌, ◌++◌, Option, Some, None, false}
+use Rattle.std.proofs.Common.{refl, sym, ap, subst}
 use Rattle.mk_clean.specs.Clean.{Plan}
 use Rattle.mk_clean.specs.Turns as turn
-use Rattle.mk_clean.specs.Turns.{Turn, MayKeep, after_turns, doings_seen, seen_by}
+use Rattle.mk_clean.specs.Turns.{MayKeep, seen_by}
 use Rattle.mk_decision.specs.Decisions.{Work}
-use Rattle.mk_headline.proofs.GoodLemmas.{Good, good-first, item-turns, sources-ready, waits-ready}
-use Rattle.mk_headline.proofs.LoopLemmas.{Steps, Turned, turned-all}
-use Rattle.mk_headline.proofs.TurnLemmas.{Turning, look-passed, kept}
-use Rattle.mk_headline.specs.Laws.{IsBuildOfTurns, KeepsNoJob, FirstBuildsAreTurns}
+use Rattle.mk_headline.proofs.GoodLemmas.{good-first, item-turns, sources-ready, waits-ready}
+use Rattle.mk_headline.proofs.LoopLemmas.{Steps, turned-all}
+use Rattle.mk_headline.proofs.TurnLemmas.{look-passed, kept}
+use Rattle.mk_headline.specs.Laws.{KeepsNoJob, FirstBuildsAreTurns}
 use Rattle.mk_headline.specs.Plans.{clean_plan, has_job, lines_of}
 use Rattle.mk_headline.specs.Premises.{IsWellMade}
 use Rattle.mk_plan.specs.Plans.{node_at}
 use Rattle.mk_trace.specs.Builds.{Build, first_build}
-use Rattle.mk_trace.specs.Items.{Item, looks, keeps, refuses, starts, passes, waits, steps, ends, changes, leaves, happened, happened_all, Happened}
+use Rattle.mk_trace.specs.Items.{Item, looks, keeps, refuses, starts, passes, waits, steps, ends, changes, leaves}
 use Rattle.mk_trace.specs.Runs as run
 use Rattle.mk_trace.proofs.ItemLemmas.{state_of-happened}
-use Rattle.mk_world.specs.History.{State as Stand, after_all as stand_after, contents, state_of}
+use Rattle.mk_world.specs.History.{State as Stand, contents, state_of}
 use Rattle.mk_world.specs.Talks.{Meaning}
-use Rattle.mk_world.specs.declared.command.TaskLine.{TaskLine}
 use Rattle.mk_clean.specs.Clean.{AllWell}
 use Rattle.mk_clean.specs.Jobs.{job}
 use Rattle.mk_meta.specs.TrueHistory.{deeds_of_job}
-use Rattle.mk_world.specs.Deeds.{Store}
 use Rattle.mk_world.specs.Outer.{nothing_over, over_deeds}
 
 none-over : (stands : Option (List ℕ)) → ◌≡◌ {A = Option (Option (List ℕ))} None (Some stands) → ⊥
@@ -76,30 +74,46 @@ module _ (meaning : Meaning) (work : Work) (tasks : run.Tasks) (entry : Stand)
         (keeps-none work done rest n (subst (KeepsNoJob work) is no_job))),
     tt,
   )
-  step done rest build stand turns clean (refuses n number what) is good extra makes may fits none sound =
-      (item-turns meaning work tasks entry idle well done build stand turns clean (refuses n number what) good
-      makes may fits none sound tt, tt)
-  step done rest build stand turns clean (starts n number ticket owner cmd) is good extra makes may fits none sound =
-      (item-turns meaning work tasks entry idle well done build stand turns clean
-      (starts n number ticket owner cmd) good makes may fits none sound tt, tt)
-  step done rest build stand turns clean (passes n number) is good extra makes may fits none sound =
-      (item-turns meaning work tasks entry idle well done build stand turns clean (passes n number) good
-      makes may fits none sound tt, tt)
-  step done rest build stand turns clean waits is good extra makes may fits none sound =
-      (item-turns meaning work tasks entry idle well done build stand turns clean waits good
-      makes may fits none sound tt, tt)
-  step done rest build stand turns clean (steps ticket owner deed time) is good extra makes may fits none sound =
-      (item-turns meaning work tasks entry idle well done build stand turns clean
-      (steps ticket owner deed time) good makes may fits none sound tt, tt)
-  step done rest build stand turns clean (ends n number owner ended) is good extra makes may fits none sound =
-      (item-turns meaning work tasks entry idle well done build stand turns clean (ends n number owner ended)
-      good makes may fits none sound tt, tt)
-  step done rest build stand turns clean (changes n change) is good extra makes may fits none sound =
-      (item-turns meaning work tasks entry idle well done build stand turns clean (changes n change) good
-      makes may fits none sound tt, tt)
-  step done rest build stand turns clean (leaves ticket owner) is good extra makes may fits none sound =
-      (item-turns meaning work tasks entry idle well done build stand turns clean (leaves ticket owner) good
-      makes may fits none sound tt, tt)
+  step done rest build stand turns clean (refuses n number what) is good extra makes may fits none sound = (
+    item-turns meaning work tasks entry idle well done build stand turns clean (refuses n number what) good
+        makes may fits none sound tt,
+    tt,
+  )
+  step done rest build stand turns clean (starts n number ticket owner cmd) is good extra makes may fits none sound = (
+    item-turns meaning work tasks entry idle well done build stand turns clean
+        (starts n number ticket owner cmd) good makes may fits none sound tt,
+    tt,
+  )
+  step done rest build stand turns clean (passes n number) is good extra makes may fits none sound = (
+    item-turns meaning work tasks entry idle well done build stand turns clean (passes n number) good
+        makes may fits none sound tt,
+    tt,
+  )
+  step done rest build stand turns clean waits is good extra makes may fits none sound = (
+    item-turns meaning work tasks entry idle well done build stand turns clean waits good
+        makes may fits none sound tt,
+    tt,
+  )
+  step done rest build stand turns clean (steps ticket owner deed time) is good extra makes may fits none sound = (
+    item-turns meaning work tasks entry idle well done build stand turns clean
+        (steps ticket owner deed time) good makes may fits none sound tt,
+    tt,
+  )
+  step done rest build stand turns clean (ends n number owner ended) is good extra makes may fits none sound = (
+    item-turns meaning work tasks entry idle well done build stand turns clean (ends n number owner ended)
+        good makes may fits none sound tt,
+    tt,
+  )
+  step done rest build stand turns clean (changes n change) is good extra makes may fits none sound = (
+    item-turns meaning work tasks entry idle well done build stand turns clean (changes n change) good
+        makes may fits none sound tt,
+    tt,
+  )
+  step done rest build stand turns clean (leaves ticket owner) is good extra makes may fits none sound = (
+    item-turns meaning work tasks entry idle well done build stand turns clean (leaves ticket owner) good
+        makes may fits none sound tt,
+    tt,
+  )
 
 pub first_turns : FirstBuildsAreTurns
 first_turns meaning work tasks items old new idle well no_job makes happens none sound =

@@ -1,8 +1,8 @@
 -- Builds in meta mode are builds of turns.
-use Rattle.std.proofs.Common.{◌≡◌, ◌≢◌, ◌∙◌, ◌⊎◌, ℕ, zero, suc, ◌<◌, ◌&&◌, not, List, [], ◌∷◌, ◌++◌, length, slice_get, Option, Some, None, Bool, true, false}
+use Rattle.std.proofs.Common.{◌≡◌, ◌∙◌, ◌⊎◌, ℕ, zero, suc, not, List, [], ◌∷◌, ◌++◌, None, Bool, true, false}
 use Rattle.std.proofs.Common.{inl, inr, refl, sym, ap, subst, arith, append_assoc}
 use Rattle.std.proofs.lemmas.List.{append-nil}
-use Rattle.std.specs.List.{AllByRecursion, Contains}
+use Rattle.std.specs.List.{Contains}
 use Rattle.mk_clean.specs.Clean.{Plan, clean_build}
 use Rattle.mk_clean.specs.Declared.{IsDeclared}
 use Rattle.mk_clean.specs.Turns as turn
@@ -12,35 +12,30 @@ use Rattle.mk_headline.proofs.DecideLemmas.{Deciding, EachDeciding, NotRead, Rea
 use Rattle.mk_headline.proofs.FirstLemmas.{none-keep}
 use Rattle.mk_headline.proofs.GoodLemmas.{Good, good-first, item-turns, sources-ready, waits-ready}
 use Rattle.mk_headline.proofs.KeepLemmas.{Looked, judged-keeps, unread-never, always-never, fits-parts}
-use Rattle.mk_headline.proofs.LookLemmas.{AllLeave, AllOf, first_look, SawWhen, AllSeen}
-use Rattle.mk_headline.proofs.LoopLemmas.{Steps, Turned, turned-all}
-use Rattle.mk_headline.proofs.PastLemmas.{Past}
+use Rattle.mk_headline.proofs.LookLemmas.{AllLeave, first_look, SawWhen, AllSeen}
+use Rattle.mk_headline.proofs.LoopLemmas.{Steps, turned-all}
 use Rattle.mk_headline.proofs.TurnLemmas.{Turning, kept}
-use Rattle.mk_headline.specs.Laws.{IsBuildOfTurns, BuildsAreTurns}
+use Rattle.mk_headline.specs.Laws.{BuildsAreTurns}
 use Rattle.mk_headline.specs.Plans.{clean_plan, has_job, makes_file}
 use Rattle.mk_headline.specs.Premises.{IsWellMade, GoesByMetaMode}
 use Rattle.mk_meta.specs.TrueHistory.{IsTrueHistory, changed_paths, meta_path}
 use Rattle.mk_plan.specs.Lists.{is_nil}
 use Rattle.mk_plan.specs.Plans.{node_at}
-use Rattle.mk_plan.specs.declared.plan.NodeState.TheVariants.{Undecided}
 use Rattle.mk_trace.proofs.BegunLemmas.{may-undecided}
 use Rattle.mk_trace.proofs.ItemLemmas.{happened_all-append, state_of-happened}
 use Rattle.mk_trace.proofs.TrueChildren.{contains-here, contains-more, contains-mid, step-leaves}
 use Rattle.mk_trace.proofs.TrueLemmas.{meta_files_true}
-use Rattle.mk_trace.specs.Builds.{Build, free, begin, stop, Makes, first_build, build_after, build_after_all, rules_of}
+use Rattle.mk_trace.specs.Builds.{Build, free, begin, stop, Makes, first_build, build_after, rules_of}
 use Rattle.mk_trace.specs.Calls.{NoneLeft}
-use Rattle.mk_trace.specs.Items.{Item, looks, keeps, refuses, starts, passes, waits, steps, ends, changes, leaves, head, happened, happened_all, Happened, FitsAll}
+use Rattle.mk_trace.specs.Items.{Item, looks, keeps, refuses, starts, passes, waits, steps, ends, changes, leaves, head, happened, happened_all, FitsAll}
 use Rattle.mk_trace.specs.Runs as run
 use Rattle.mk_trace.specs.TrueBuilds.{IsApart}
 use Rattle.mk_world.proofs.CallLemmas.{after_all-append, MayAll-append, MayAll-parts}
 use Rattle.mk_world.specs.Calls.{when_of}
-use Rattle.mk_world.specs.Deeds.{Store}
 use Rattle.mk_world.specs.History.{State as Stand, MayAll as MayHappen, after_all as stand_after, contents, first_state, state_of}
 use Rattle.mk_world.specs.Lawful.{IsLawful}
-use Rattle.mk_world.specs.Looks.{Seen}
 use Rattle.mk_world.specs.Talks.{Meaning}
 use Rattle.mk_world.specs.declared.command.Task.{Task}
-use Rattle.mk_world.specs.declared.command.TaskLine.{TaskLine}
 use Rattle.mk_world.specs.declared.history.History.{History}
 use Rattle.mk_world.specs.declared.step.Deed.{Deed}
 use Rattle.mk_trace.specs.Items.{path_of}
@@ -274,39 +269,53 @@ module _ (meaning : Meaning) (work : Work) (tasks : run.Tasks) (old : History)
       )
   full-step done rest build stand turns clean (refuses n number what) is good each makes may fits none sound =
       let now = item-turns meaning work tasks entry idle well done build stand turns clean
-      (refuses n number what) good makes may fits none sound tt in
-      (now, decided-on meaning work tasks entry idle well declared mode.no_meta_names done build stand turns
-      clean (refuses n number what) good each makes none sound (λ m seen same. absurd cc) now)
+      (refuses n number what) good makes may fits none sound tt in (
+        now,
+        decided-on meaning work tasks entry idle well declared mode.no_meta_names done build stand turns
+            clean (refuses n number what) good each makes none sound (λ m seen same. absurd cc) now,
+      )
   full-step done rest build stand turns clean (starts n number ticket owner cmd) is good each makes may fits none sound =
       let now = item-turns meaning work tasks entry idle well done build stand turns clean
-      (starts n number ticket owner cmd) good makes may fits none sound tt in
-      (now, decided-on meaning work tasks entry idle well declared mode.no_meta_names done build stand turns
-      clean (starts n number ticket owner cmd) good each makes none sound (λ m seen same. absurd cc) now)
+      (starts n number ticket owner cmd) good makes may fits none sound tt in (
+        now,
+        decided-on meaning work tasks entry idle well declared mode.no_meta_names done build stand turns
+            clean (starts n number ticket owner cmd) good each makes none sound (λ m seen same. absurd cc) now,
+      )
   full-step done rest build stand turns clean (passes n number) is good each makes may fits none sound =
       let now = item-turns meaning work tasks entry idle well done build stand turns clean
-      (passes n number) good makes may fits none sound tt in
-      (now, decided-on meaning work tasks entry idle well declared mode.no_meta_names done build stand turns
-      clean (passes n number) good each makes none sound (λ m seen same. absurd cc) now)
+      (passes n number) good makes may fits none sound tt in (
+        now,
+        decided-on meaning work tasks entry idle well declared mode.no_meta_names done build stand turns
+            clean (passes n number) good each makes none sound (λ m seen same. absurd cc) now,
+      )
   full-step done rest build stand turns clean waits is good each makes may fits none sound =
       let now = item-turns meaning work tasks entry idle well done build stand turns clean
-      waits good makes may fits none sound tt in
-      (now, decided-on meaning work tasks entry idle well declared mode.no_meta_names done build stand turns
-      clean waits good each makes none sound (λ m seen same. absurd cc) now)
+      waits good makes may fits none sound tt in (
+        now,
+        decided-on meaning work tasks entry idle well declared mode.no_meta_names done build stand turns
+            clean waits good each makes none sound (λ m seen same. absurd cc) now,
+      )
   full-step done rest build stand turns clean (steps ticket owner deed time) is good each makes may fits none sound =
       let now = item-turns meaning work tasks entry idle well done build stand turns clean
-      (steps ticket owner deed time) good makes may fits none sound tt in
-      (now, decided-on meaning work tasks entry idle well declared mode.no_meta_names done build stand turns
-      clean (steps ticket owner deed time) good each makes none sound (λ m seen same. absurd cc) now)
+      (steps ticket owner deed time) good makes may fits none sound tt in (
+        now,
+        decided-on meaning work tasks entry idle well declared mode.no_meta_names done build stand turns
+            clean (steps ticket owner deed time) good each makes none sound (λ m seen same. absurd cc) now,
+      )
   full-step done rest build stand turns clean (ends n number owner ended) is good each makes may fits none sound =
       let now = item-turns meaning work tasks entry idle well done build stand turns clean
-      (ends n number owner ended) good makes may fits none sound tt in
-      (now, decided-on meaning work tasks entry idle well declared mode.no_meta_names done build stand turns
-      clean (ends n number owner ended) good each makes none sound (λ m seen same. absurd cc) now)
+      (ends n number owner ended) good makes may fits none sound tt in (
+        now,
+        decided-on meaning work tasks entry idle well declared mode.no_meta_names done build stand turns
+            clean (ends n number owner ended) good each makes none sound (λ m seen same. absurd cc) now,
+      )
   full-step done rest build stand turns clean (changes n change) is good each makes may fits none sound =
       let now = item-turns meaning work tasks entry idle well done build stand turns clean
-      (changes n change) good makes may fits none sound tt in
-      (now, decided-on meaning work tasks entry idle well declared mode.no_meta_names done build stand turns
-      clean (changes n change) good each makes none sound (λ m seen same. absurd cc) now)
+      (changes n change) good makes may fits none sound tt in (
+        now,
+        decided-on meaning work tasks entry idle well declared mode.no_meta_names done build stand turns
+            clean (changes n change) good each makes none sound (λ m seen same. absurd cc) now,
+      )
   full-step done rest build stand turns clean (leaves ticket owner) is good each makes may fits none sound =
       absurd none
 

@@ -1,47 +1,41 @@
 -- A build beside its turns, item after item.
-use Rattle.std.proofs.Common.{◌≡◌, ◌≢◌, ◌∙◌, ◌⊎◌, ℕ, zero, suc, ◌+◌, ◌<◌, ◌==◌, ◌&&◌, ◌||◌, not, nat_le, List, [], ◌∷◌, ◌++◌, length, map, set, slice_get, Option, Some, None, Bool, true, false, if◌then◌else◌}
-use Rattle.std.proofs.Common.{inl, inr, refl, sym, ap, subst, arith}
-use Rattle.std.proofs.lemmas.Bool.{cases_eq}
+use Rattle.std.proofs.Common.{◌≡◌, ◌∙◌, ℕ, zero, suc, ◌+◌, ◌<◌, ◌&&◌, ◌||◌, not, nat_le, List, [], ◌∷◌, ◌++◌, length, map, slice_get, Option, Some, None, Bool, true, false, if◌then◌else◌}
+use Rattle.std.proofs.Common.{refl, sym, ap, subst, arith}
 use Rattle.std.specs.List.{list_any}
-use Rattle.mk_clean.specs.Clean.{DependsOn, Plan}
+use Rattle.mk_clean.specs.Clean.{Plan}
 use Rattle.mk_clean.specs.Turns as turn
-use Rattle.mk_clean.specs.Turns.{waiting, settled, Turn, after_turns, SourcesSettled, MayTurns}
-use Rattle.mk_decision.specs.Decisions.{Work, IsKept, IsBegun, newer_of, setting_by}
+use Rattle.mk_clean.specs.Turns.{waiting, Turn, after_turns, SourcesSettled, MayTurns}
+use Rattle.mk_decision.specs.Decisions.{Work, IsBegun, newer_of, setting_by}
 use Rattle.mk_expand.specs.declared.facts.Asked.{Asked}
-use Rattle.mk_headline.proofs.PastLemmas.{none-first, Past, past-more, together, sources-settled}
+use Rattle.mk_headline.proofs.PastLemmas.{Past, past-more, together, sources-settled}
 use Rattle.mk_headline.proofs.PlanLemmas.{job-among}
 use Rattle.mk_headline.proofs.StageLemmas.{FitsNode, may-append, after-append, ready}
-use Rattle.mk_headline.proofs.TurnLemmas.{none_failed-set, Turning, look-passed, kept, waited, started, passed, taken, stepped-on, changed-by}
+use Rattle.mk_headline.proofs.TurnLemmas.{none_failed-set, Turning, waited, started, passed, taken, stepped-on, changed-by}
 use Rattle.mk_headline.specs.Plans.{clean_plan, has_job}
 use Rattle.mk_headline.specs.Premises.{IsWellMade}
-use Rattle.mk_headline.specs.Turned.{AreTurned}
 use Rattle.mk_plan.specs.Deciding.{is_failed, is_stopped}
 use Rattle.mk_plan.specs.Lists.{is_nil}
 use Rattle.mk_plan.specs.Plans.{node_at}
 use Rattle.mk_plan.specs.Tasks.{Setting, lines_from, locals_of, manner_of, task_with}
 use Rattle.mk_plan.specs.declared.plan.NodeState.{NodeState}
-use Rattle.mk_plan.specs.declared.plan.NodeState.TheVariants.{Undecided, Open, Settled, Failed}
+use Rattle.mk_plan.specs.declared.plan.NodeState.TheVariants.{Undecided, Open, Settled}
 use Rattle.mk_plan.specs.declared.tasks.Manner.{Manner}
 use Rattle.mk_expand.specs.declared.local.Locals.{Locals}
 use Rattle.mk_bytes.specs.Agrees.{◌>>=◌}
 use Rattle.mk_trace.proofs.BegunLemmas.{may-undecided, Steady, steady-all}
-use Rattle.mk_trace.proofs.ItemLemmas.{happened_all-append}
 use Rattle.mk_trace.proofs.TrueRuns.{ended_run, IsFree, free-ended}
-use Rattle.mk_trace.specs.Builds.{Build, Own, Duty, free, remove, begin, date, close, stop, Makes, MayMake, IsCommandOf, first_build, build_after, build_after_all, rules_of, behind_look, behind_end, closing, or_next}
+use Rattle.mk_trace.specs.Builds.{Build, Duty, free, remove, begin, date, close, stop, Makes, MayMake, IsCommandOf, first_build, build_after, build_after_all, rules_of, behind_look, behind_end, or_next}
 use Rattle.mk_trace.specs.Calls.{NoneLeft}
 use Rattle.mk_trace.specs.Collected.{has_meta}
 use Rattle.mk_trace.specs.declared.result.Failure.{Failure}
-use Rattle.mk_trace.specs.Items.{Change, gone, head, whole, cut_head, cut_whole, Item, looks, keeps, refuses, starts, passes, waits, steps, ends, changes, leaves, reported, happened, happened_all, Fits, FitsAll}
+use Rattle.mk_trace.specs.Items.{gone, head, whole, cut_head, cut_whole, Item, looks, keeps, refuses, starts, passes, waits, steps, ends, changes, leaves, reported, happened, Fits}
 use Rattle.mk_trace.specs.Runs as run
-use Rattle.mk_world.proofs.CallLemmas.{after_all-append, MayAll-parts}
-use Rattle.mk_world.specs.Deeds.{Store}
 use Rattle.mk_world.specs.History.{State as Stand, MayAll as MayHappen, after_all as stand_after, contents}
 use Rattle.mk_world.specs.Looks.{Seen}
 use Rattle.mk_world.specs.Talks.{Meaning}
 use Rattle.mk_world.specs.declared.command.Cmd.{Cmd}
 use Rattle.mk_world.specs.declared.command.Task.{Task}
 use Rattle.mk_world.specs.declared.command.TaskLine.{TaskLine}
-use Rattle.mk_world.specs.declared.step.Ended.{Ended}
 use Rattle.std.specs.Prelude.{Result, Ok, Err}
 
 -- a node that begins has commands

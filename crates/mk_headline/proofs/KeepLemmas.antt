@@ -1,10 +1,9 @@
 -- A node that is kept by the test may be kept.
-use Rattle.std.proofs.Common.{◌≡◌, ◌≢◌, ◌∙◌, ◌⊎◌, ℕ, zero, suc, ◌<◌, ◌&&◌, ◌||◌, not, List, [], ◌∷◌, ◌++◌, length, map, Option, Some, None, Bool, true, false, if◌then◌else◌}
+use Rattle.std.proofs.Common.{◌≡◌, ◌∙◌, ◌⊎◌, ℕ, zero, suc, ◌&&◌, ◌||◌, not, List, [], ◌∷◌, ◌++◌, map, Option, Some, None, Bool, true, false, if◌then◌else◌}
 use Rattle.std.proofs.Common.{inl, inr, refl, sym, ap, subst, arith, append_assoc}
-use Rattle.std.proofs.lemmas.Bool.{false≢true}
 use Rattle.std.proofs.lemmas.List.{append-nil, map-append}
 use Rattle.std.proofs.lemmas.List.Elements.{recursion_from_All}
-use Rattle.std.specs.List.{All, AllByRecursion, Contains}
+use Rattle.std.specs.List.{AllByRecursion, Contains}
 use Rattle.std.specs.Option.{option_or}
 use Rattle.std.specs.Prelude.{Result, Ok, Err, unwrap_or}
 use Rattle.std.specs.Str.{bytes_eq}
@@ -16,12 +15,12 @@ use Rattle.mk_clean.specs.Clean.{Plan}
 use Rattle.mk_clean.specs.Kept.{until, seen_at}
 use Rattle.mk_clean.specs.Tested.{HasTask}
 use Rattle.mk_clean.specs.Turns as turn
-use Rattle.mk_clean.specs.Turns.{MayKeep, seen_by}
+use Rattle.mk_clean.specs.Turns.{MayKeep}
 use Rattle.mk_decision.specs.Ages.{source_ages}
-use Rattle.mk_decision.specs.Decisions.{Work, IsJudged, asked_task, mode_at, newer_of, setting_by}
+use Rattle.mk_decision.specs.Decisions.{Work, IsJudged, mode_at, newer_of, setting_by}
 use Rattle.mk_decision.specs.Decisions as decide
-use Rattle.mk_decision.specs.Metas.{AreOf, IsValueOf, MetaSight, PathTimes, no_paths, paths_in, times_in, path_looks, file_looks, meta_looks, records_in}
-use Rattle.mk_decision.specs.Reasons.{IsMetaSight, by_file, first_times, reason, records_asked, times_by, with_paths}
+use Rattle.mk_decision.specs.Metas.{AreOf, IsValueOf, MetaSight, paths_in, times_in, path_looks, meta_looks, records_in}
+use Rattle.mk_decision.specs.Reasons.{IsMetaSight, by_file, reason, records_asked, times_by}
 use Rattle.mk_decision.specs.Sights.{look_at, looks_of, seen_of}
 use Rattle.mk_decision.specs.declared.sight.Sighting.{Sighting}
 use Rattle.mk_expand.specs.declared.facts.Asked.{Asked}
@@ -42,22 +41,20 @@ use Rattle.mk_meta.specs.TrueHistory.{IsTrue, NoneChanges, meta_path}
 use Rattle.mk_meta.specs.declared.meta.Meta.{Meta}
 use Rattle.mk_oodate.proofs.FreshLemmas.{no_reason_is_fresh}
 use Rattle.mk_oodate.specs.Fresh.{GoesByRecords, IsBefore, IsFresh, IsOlderThan}
-use Rattle.mk_oodate.specs.Lists.{read_paths, missed_paths}
-use Rattle.mk_oodate.specs.Stale.{at_first, by_contents, by_meta, by_records, given, is_changed, is_newer, is_older, is_same, stale}
+use Rattle.mk_oodate.specs.Stale.{at_first, by_contents, by_meta, by_records, given, is_newer, is_older, is_same, stale}
 use Rattle.mk_oodate.specs.declared.reason.Age.{Age}
 use Rattle.mk_oodate.specs.declared.reason.NodeMode.{NodeMode}
 use Rattle.mk_oodate.specs.declared.reason.Times.{Times}
 use Rattle.mk_oodate.specs.declared.reason.Why.{Why}
 use Rattle.mk_oodate.specs.declared.reason.Why.TheVariants as why
 use Rattle.mk_plan.specs.Plans.{node_at}
-use Rattle.mk_plan.specs.Tasks.{Setting, lines_from, locals_of, manner_of, task_with}
+use Rattle.mk_plan.specs.Tasks.{lines_from, locals_of, manner_of, task_with}
 use Rattle.mk_plan.specs.declared.plan.PlanNode.{PlanNode}
-use Rattle.mk_scopes.specs.Scopes.{Variables}
 use Rattle.mk_trace.specs.Items.{Item, looks, happened, happened_all, path_of, IsSeenIn, FitsAll}
-use Rattle.mk_world.proofs.CallLemmas.{after_all-append, MayAll-append, MayAll-parts}
+use Rattle.mk_world.proofs.CallLemmas.{after_all-append, MayAll-parts}
 use Rattle.mk_world.specs.Calls.{when_of}
 use Rattle.mk_world.specs.Deeds.{Store}
-use Rattle.mk_world.specs.History.{State as Stand, Filed, FileMap, MayAll, after, after_all, contents, effects, filed, first_state}
+use Rattle.mk_world.specs.History.{State as Stand, Filed, MayAll, after, after_all, contents, effects, first_state}
 use Rattle.mk_world.specs.Looks.{Dated, Seen, dated, is_missing, read}
 use Rattle.mk_world.specs.Outer.{or_stood}
 use Rattle.mk_world.specs.Talks.{Meaning, NextOf}

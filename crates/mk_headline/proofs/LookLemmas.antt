@@ -1,17 +1,16 @@
 -- Looks for a decision, and what the first at each path saw.
-use Rattle.std.proofs.Common.{◌≡◌, ◌≢◌, ◌∙◌, ◌⊎◌, ℕ, ◌==◌, ◌||◌, List, [], ◌∷◌, ◌++◌, Option, Some, None, Bool, true, false, if◌then◌else◌}
+use Rattle.std.proofs.Common.{◌≡◌, ◌≢◌, ◌∙◌, ◌⊎◌, ℕ, ◌||◌, List, [], ◌∷◌, ◌++◌, Option, Some, None, Bool, true, false, if◌then◌else◌}
 use Rattle.std.proofs.Common.{inl, inr, refl, sym, ap, subst, append_assoc}
-use Rattle.std.proofs.lemmas.Bool.{cond_both, false≢true}
+use Rattle.std.proofs.lemmas.Bool.{false≢true}
 use Rattle.std.proofs.lemmas.Slice.Eq.{bytes_eq-Decides}
 use Rattle.std.specs.List.{list_any}
 use Rattle.std.specs.Str.{bytes_eq}
 use Rattle.mk_clean.proofs.WalkLemmas.{left_alone}
-use Rattle.mk_filemon.proofs.PathLemmas.{bytes_eq-same}
 use Rattle.mk_meta.specs.TrueHistory.{LeavesAlone}
 use Rattle.mk_trace.specs.Items.{Item, looks, keeps, refuses, starts, passes, waits, steps, ends, changes, leaves, path_of, happened, happened_all, IsSeenIn, FitsAll}
 use Rattle.mk_world.proofs.CallLemmas.{after_all-append}
 use Rattle.mk_world.specs.Calls.{when_of}
-use Rattle.mk_world.specs.Deeds.{Store, changes as changes_of}
+use Rattle.mk_world.specs.Deeds.{changes as changes_of}
 use Rattle.mk_world.specs.History.{State as Stand, Filed, after_all as stand_after, at_time, contents}
 use Rattle.mk_world.specs.Looks.{Seen, dated, read}
 use Rattle.mk_world.specs.Outer.{or_stood}

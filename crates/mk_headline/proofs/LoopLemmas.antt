@@ -1,7 +1,6 @@
 -- A whole build beside its turns.
 use Rattle.std.proofs.Common.{◌≡◌, ◌∙◌, ℕ, List, [], ◌∷◌, ◌++◌, slice_get, Some, None}
-use Rattle.std.proofs.Common.{refl, sym, ap, subst, append_assoc}
-use Rattle.std.proofs.lemmas.List.{append-nil}
+use Rattle.std.proofs.Common.{refl, sym, ap, append_assoc}
 use Rattle.mk_clean.specs.Clean.{Plan}
 use Rattle.mk_clean.specs.Turns as turn
 use Rattle.mk_clean.specs.Turns.{settled, Turn, after_turns, MayTurns}

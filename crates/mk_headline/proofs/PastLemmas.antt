@@ -1,12 +1,10 @@
 -- How a build came to stand so, and what is settled in it.
-use Rattle.std.proofs.Common.{◌≡◌, ◌≢◌, ◌∙◌, ℕ, zero, suc, ◌<◌, List, [], ◌∷◌, ◌++◌, length, map, get_or, set, slice_get, Option, Some, None}
+use Rattle.std.proofs.Common.{◌≡◌, ◌≢◌, ◌∙◌, ℕ, zero, suc, List, [], ◌∷◌, ◌++◌, get_or, set, slice_get, Some}
 use Rattle.std.proofs.Common.{refl, sym, ap, subst, arith}
 use Rattle.std.proofs.lemmas.List.{append-nil, get_or-set_same, get_or-set_other}
 use Rattle.std.proofs.lemmas.Option.{slice_get_within}
 use Rattle.mk_clean.specs.Clean.{DependsOn}
 use Rattle.mk_decision.specs.Decisions.{Work}
-use Rattle.mk_graph.specs.Closed.{Reaches}
-use Rattle.mk_graph.specs.Walks.{preds_of}
 use Rattle.mk_headline.proofs.PlanLemmas.{depends-reaches, depends-less}
 use Rattle.mk_headline.specs.Plans.{clean_plan}
 use Rattle.mk_headline.specs.Premises.{IsWellMade}

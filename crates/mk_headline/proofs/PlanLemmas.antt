@@ -1,13 +1,11 @@
 -- What the plan of a build is for the clean build.
-use Rattle.std.proofs.Common.{◌≡◌, ◌≢◌, ◌∙◌, ◌⊎◌, ℕ, zero, suc, ◌+◌, ◌<◌, ◌≤◌, ◌==◌, ◌&&◌, ◌||◌, not, nat_lt, nat_eq, List, [], ◌∷◌, ◌++◌, length, map, get_or, codes, Bool, true, false, if◌then◌else◌}
+use Rattle.std.proofs.Common.{◌≡◌, ◌≢◌, ◌∙◌, ◌⊎◌, ℕ, zero, suc, ◌+◌, ◌<◌, ◌≤◌, ◌&&◌, ◌||◌, nat_lt, nat_eq, List, [], ◌∷◌, length, get_or, Bool, true, false}
 use Rattle.std.proofs.Common.{inl, inr, refl, sym, ap, subst, arith, eqb-true}
 use Rattle.std.proofs.lemmas.Bool.{cases_eq, cond_both, false≢true, or_cases, ltb-true}
 use Rattle.std.proofs.lemmas.Bool.Decides.{nat_tests}
 use Rattle.std.proofs.lemmas.Grind.{common_steps}
 use Rattle.std.proofs.lemmas.List.{get_or-map}
-use Rattle.std.proofs.lemmas.Slice.Eq.{bytes_eq-Decides}
-use Rattle.std.specs.List.{All, AllPairs, list_any, list_all}
-use Rattle.std.specs.Str.{bytes_eq}
+use Rattle.std.specs.List.{list_any, list_all}
 use Rattle.mk_clean.specs.Clean.{CleanJob, DependsOn, source, through, IsAmong, StandsBefore, clean_jobs, after_job, clean_build, cleared}
 use Rattle.mk_clean.specs.Clean as clean
 use Rattle.mk_clean.specs.Declared.{AreDistinct}
@@ -15,13 +13,12 @@ use Rattle.mk_decision.specs.Decisions.{Work}
 use Rattle.mk_filemon.proofs.PathLemmas.{bytes_eq-same}
 use Rattle.mk_graph.specs.Closed.{Reaches, given, behind}
 use Rattle.mk_graph.specs.Walks.{is_among, preds_of}
-use Rattle.mk_headline.specs.Plans.{has_job, makes_file, is_called, is_meta_path, jobs_from, clean_plan}
+use Rattle.mk_headline.specs.Plans.{has_job, is_called, is_meta_path, jobs_from, clean_plan}
 use Rattle.mk_headline.specs.Premises.{IsWellMade}
 use Rattle.mk_meta.specs.TrueHistory.{meta_path}
 use Rattle.mk_plan.specs.PlanLaws.{plan_names}
 use Rattle.mk_plan.specs.Plans.{is_behind, are_ordered, are_sourced, has_its_sources, no_node, node_at}
 use Rattle.mk_plan.specs.declared.plan.PlanNode.{PlanNode}
-use Rattle.mk_pool.specs.Pool as pool
 use Rattle.mk_sched.proofs.StartLemmas.{predecessors-at}
 use Rattle.mk_sched.specs.Schedule.{predecessors}
 use Rattle.mk_trace.specs.Runs.{Tasks}

@@ -1,26 +1,24 @@
 -- How far each node is in a build, and in the turns beside it.
-use Rattle.std.proofs.Common.{◌≡◌, ◌≢◌, ◌∙◌, ◌⊎◌, ℕ, zero, suc, ◌+◌, ◌-◌, ◌<◌, ◌≤◌, ◌==◌, ◌&&◌, ◌||◌, not, nat_le, List, [], ◌∷◌, ◌++◌, length, map, drop, set, slice_get, Option, Some, None, Bool, true, false, cond, if◌then◌else◌}
-use Rattle.std.proofs.Common.{inl, inr, refl, sym, ap, subst, arith, eq-eqb, ne_eqb}
-use Rattle.std.proofs.lemmas.Bool.{cases_eq}
+use Rattle.std.proofs.Common.{◌≡◌, ◌≢◌, ◌∙◌, ℕ, zero, suc, ◌+◌, ◌<◌, ◌≤◌, ◌==◌, List, [], ◌∷◌, ◌++◌, length, map, drop, slice_get, Option, Some, Bool, true, false, if◌then◌else◌}
+use Rattle.std.proofs.Common.{refl, sym, ap, subst, arith, eq-eqb, ne_eqb}
 use Rattle.std.proofs.lemmas.List.{drop_all}
 use Rattle.mk_clean.proofs.BesideLemmas.{stage_other, stage_own}
 use Rattle.mk_clean.specs.Clean.{IsAmong, Plan}
 use Rattle.mk_clean.specs.Turns as turn
-use Rattle.mk_clean.specs.Turns.{Stage, waiting, between, inside, settled, Turn, after_turn, after_turns, with_stage, SourcesSettled, MayTurn, MayTurns}
+use Rattle.mk_clean.specs.Turns.{Stage, waiting, between, inside, settled, Turn, after_turn, after_turns, with_stage, SourcesSettled, MayTurns}
 use Rattle.mk_decision.specs.Decisions.{Work}
 use Rattle.mk_headline.specs.Plans.{clean_plan, has_job, lines_of}
 use Rattle.mk_headline.specs.Turned.{begun_by}
 use Rattle.mk_meta.specs.Jobs.{is_empty, working}
-use Rattle.mk_plan.specs.Deciding.{Rules}
 use Rattle.mk_plan.specs.Plans.{node_at}
 use Rattle.mk_plan.specs.declared.plan.NodeState.{NodeState}
 use Rattle.mk_plan.specs.declared.plan.NodeState.TheVariants.{Undecided, Open, Settled, Failed}
-use Rattle.mk_trace.proofs.BegunLemmas.{may-undecided, Steady, start-within}
-use Rattle.mk_trace.proofs.TrueRuns.{slice-other, slice-same, not-due, ended_run, ended-open, ended-started, ended-line}
-use Rattle.mk_trace.specs.Builds.{Own, IsCommandOf, command_of, rules_of, with_ticket}
+use Rattle.mk_trace.proofs.BegunLemmas.{may-undecided}
+use Rattle.mk_trace.proofs.TrueRuns.{slice-other, not-due, ended_run, ended-open, ended-started, ended-line}
+use Rattle.mk_trace.specs.Builds.{Own, command_of, rules_of, with_ticket}
 use Rattle.mk_trace.specs.Runs as run
 use Rattle.mk_trace.specs.Together.{HasChild, IsNotDue, AreTogether}
-use Rattle.mk_world.proofs.ChildLemmas.{child_in-front, child_in-last, child_in-other, child_in-without}
+use Rattle.mk_world.proofs.ChildLemmas.{child_in-front, child_in-other, child_in-without}
 use Rattle.mk_world.specs.History.{child_in, stepped, without_child}
 use Rattle.mk_world.specs.Talks.{Meaning, answer}
 use Rattle.mk_world.specs.declared.command.Cmd.{Cmd}

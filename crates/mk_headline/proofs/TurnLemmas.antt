@@ -1,40 +1,40 @@
 -- Each item of a build is lawful turns.
-use Rattle.std.proofs.Common.{◌≡◌, ◌≢◌, ◌∙◌, ◌⊎◌, ℕ, zero, suc, ◌+◌, ◌-◌, ◌<◌, ◌≤◌, ◌==◌, ◌&&◌, ◌||◌, not, nat_le, List, [], ◌∷◌, ◌++◌, length, map, drop, set, slice_get, Option, Some, None, Bool, true, false, if◌then◌else◌}
-use Rattle.std.proofs.Common.{inl, inr, refl, sym, ap, subst, arith, eq-eqb, eqb-true, ne_eqb, leb-true}
+use Rattle.std.proofs.Common.{◌≡◌, ◌≢◌, ◌∙◌, ℕ, zero, suc, ◌+◌, ◌-◌, ◌<◌, ◌==◌, ◌&&◌, ◌||◌, not, nat_le, List, [], ◌∷◌, ◌++◌, length, map, drop, set, slice_get, Option, Some, None, Bool, true, false, if◌then◌else◌}
+use Rattle.std.proofs.Common.{inl, inr, refl, sym, ap, subst, arith, eq-eqb, leb-true}
 use Rattle.std.proofs.lemmas.Bool.{cases_eq}
-use Rattle.std.proofs.lemmas.List.{append-nil, map-append}
+use Rattle.std.proofs.lemmas.List.{map-append}
 use Rattle.std.specs.List.{list_any}
-use Rattle.mk_clean.specs.Clean.{IsAmong, Plan}
+use Rattle.mk_clean.specs.Clean.{Plan}
 use Rattle.mk_clean.specs.Jobs.{goes_on}
 use Rattle.mk_clean.specs.Turns as turn
-use Rattle.mk_clean.specs.Turns.{Stage, waiting, between, inside, settled, Turn, after_turn, after_turns, with_stage, ended_with, HasEnded, MayStep, MayEndLine, SourcesSettled, MayTurn, MayTurns}
+use Rattle.mk_clean.specs.Turns.{Stage, waiting, between, inside, settled, Turn, after_turn, after_turns, with_stage, ended_with, MayStep, MayEndLine, SourcesSettled, MayTurns}
 use Rattle.mk_decision.specs.Decisions.{Work}
-use Rattle.mk_headline.proofs.PlanLemmas.{meta_path-is, job-among}
-use Rattle.mk_headline.proofs.StageLemmas.{working-line, working-empty, working-past, InLine, FitsNode, Quiet, fits-quiet, quiet-same, quiet-settled, quiet-waits, quiet-starts, quiet-passes, quiet-ends, quiet-steps, may-append, after-append, own-stage, other-stage, Ready, ready}
-use Rattle.mk_headline.specs.Plans.{clean_plan, has_job, is_meta_path}
+use Rattle.mk_headline.proofs.PlanLemmas.{meta_path-is}
+use Rattle.mk_headline.proofs.StageLemmas.{working-line, working-empty, working-past, InLine, FitsNode, fits-quiet, quiet-same, quiet-settled, quiet-waits, quiet-starts, quiet-passes, quiet-ends, quiet-steps, may-append, after-append, own-stage, other-stage, Ready}
+use Rattle.mk_headline.specs.Plans.{clean_plan, is_meta_path}
 use Rattle.mk_headline.specs.Turned.{begun_by, settled_by, put_by, IsTurned}
 use Rattle.mk_meta.specs.Jobs.{is_empty, working}
 use Rattle.mk_meta.specs.TrueHistory.{meta_path}
 use Rattle.mk_plan.specs.Deciding.{Rules, is_failed, is_stopped}
 use Rattle.mk_plan.specs.Plans.{node_at}
 use Rattle.mk_plan.specs.declared.plan.NodeState.{NodeState}
-use Rattle.mk_plan.specs.declared.plan.NodeState.TheVariants.{Undecided, Open, Settled, Failed}
-use Rattle.mk_trace.proofs.BegunLemmas.{may-undecided, Steady, start-within}
+use Rattle.mk_plan.specs.declared.plan.NodeState.TheVariants.{Undecided, Open, Settled}
+use Rattle.mk_trace.proofs.BegunLemmas.{Steady, start-within}
 use Rattle.mk_trace.proofs.TrueChildren.{child_in-contains, step-child, end-child}
-use Rattle.mk_trace.proofs.TrueRuns.{slice-other, slice-same, ended_run, IsFree, taken-due}
-use Rattle.mk_trace.specs.Builds.{Build, Own, remove, MayMake, MayFollow, MayChange, IsCommandOf, IsHead, IsWhole, command_of, build_after, rules_of, own_changed, with_collected, with_ticket}
+use Rattle.mk_trace.proofs.TrueRuns.{slice-same, ended_run, IsFree, taken-due}
+use Rattle.mk_trace.specs.Builds.{Build, Own, remove, MayFollow, MayChange, IsCommandOf, command_of, build_after, rules_of, own_changed, with_collected, with_ticket}
 use Rattle.mk_trace.specs.Collected.{with_end}
 use Rattle.mk_trace.specs.declared.collected.Collected.{Collected}
-use Rattle.mk_trace.specs.Items.{Change, gone, head, whole, cut_head, cut_whole, changed, Item, looks, keeps, refuses, starts, passes, waits, steps, ends, changes, leaves, path_of, happened, reported, Fits}
+use Rattle.mk_trace.specs.Items.{Change, gone, head, whole, cut_head, cut_whole, Item, looks, keeps, starts, passes, waits, steps, ends, changes, path_of, happened, reported, Fits}
 use Rattle.mk_trace.specs.Runs as run
 use Rattle.mk_trace.specs.Together.{HasChild, IsNotDue, AreTogether}
 use Rattle.mk_world.proofs.ChangeLemmas.{contents-effected_all}
 use Rattle.mk_world.proofs.ChildLemmas.{child_in-last, child_in-stepped, child_in-ticket}
 use Rattle.mk_world.specs.Calls.{EndsAs}
-use Rattle.mk_world.specs.Deeds.{Store, Spot, IsRight, changes as changes_of, put, put_all, after_deed}
+use Rattle.mk_world.specs.Deeds.{Store, IsRight, changes as changes_of, put, put_all}
 use Rattle.mk_world.specs.History.{State as Stand, MayAll as MayHappen, after_all as stand_after, FileMap, at_time, effected_all, contents, child_in, IsStep}
 use Rattle.mk_world.specs.Looks.{Seen}
-use Rattle.mk_world.specs.Talks.{Meaning, NextOf, answer}
+use Rattle.mk_world.specs.Talks.{Meaning, answer}
 use Rattle.mk_world.specs.declared.command.Cmd.{Cmd}
 use Rattle.mk_world.specs.declared.command.TaskLine.{TaskLine}
 use Rattle.mk_world.specs.declared.history.Child.{Child}
@@ -216,9 +216,10 @@ module _ (meaning : Meaning) (work : Work) (tasks : run.Tasks) where
   started build stand clean n number ticket owner cmd files nodes together may is none begun = record {
     now = begun_by n number ++ turn.starts_line n ∷ [];
     turned = refl;
-    may = may-append meaning work tasks clean (begun_by n number) (turn.starts_line n ∷ []) begun.may
-        ((begun.deeds, line.0, working (drop (begun.place + 1) (tasks n)), begun.stage_is ∙ ap (λ l. between begun.deeds l) lines),
-        tt);
+    may = may-append meaning work tasks clean (begun_by n number) (turn.starts_line n ∷ []) begun.may (
+      (begun.deeds, line.0, working (drop (begun.place + 1) (tasks n)), begun.stage_is ∙ ap (λ l. between begun.deeds l) lines),
+      tt,
+    );
     files = files ∙ (sym begun.files
         ∙ sym (ap (λ (c : turn.Build). c.files) behind));
     nodes = each-node n _ mine
@@ -543,16 +544,15 @@ module _ (meaning : Meaning) (work : Work) (tasks : run.Tasks) where
     now = turn.steps n deed ∷ [];
     turned = (n, has, mine_is, refl);
     may = (
-      subst (MayStep meaning.next plan clean.files deed) (sym line.stage_is)
-          (
-            subst (λ store. IsRight store deed) files step.right,
-            record {
-              request = step.request;
-              stands = step.stands;
-              next_is = ap (λ c. meaning.next c (map answer child.0.deeds)) (sym line.cmd) ∙ step.asked;
-              deed_is = step.done;
-            },
-          ),
+      subst (MayStep meaning.next plan clean.files deed) (sym line.stage_is) (
+        subst (λ store. IsRight store deed) files step.right,
+        record {
+          request = step.request;
+          stands = step.stands;
+          next_is = ap (λ c. meaning.next c (map answer child.0.deeds)) (sym line.cmd) ∙ step.asked;
+          deed_is = step.done;
+        },
+      ),
       tt,
     );
     files = contents-effected_all stand.files (changes_of deed) time

@@ -1,5 +1,5 @@
 -- What a makefile, its options and its plan have to give.
-use Rattle.std.specs.Prelude.{◌≡◌, ℕ, true, false, List, []}
+use Rattle.std.specs.Prelude.{◌≡◌, ℕ, true, false, []}
 use Rattle.std.specs.List.{AllByRecursion}
 use Rattle.mk_decision.specs.Decisions.{Work, mode_at}
 use Rattle.mk_oodate.specs.Fresh.{GoesByRecords}

@@ -1,5 +1,5 @@
 -- A build as turns: what each item of it is beside the clean build.
-use Rattle.std.specs.Prelude.{◌≡◌, ◌⊎◌, ℕ, ◌==◌, nat_le, Bool, true, false, List, [], ◌∷◌, ◌++◌, length, Some, None, if◌then◌else◌}
+use Rattle.std.specs.Prelude.{◌≡◌, ◌⊎◌, ℕ, ◌==◌, nat_le, List, [], ◌∷◌, ◌++◌, length, Some, if◌then◌else◌}
 use Rattle.mk_clean.specs.Turns as turn
 use Rattle.mk_clean.specs.Turns.{Turn}
 use Rattle.mk_decision.specs.Decisions.{Work}
