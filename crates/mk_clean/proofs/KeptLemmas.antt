@@ -132,10 +132,11 @@ older-stood : (stamp : Time) (stood : Option Filed) (bytes : List ℕ) (time : W
 older-stood stamp None bytes time is less = subst (IsOlderThan stamp) is less
 older-stood stamp (Some file) bytes time is less = subst (IsOlderThan stamp) is less
 
-missing-stood : (stood : Option Filed) (time : When) → time ≡ when_of stood → time ≡ when.Missing
-    → stood ≡ None
-missing-stood None time is missing = refl
-missing-stood (Some file) time is missing = let clash = sym is ∙ missing in cc
+missing-stood : (stamp : ℕ) (stood : Option Filed) (time : When) → time ≡ when_of stood
+    → time ≡ when.Missing → FoundAt stood stamp None
+missing-stood stamp None time is missing = tt
+missing-stood stamp (Some file) time is missing =
+    let clash : when_of (Some file) ≡ when.Missing = sym is ∙ missing in absurd cc
 
 found-told : (seen : FileMap) (stamp : Time) (looks : Looks) (records : List Rec)
     → AreLooksAt seen looks → PathsAreFresh looks [] stamp records
@@ -152,7 +153,7 @@ found-told seen stamp looks records saws fresh path None told =
     (counted-all (outer_missed (ops_of records))) fresh.misses in
     let here = subst (λ p. (time : When) × Saw looks p time × (time ≡ when.Missing)) told.2
     (all told.0 path told.1) in
-    missing-stood (seen path) here.0 (saws path here.0 here.1) here.2
+    missing-stood stamp.0 (seen path) here.0 (saws path here.0 here.1) here.2
 
 -- lists of events
 
@@ -270,16 +271,17 @@ module _ (meaning : Meaning) (base : List File) (meta : Meta) (events : List Hap
       ≡ files_after (files_after stamped.files is.during) (put_part rest)
   now-put rest = now-is rest ∙ files_after-append stamped.files is.during (put_part rest)
 
-  pub present : (later : List ℕ → List Happening) (looks : Looks) (records : List Rec)
+  pub present : (later : List ℕ → List Happening) (records : List Rec)
       → ((path : List ℕ) → MayAll meaning start (until is (later path)))
-      → AreLooksAt (seen_at base is later) looks → meta.records ≡ Some records
+      → meta.records ≡ Some records
       → IsOlderThan (record { 0 = is.time }) (when_of (seen_at base is later meta.target))
-      → PathsAreFresh looks [] meta.stamp records
+      → ((path : List ℕ) (bytes : Option (List ℕ)) → IsToldBy (ops_of records) path bytes
+      → Found (seen_at base is later) meta.stamp.0 path bytes)
       → (job meaning (command_in meta) (working meta.lines) (contents (seen_at base is later)) ≡ is.doings)
       × ((stands : Option (List ℕ))
       → over_deeds nothing_over (deeds_of_job is.doings) meta.target ≡ Some stands
       → contents (seen_at base is later) meta.target ≡ stands)
-  present later looks records may saws recorded untouched fresh =
+  present later records may recorded untouched found =
       let seen = seen_at base is later in
       let deeds = deeds_of_job is.doings in
       let paths = meta.target ∷ changed_paths deeds in
@@ -293,8 +295,7 @@ module _ (meaning : Meaning) (base : List File) (meta : Meta) (events : List Hap
       let looked : EachLook (Found seen meta.stamp.0) nothing_over deeds =
       each-told (IsToldBy (map op_of deeds)) (Found seen meta.stamp.0)
       (λ path bytes one.
-      found-told seen meta.stamp looks records saws fresh path bytes
-      (subst (λ all. IsToldBy all path bytes) (sym ops) one))
+      found path bytes (subst (λ all. IsToldBy all path bytes) (sym ops) one))
       nothing_over deeds (tell_looks deeds) in
       let all = walk meta.stamp.0 paths seen stamped.files is.during (λ path. put_part (later path))
       (λ path. ap (λ files. files path) (sym (now-is (later path))))
@@ -320,4 +321,5 @@ module _ (meaning : Meaning) (base : List File) (meta : Meta) (events : List Hap
 
 pub kept_stands : KeptTargetsStand
 kept_stands meaning base meta events is later looks records may saws recorded untouched fresh =
-    present meaning base meta events is later looks records may saws recorded untouched fresh
+    present meaning base meta events is later records may recorded untouched
+    (found-told (seen_at base is later) meta.stamp looks records saws fresh)

@@ -1,28 +1,32 @@
 -- A node for which the test gives no reason may be kept.
-use Rattle.std.proofs.Common.{◌≡◌, ◌∙◌, List, [], ◌∷◌, not, Bool, true, false, if◌then◌else◌, Some, refl, sym, ap, ap₂, subst}
+use Rattle.std.proofs.Common.{◌≡◌, ◌∙◌, ℕ, List, [], ◌∷◌, not, Bool, true, false, if◌then◌else◌, Option, Some, refl, sym, ap, ap₂, subst}
 use Rattle.std.specs.List.{AllByRecursion, AllZip}
 use Rattle.mk_clean.proofs.KeptLemmas.{kept_stands, went_on}
-use Rattle.mk_clean.specs.Clean.{AllWell}
+use Rattle.mk_clean.specs.Clean.{AllWell, Plan}
 use Rattle.mk_clean.specs.Jobs.{goes_on, job}
 use Rattle.mk_clean.specs.Kept.{seen_at}
-use Rattle.mk_clean.specs.Tested.{NoReasonMayKeep}
-use Rattle.mk_clean.specs.Turns.{seen_by, doings_seen}
+use Rattle.mk_clean.specs.Tested.{NoReasonMayKeep, HasTask}
+use Rattle.mk_clean.specs.Turns.{Build, MayKeep, seen_by, doings_seen}
 use Rattle.mk_meta.specs.Jobs.{command_in, is_empty, working}
-use Rattle.mk_meta.specs.TrueHistory.{WentWell, deeds_of_job}
+use Rattle.mk_meta.specs.TrueHistory.{IsTrue, WentWell, deeds_of_job}
 use Rattle.mk_meta.specs.declared.meta.Meta.{Meta}
 use Rattle.mk_oodate.proofs.FreshLemmas.{no_reason_is_fresh, fresh_at_paths}
-use Rattle.mk_oodate.specs.Fresh.{AreTheSame, IsBefore, IsOlderThan}
+use Rattle.mk_oodate.specs.Fresh.{AreTheSame, IsBefore, IsFresh, IsOlderThan}
+use Rattle.mk_oodate.specs.declared.reason.Times.{Times}
 use Rattle.mk_world.specs.Deeds.{Store, after_deeds}
 use Rattle.mk_world.specs.History.{contents}
 use Rattle.mk_world.specs.Outer.{nothing_over, over_deeds}
 use Rattle.mk_world.specs.Talks.{NextOf, Meaning, Doing, does}
 use Rattle.mk_world.specs.declared.command.Cmd.{Cmd}
+use Rattle.mk_world.specs.declared.command.Task.{Task}
 use Rattle.mk_world.specs.declared.command.TaskLine.{TaskLine}
+use Rattle.mk_world.specs.declared.history.File.{File}
+use Rattle.mk_world.specs.declared.history.Happening.{Happening}
 use Rattle.mk_world.specs.declared.time.Time.{Time}
 use Rattle.mk_world.specs.declared.time.When.{When}
 use Rattle.mk_world.specs.declared.time.When.TheVariants as when
 
-before_older : (time : When) (stamp : Time) → IsBefore time (when.At stamp) → IsOlderThan stamp time
+pub before_older : (time : When) (stamp : Time) → IsBefore time (when.At stamp) → IsOlderThan stamp time
 before_older (when.At one) stamp before = before
 before_older when.Missing stamp before = absurd before
 before_older when.Unknown stamp before = absurd before
@@ -91,17 +95,19 @@ all_well next meta (line ∷ lines) [] well = absurd well
 all_well next meta (line ∷ lines) (doing ∷ doings) well =
     (went_on next meta line doing well.0, all_well next meta lines doings well.1)
 
-pub no_reason_may_keep : NoReasonMayKeep
-no_reason_may_keep meaning base meta events is plan build node task mode times has goes went none =
-    let fresh = no_reason_is_fresh meta task mode times goes none in
-    let seen = contents (seen_at base is went.later) in
-    let untouched : IsBefore times.target (when.At (record { 0 = is.time })) =
-    subst (IsBefore times.target) went.meta_file fresh.untouched in
-    let stands = kept_stands meaning base meta events is went.later went.looks went.records went.lawful
-    went.saw went.recorded
-    (subst (IsOlderThan (record { 0 = is.time })) went.target
-    (before_older times.target (record { 0 = is.time }) untouched))
-    (fresh_at_paths went.looks [] went.records meta task times went.times_are fresh) in
+-- By looks that saw each recorded path as the job of a fresh target left it, its node may be kept.
+pub fresh_may_keep : (meaning : Meaning) (base : List File) (meta : Meta) (events : List Happening)
+    (is : IsTrue meaning.next meta events) (plan : Plan) (build : Build) (node : ℕ) (task : Task)
+    (times : Times) → HasTask plan node task → IsFresh meta task times
+    → (later : List ℕ → List Happening)
+    → ((path : List ℕ) → (contents (seen_at base is later) path ≡ seen_by build node path))
+    → (job meaning (command_in meta) (working meta.lines) (contents (seen_at base is later)) ≡ is.doings)
+    → ((stands : Option (List ℕ))
+    → over_deeds nothing_over (deeds_of_job is.doings) meta.target ≡ Some stands
+    → contents (seen_at base is later) meta.target ≡ stands)
+    → MayKeep meaning plan build node
+fresh_may_keep meaning base meta events is plan build node task times has fresh later files_are job_is stands =
+    let seen = contents (seen_at base is later) in
     let alike = working_alike task.lines meta.lines has.compared fresh.lines in
     let on_seen : doings_seen meaning plan build node
     ≡ job meaning plan.command (working task.lines) (seen_by build node) =
@@ -112,10 +118,10 @@ no_reason_may_keep meaning base meta events is plan build node task mode times h
     (seen_by build node)
     (λ line other same. has.command line
     ∙ (λ i. record { text = same.text i; cwd = fresh.directory i; exports = fresh.exports i })) alike in
-    let files : seen_by build node ≡ seen = λ i path. went.files_are path i in
+    let files : seen_by build node ≡ seen = λ i path. sym (files_are path) i in
     let same : doings_seen meaning plan build node ≡ is.doings =
     on_seen
-    ∙ (by_meta ∙ (ap (job meaning (command_in meta) (working meta.lines)) files ∙ stands.0)) in
+    ∙ (by_meta ∙ (ap (job meaning (command_in meta) (working meta.lines)) files ∙ job_is)) in
     let name : (plan.node node).name ≡ meta.target = has.name ∙ sym fresh.target in
     record {
       well = subst (λ lines. AllWell lines (doings_seen meaning plan build node)) (sym has.lines)
@@ -124,9 +130,22 @@ no_reason_may_keep meaning base meta events is plan build node task mode times h
           (all_well meaning.next meta (working meta.lines) is.doings is.well)));
       stands = λ bytes over.
           ap (seen_by build node) name
-          ∙ (went.files_are meta.target
-          ∙ stands.1 bytes
+          ∙ (sym (files_are meta.target)
+          ∙ stands bytes
           (subst (λ deeds. over_deeds nothing_over (deeds_of_job deeds) meta.target ≡ Some bytes) same
           (subst (λ path. over_deeds nothing_over (deeds_of_job (doings_seen meaning plan build node)) path
           ≡ Some bytes) name over)));
     }
+
+pub no_reason_may_keep : NoReasonMayKeep
+no_reason_may_keep meaning base meta events is plan build node task mode times has goes went none =
+    let fresh = no_reason_is_fresh meta task mode times goes none in
+    let untouched : IsBefore times.target (when.At (record { 0 = is.time })) =
+    subst (IsBefore times.target) went.meta_file fresh.untouched in
+    let stands = kept_stands meaning base meta events is went.later went.looks went.records went.lawful
+    went.saw went.recorded
+    (subst (IsOlderThan (record { 0 = is.time })) went.target
+    (before_older times.target (record { 0 = is.time }) untouched))
+    (fresh_at_paths went.looks [] went.records meta task times went.times_are fresh) in
+    fresh_may_keep meaning base meta events is plan build node task times has fresh went.later
+    (λ path. sym (went.files_are path)) stands.0 stands.1

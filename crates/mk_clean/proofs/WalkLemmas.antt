@@ -204,11 +204,12 @@ within_puts over paths (spot ∷ spots) covers within =
     (λ same. subst (Contains paths) ((bytes_eq-Decides spot.path path).0 same) covers.0)
     (within path stands) is)
 
--- a look at a file found what was there before the job, and one at no file found none
+-- What a look found: a file that stands was there before the job, and no file stands where it found none,
+-- unless one was there before the job, so that there was no such look.
 abbrev pub FoundAt : Option Filed → ℕ → Option (List ℕ) → Type 0
-FoundAt stood stamp None = stood ≡ None
+FoundAt None stamp None = Unit {0}
 FoundAt None stamp (Some bytes) = ⊥
-FoundAt (Some file) stamp (Some bytes) = file.time < stamp
+FoundAt (Some file) stamp bytes = file.time < stamp
 
 abbrev pub Found : FileMap → ℕ → List ℕ → Option (List ℕ) → Type 0
 Found files stamp path bytes = FoundAt (files path) stamp bytes
@@ -245,10 +246,9 @@ module _ (stamp : ℕ) (paths : List (List ℕ)) (seen : FileMap) where
       → ((file : Filed) → file.time < stamp → now ≡ Some file → stood ≡ Some file)
       → or_stood over (option_map (λ (file : Filed). file.bytes) now) ≡ bytes
   seen_at (Some stands) stood now bytes tied right fresh old = sym (tied stands refl) ∙ right
-  seen_at None stood now None tied right fresh old =
-      ap (option_map (λ (file : Filed). file.bytes)) (fresh refl)
+  seen_at None stood None None tied right fresh old = refl
   seen_at None stood None (Some bytes) tied right fresh old = absurd (fresh refl)
-  seen_at None stood (Some file) (Some bytes) tied right fresh old =
+  seen_at None stood (Some file) bytes tied right fresh old =
       sym (ap (option_map (λ (one : Filed). one.bytes)) (old file (fresh refl) refl)) ∙ right
 
   seen_by : (over : Over) (files : FileMap) (spot : Option Spot)

@@ -1,0 +1,12 @@
+pub mod DecideLemmas
+pub mod EndLemmas
+pub mod FirstLemmas
+pub mod FullLemmas
+pub mod GoodLemmas
+pub mod KeepLemmas
+pub mod LookLemmas
+pub mod LoopLemmas
+pub mod PastLemmas
+pub mod PlanLemmas
+pub mod StageLemmas
+pub mod TurnLemmas

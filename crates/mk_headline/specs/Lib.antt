@@ -1,0 +1,4 @@
+pub mod Plans
+pub mod Premises
+pub mod Turned
+pub mod Laws
