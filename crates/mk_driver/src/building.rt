@@ -1,8 +1,8 @@
 //! A whole build.
 ghost use Rattle.std.specs.Prelude.{◌≡◌, ◌<◌, ◌≤◌, ◌^◌, [], length, false, true, IfErr, IfOk, OnOk};
 ghost use Rattle.mk_trace.specs.Builds.{Moment, moment};
-ghost use Rattle.mk_trace.specs.TrueBuilds.{IsTrueBuild};
-ghost use Rattle.mk_trace.specs.Ends.{EndsBy, result_of, StandsBy, is_cut};
+ghost use Rattle.mk_headline.specs.CleanBuilds.{IsCleanBuild};
+ghost use Rattle.mk_trace.specs.Ends.{EndsBy, result_of};
 ghost use Rattle.mk_decision.specs.Makers.{work_of, work_on};
 ghost use Rattle.mk_driver.specs.Progress.{EndedAt, Fits, GoingAt, HaltedAt, IsFirstCourse, undecided};
 ghost use Rattle.mk_trace.specs.declared.result.BuildResult.TheVariants as ended;
@@ -208,8 +208,10 @@ fn no_memory(alloc: Global) -> BuildEnd
 /// The report's events are a cut run, and a legal run where the outside did not end the build. There is
 /// one list of items, of which the events are one side, and what happened in the world, where it tells,
 /// the other; each item has its reason. Standard output gains what the events print. Where meta files told
-/// what happened before the build, they do so behind it, as far as jobs have kept apart. `World` and
-/// `Sink` come only where that object's count of faults rose.
+/// what happened before the build, they do so at every moment of it, as far as jobs have kept apart. And
+/// where all is made in meta mode, and what jobs read and change is declared, each made file has the bytes
+/// that a clean build of the same plan and tasks gives it, one job after the other. `World` and `Sink` come
+/// only where that object's count of faults rose.
 pub fn build<W: World, S: Sink>(
     alloc: Global,
     plan: &Plan,
@@ -221,10 +223,9 @@ pub fn build<W: World, S: Sink>(
     requires some_jobs { 1 ≤ flags.now.jobs }
     requires few_jobs { flags.now.jobs ≤ 256 }
     requires idle { W.runs world.old [] }
-    ensures built { IsTrueBuild W.meaning (work_on plan.now made.now flags.now) (is_cut result.result)
+    ensures built { IsCleanBuild W.meaning (work_on plan.now made.now flags.now) result.result
         (moment (W.history world.old) (S.held out.old) [])
-        (moment (W.history world.new) (S.held out.new) result.events)
-        (StandsBy (work_on plan.now made.now flags.now) result.result) }
+        (moment (W.history world.new) (S.held out.new) result.events) }
     ensures world_cause { EndsBy ended.World (W.faults world.old) (W.faults world.new)
         result.result }
     ensures sink_cause { EndsBy ended.Sink (S.faults out.old) (S.faults out.new) result.result }

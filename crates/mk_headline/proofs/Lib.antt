@@ -1,3 +1,4 @@
+pub mod CleanBuildLemmas
 pub mod DecideLemmas
 pub mod EndLemmas
 pub mod FirstLemmas

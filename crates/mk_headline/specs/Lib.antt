@@ -1,4 +1,5 @@
 pub mod Plans
 pub mod Premises
 pub mod Turned
+pub mod CleanBuilds
 pub mod Laws

@@ -158,17 +158,17 @@ goes-true meaning (builds made flags) old read first last went new asked at is (
         (Some (record {
           planned_at = built.planned_at;
           work = work_on built.nodes made flags;
-          tasks = built.built.build.tasks;
-          items = built.built.build.items;
+          tasks = built.built.true_build.build.tasks;
+          items = built.built.true_build.build.items;
         })) old new
-    planned None here = absurd (told-before here is built.built.build.told)
+    planned None here = absurd (told-before here is built.built.true_build.build.told)
     planned (Some planned_then) here =
         λ lawful idle truth so_far later events leave apart.
-        built-true meaning (work_on built.nodes made flags) built.built.build.tasks built.built.build.items
+        built-true meaning (work_on built.nodes made flags) built.built.true_build.build.tasks built.built.true_build.build.items
         old planned_then new
         (asked-then meaning old read planned_then asked
         (looks-ask meaning read planned_then (told-at at here built.planned).0))
-        (told-at here is built.built.build.told) (told-at here is built.built.meta_files)
+        (told-at here is built.built.true_build.build.told) (told-at here is built.built.true_build.meta_files)
         lawful idle truth so_far later events leave
         (λ done rest are now_is. apart planned_then done rest here are now_is)
 
@@ -182,7 +182,7 @@ goes-told meaning (builds made flags) first last went new at is (inl unplanned) 
 goes-told meaning (builds made flags) first last went new at is (inr built) = planned built.planned_at refl
   where
     planned : (planned_at : Option History) → built.planned_at ≡ planned_at → ⊥
-    planned None here = told-before here is built.built.build.told
+    planned None here = told-before here is built.built.true_build.build.told
     planned (Some then_is) here = told-before at here built.planned
 
 does-told : (meaning : Meaning) (env : Env) (order : Result Order End) (first last : Point) (err : Held)

@@ -2,9 +2,8 @@
 use Rattle.std.specs.Prelude.{◌≡◌, ◌⊎◌, ℕ, nat_le, Bool, true, false, not, ◌&&◌, List, [], map}
 use Rattle.std.specs.Prelude.{Option, Ok}
 use Rattle.mk_trace.specs.Builds.{moment}
-use Rattle.mk_trace.specs.TrueBuilds.{IsTrueBuild}
+use Rattle.mk_headline.specs.CleanBuilds.{IsCleanBuild}
 use Rattle.mk_decision.specs.Makers.{work_on}
-use Rattle.mk_trace.specs.Ends.{StandsBy, is_cut}
 use Rattle.mk_trace.specs.declared.result.BuildResult.{BuildResult}
 use Rattle.mk_trace.specs.declared.result.BuildResult.TheVariants as build
 use Rattle.mk_flags.specs.declared.Flags.{Flags}
@@ -75,9 +74,8 @@ pub record IsBuilt (meaning : Meaning) (made : Made) (flags : Flags) (first last
         (λ files. planned files made flags.requested flags.query ≡ Ok nodes)
     pub plan : went.plan ≡ names_of nodes
     pub result : BuildResult
-    pub built : IsTrueBuild meaning (work_on nodes made flags) (is_cut result)
+    pub built : IsCleanBuild meaning (work_on nodes made flags) result
         (moment planned_at first.out []) (moment last.history last.out went.events)
-        (StandsBy (work_on nodes made flags) result)
     pub end : IsEndOf nodes result went.end
 
 -- a run that builds what these makefiles say

@@ -39,8 +39,8 @@ built_in meaning (builds made flags) first last went (inl unplanned) = None
 built_in meaning (builds made flags) first last went (inr is) = Some (record {
   planned_at = is.planned_at;
   work = work_on is.nodes made flags;
-  tasks = is.built.build.tasks;
-  items = is.built.build.items;
+  tasks = is.built.true_build.build.tasks;
+  items = is.built.true_build.build.items;
 })
 
 abbrev pub built_for : (meaning : Meaning) (env : Env) (order : Result Order End) (first last : Point)

@@ -5,7 +5,7 @@ use Rattle.mk_trace.specs.Builds.{moment}
 use Rattle.mk_trace.specs.declared.result.BuildResult.TheVariants as ended
 use Rattle.mk_driver.proofs.BuildLemmas.{ended-build, ended-none, fits-first, going-first, jobs-few}
 use Rattle.mk_trace.proofs.CallLemmas.{called-none-left}
-use Rattle.mk_trace.proofs.TrueBuildLemmas.{true-build}
+use Rattle.mk_headline.proofs.CleanBuildLemmas.{clean-build}
 use Rattle.mk_trace.proofs.WorldLemmas.{called-left}
 use Rattle.mk_driver.proofs.building.build.Goals as goal
 
@@ -16,7 +16,7 @@ returns-in_default-clause-built g c =
     let out = g.S.Sink.held c.args.out.now in
     let idle : IsIdle history =
     λ h is. g.met.W.World.told_children c.args.world.now h [] c.requires.idle is in
-    rw c.no_memory.ensures (true-build (ended-build g.W.World.meaning work ended.NoMemory (moment history out [])
+    rw c.no_memory.ensures (clean-build {result = ended.NoMemory} c.requires.some_jobs (ended-build g.W.World.meaning work ended.NoMemory (moment history out [])
     (moment history out []) (moment history out []) (ended-none g.W.World.meaning work history out)
     (called-none-left g.W.World.meaning history) refl refl idle idle))
 
@@ -27,7 +27,7 @@ returns-in_default-new_course-clause-built g c =
     let out = g.S.Sink.held c.args.out.now in
     let idle : IsIdle history =
     λ h is. g.met.W.World.told_children c.args.world.now h [] c.requires.idle is in
-    rw c.no_memory-in_default-new_course.ensures (true-build (ended-build g.W.World.meaning work ended.NoMemory
+    rw c.no_memory-in_default-new_course.ensures (clean-build {result = ended.NoMemory} c.requires.some_jobs (ended-build g.W.World.meaning work ended.NoMemory
     (moment history out []) (moment history out []) (moment history out [])
     (ended-none g.W.World.meaning work history out) (called-none-left g.W.World.meaning history) refl
     refl idle idle))
@@ -54,7 +54,7 @@ returns-clause-built g c =
     λ h is. g.met.W.World.told_children c.args.world.now h [] c.requires.idle is in
     let still : IsIdle (g.W.World.history c.abandon.new.self) =
     λ h is. g.met.W.World.told_children c.abandon.new.self h [] c.abandon.ensures.children is in
-    true-build (ended-build g.W.World.meaning work c.make_to_end-result.result first now next
+    clean-build {result = c.make_to_end-result.result} c.requires.some_jobs (ended-build g.W.World.meaning work c.make_to_end-result.result first now next
     (c.make_to_end-result.ensures.ended first (going-first g.W.World.meaning work
     c.in-Ok-new_course.course c.jobs_in-jobs.result c.args.flags.now.keep_going history out
     c.in-Ok-new_course.ensures.begins))
