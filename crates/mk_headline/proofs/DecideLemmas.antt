@@ -1,44 +1,47 @@
 -- A node that is being decided: what its looks saw so far.
-use Rattle.std.proofs.Common.{◌≡◌, ◌≢◌, ◌∙◌, ◌⊎◌, ℕ, zero, suc, ◌+◌, ◌<◌, ◌==◌, ◌&&◌, ◌||◌, nat_le, List, [], ◌∷◌, ◌++◌, length, set, slice_get, Option, Some, None, Bool, true, false, if◌then◌else◌}
+use Rattle.std.proofs.Common.{◌≡◌, ◌≢◌, ◌∙◌, ◌⊎◌, ℕ, codes, zero, suc, ◌+◌, ◌<◌, ◌==◌, ◌&&◌, ◌||◌, nat_le, List, [], ◌∷◌, ◌++◌, length, set, slice_get, Option, Some, None, Bool, true, false, if◌then◌else◌}
 use Rattle.std.proofs.Common.{inl, inr, refl, sym, ap, subst, arith, append_assoc, eq-eqb, ne_eqb}
 use Rattle.std.proofs.lemmas.Bool.{cases_eq, false≢true, false_from_ne_true}
-use Rattle.std.proofs.lemmas.List.{append-nil}
+use Rattle.std.proofs.lemmas.List.{append-nil, append_cancel_right}
+use Rattle.std.proofs.lemmas.Option.{slice_get_within}
 use Rattle.std.proofs.lemmas.Slice.Eq.{bytes_eq-Decides}
 use Rattle.std.specs.List.{Contains, list_any}
 use Rattle.std.specs.Str.{bytes_eq}
 use Rattle.mk_clean.proofs.CleanLemmas.{changed_first, changed_last}
 use Rattle.mk_clean.proofs.StepLemmas.{steps_clean}
 use Rattle.mk_clean.proofs.WalkLemmas.{left_alone}
-use Rattle.mk_clean.specs.Clean.{CleanJob, Plan, clean_build, cleared, deeds_of, is_changed}
+use Rattle.mk_clean.specs.Clean.{CleanJob, Plan, IsAmong, clean_build, cleared, deeds_of, is_changed}
 use Rattle.mk_clean.specs.Declared.{IsDeclared, IsOwn, IsPrivate}
 use Rattle.mk_clean.specs.Same.{AreFirstSteps, steps_of, own_step}
 use Rattle.mk_clean.specs.Turns as turn
 use Rattle.mk_clean.specs.Turns.{Turn, after_turns, MayTurns, with_look}
 use Rattle.mk_decision.specs.Decisions.{Work}
 use Rattle.mk_headline.proofs.GoodLemmas.{Good, sources-ready, waits-ready}
-use Rattle.mk_headline.proofs.LookLemmas.{AllSeen, all-more, IsDated, SawWhen, saw-when, AllOf, of-last, seen_in, is_looked, first_look, first-other, first-before, first-now, seen-last}
+use Rattle.mk_headline.proofs.LookLemmas.{AllLeave, leave-last, AllSeen, all-more, IsDated, SawWhen, saw-when, AllOf, of-last, seen_in, is_looked, first_look, first-other, first-before, first-now, seen-last}
 use Rattle.mk_headline.proofs.PastLemmas.{Past}
-use Rattle.mk_headline.proofs.PlanLemmas.{meta_path-is, job-among, job-has, clean-node, are-distinct, names-differ, node-is}
+use Rattle.mk_headline.proofs.PlanLemmas.{length-before, meta_path-is, job-among, job-has, clean-node, are-distinct, names-differ, node-is}
 use Rattle.mk_headline.proofs.StageLemmas.{may-append}
 use Rattle.mk_headline.proofs.TurnLemmas.{each-node, Turning, look-passed, look-taken}
 use Rattle.mk_headline.specs.Plans.{clean_plan, has_job, is_meta_path}
 use Rattle.mk_headline.specs.Premises.{IsWellMade}
-use Rattle.mk_meta.specs.TrueHistory.{LeavesAlone, changed_paths}
+use Rattle.mk_meta.specs.TrueHistory.{LeavesAlone, changed_paths, meta_path}
 use Rattle.mk_plan.specs.Deciding.{may_decide, is_stopped}
 use Rattle.mk_plan.specs.Plans.{node_at}
 use Rattle.mk_plan.specs.declared.plan.NodeState.{NodeState}
 use Rattle.mk_plan.specs.declared.plan.NodeState.TheVariants.{Undecided, Open, Settled, Failed}
 use Rattle.mk_trace.proofs.TrueChildren.{step-leaves}
-use Rattle.mk_trace.proofs.TrueRuns.{slice-other, slice-same, ended_run, taken-due}
-use Rattle.mk_trace.proofs.BegunLemmas.{may-undecided}
-use Rattle.mk_trace.proofs.ItemLemmas.{happened_all-append}
+use Rattle.mk_trace.proofs.TrueIdle.{free-not, stop-not, begin-not}
+use Rattle.mk_trace.proofs.RunLemmas.{long-run}
+use Rattle.mk_trace.proofs.TrueRuns.{slice-other, slice-same, ended_run, taken-due, IsDue, closing-due, end-due, ended-shut}
+use Rattle.mk_trace.proofs.BegunLemmas.{may-undecided, start-within}
+use Rattle.mk_trace.proofs.ItemLemmas.{happened_all-append, run-events}
 use Rattle.mk_trace.specs.Builds.{Build, Duty, free, remove, begin, date, close, stop, MayLook, Makes, behind_look, build_after, first_build, or_next, rules_of}
 use Rattle.mk_trace.specs.Calls.{NoneLeft}
 use Rattle.mk_trace.specs.declared.result.Failure.{Failure}
 use Rattle.mk_world.proofs.CallLemmas.{after_all-append}
 use Rattle.mk_world.specs.Outer.{Over}
 use Rattle.mk_trace.specs.Collected.{has_meta}
-use Rattle.mk_trace.specs.Items.{gone, head, whole, cut_head, cut_whole, Item, looks, keeps, refuses, starts, passes, waits, steps, ends, changes, leaves, path_of, happened, happened_all, IsSeenIn}
+use Rattle.mk_trace.specs.Items.{gone, head, whole, cut_head, cut_whole, Item, looks, keeps, refuses, starts, passes, waits, steps, ends, changes, leaves, path_of, happened, happened_all, reported_all, IsSeenIn}
 use Rattle.mk_trace.specs.Runs as run
 use Rattle.mk_world.specs.Calls.{when_of}
 use Rattle.mk_world.specs.Deeds.{changes as changes_of}
@@ -130,14 +133,27 @@ module _ (meaning : Meaning) (work : Work) (tasks : run.Tasks) (entry : Stand)
   abbrev IsGood : List Item → Build → Stand → List Turn → turn.Build → Type 0
   IsGood = Good meaning work tasks entry idle well
 
-  -- no step of another node's job changes the path of a node that is not decided yet
-  target-stays : (done : List Item) (build : Build) (stand : Stand) (turns : List Turn) (clean : turn.Build)
+  -- a step of a build is one of the clean build
+  record CleanStep (j : ℕ) (deed : Deed) : Type 0 where
+    one : CleanJob
+    among : IsAmong one (clean_build meaning plan (contents entry.files))
+    node_is : one.node ≡ j
+    changes_it : (path : List ℕ) → is_changed (deed ∷ []) path ≡ true
+        → is_changed (deeds_of one) path ≡ true
+
+  clean-step : (done : List Item) (build : Build) (stand : Stand) (turns : List Turn) (clean : turn.Build)
       (ticket owner time : ℕ) (deed : Deed) → IsGood done build stand turns clean
-      → Turning meaning work tasks build stand clean (steps ticket owner deed time) → (n : ℕ)
-      → slice_get build.run.nodes n ≡ Some Undecided → has_job (node_at work.plan n) ≡ true
-      → LeavesAlone (name n) (at_time time (changes_of deed))
-  target-stays done build stand turns clean ticket owner time deed good now n undecided has =
-      step-leaves time (name n) deed (λ given. clash (contains-any (changed_paths (deed ∷ [])) (name n) given))
+      → (now : Turning meaning work tasks build stand clean (steps ticket owner deed time))
+      → CleanStep now.turned.0 deed
+  clean-step done build stand turns clean ticket owner time deed good now = record {
+    one = begun.one;
+    among = begun.among;
+    node_is = begun.node_is;
+    changes_it = λ path given.
+        subst (λ l. is_changed l path ≡ true) (sym begun.are)
+        (changed_first path (steps_of j turns ++ deed ∷ []) begun.rest
+        (changed_last path (steps_of j turns) (deed ∷ []) given));
+  }
     where
       j : ℕ
       j = now.turned.0
@@ -146,7 +162,9 @@ module _ (meaning : Meaning) (work : Work) (tasks : run.Tasks) (entry : Stand)
       all = clean_build meaning plan (contents entry.files)
 
       may : MayTurns meaning plan (turn.first_build (contents entry.files)) (turns ++ turn.steps j deed ∷ [])
-      may = may-append meaning work tasks (turn.first_build (contents entry.files)) turns (turn.steps j deed ∷ []) good.may
+      may =
+          may-append meaning work tasks (turn.first_build (contents entry.files)) turns
+          (turn.steps j deed ∷ []) good.may
           (subst (λ c. MayTurns meaning plan c (turn.steps j deed ∷ [])) (sym good.at)
           (subst (MayTurns meaning plan clean) now.turned.3 now.may))
 
@@ -154,7 +172,8 @@ module _ (meaning : Meaning) (work : Work) (tasks : run.Tasks) (entry : Stand)
       mine = rw (eq-eqb j j refl) refl
 
       told : steps_of j (turns ++ turn.steps j deed ∷ []) ≡ steps_of j turns ++ deed ∷ []
-      told = steps_of-append j turns (turn.steps j deed ∷ []) ∙ ap (λ l. steps_of j turns ++ l) mine
+      told =
+          steps_of-append j turns (turn.steps j deed ∷ []) ∙ ap (λ l. steps_of j turns ++ l) mine
 
       first : (steps_of j (turns ++ turn.steps j deed ∷ []) ≡ [])
           ⊎ AreFirstSteps all j (steps_of j (turns ++ turn.steps j deed ∷ []))
@@ -163,28 +182,64 @@ module _ (meaning : Meaning) (work : Work) (tasks : run.Tasks) (entry : Stand)
       first (inr are) = subst (AreFirstSteps all j) told are
 
       begun : AreFirstSteps all j (steps_of j turns ++ deed ∷ [])
-      begun = first ((steps_clean meaning plan (contents entry.files) declared
-          (are-distinct meaning work tasks (contents entry.files) well) (turns ++ turn.steps j deed ∷ []) may).begun j)
+      begun =
+          first
+          ((steps_clean meaning plan (contents entry.files) declared
+          (are-distinct meaning work tasks (contents entry.files) well)
+          (turns ++ turn.steps j deed ∷ []) may).begun j)
+
+  -- so no step of another node's job changes the path of a node that is not decided yet
+  target-stays : (done : List Item) (build : Build) (stand : Stand) (turns : List Turn)
+      (clean : turn.Build) (ticket owner time : ℕ) (deed : Deed) → IsGood done build stand turns clean
+      → Turning meaning work tasks build stand clean (steps ticket owner deed time) → (n : ℕ)
+      → slice_get build.run.nodes n ≡ Some Undecided → has_job (node_at work.plan n) ≡ true
+      → LeavesAlone (name n) (at_time time (changes_of deed))
+  target-stays done build stand turns clean ticket owner time deed good now n undecided has =
+      step-leaves time (name n) deed
+      (λ given. clash (contains-any (changed_paths (deed ∷ [])) (name n) given))
+    where
+      all : List CleanJob
+      all = clean_build meaning plan (contents entry.files)
+
+      step : CleanStep now.turned.0 deed
+      step = clean-step done build stand turns clean ticket owner time deed good now
 
       clash : is_changed (deed ∷ []) (name n) ≡ true → ⊥
       clash given =
-          let changes_it : is_changed (deeds_of begun.one) (name n) ≡ true =
-          subst (λ l. is_changed l (name n) ≡ true) (sym begun.are)
-          (changed_first (name n) (steps_of j turns ++ deed ∷ []) begun.rest
-          (changed_last (name n) (steps_of j turns) (deed ∷ []) given)) in
           let within_n = (job-has work n (job-among work n has)).0 in
-          by within_n (declared.changes begun.one begun.among (name n) changes_it)
+          by within_n (declared.changes step.one step.among (name n) (step.changes_it (name n) given))
         where
-          by : n < length work.plan → IsOwn plan begun.one (name n) ⊎ IsPrivate plan all begun.one (name n) → ⊥
+          by : n < length work.plan → IsOwn plan step.one (name n) ⊎ IsPrivate plan all step.one (name n) → ⊥
           by within_n (inl own) =
-              let within = (job-has work begun.one.node
-              (clean-node meaning plan plan.order (cleared plan (contents entry.files)) begun.one begun.among)).0 in
-              let same : begun.one.node ≡ n = names-differ work well begun.one.node n within within_n own.name in
+              let within = (job-has work step.one.node
+              (clean-node meaning plan plan.order (cleared plan (contents entry.files)) step.one
+              step.among)).0 in
+              let same : step.one.node ≡ n =
+              names-differ work well step.one.node n within within_n own.name in
               let opens : slice_get build.run.nodes n ≡ Some Open =
-              subst (λ k. slice_get build.run.nodes k ≡ Some Open) (sym begun.node_is ∙ same) now.turned.1.0 in
+              subst (λ k. slice_get build.run.nodes k ≡ Some Open) (sym step.node_is ∙ same)
+              now.turned.1.0 in
               let both : Some Open ≡ Some Undecided = sym opens ∙ undecided in
               absurd cc
           by within_n (inr private) = false≢true (sym private.no_node ∙ node-is work tasks n within_n)
+
+  -- and none changes a meta file
+  meta-stays : (done : List Item) (build : Build) (stand : Stand) (turns : List Turn)
+      (clean : turn.Build) (ticket owner time : ℕ) (deed : Deed) → IsGood done build stand turns clean
+      → Turning meaning work tasks build stand clean (steps ticket owner deed time) → (target : List ℕ)
+      → LeavesAlone (meta_path target) (at_time time (changes_of deed))
+  meta-stays done build stand turns clean ticket owner time deed good now target =
+      step-leaves time (meta_path target) deed
+      (λ given. clash (contains-any (changed_paths (deed ∷ [])) (meta_path target) given))
+    where
+      step : CleanStep now.turned.0 deed
+      step = clean-step done build stand turns clean ticket owner time deed good now
+
+      clash : is_changed (deed ∷ []) (meta_path target) ≡ true → ⊥
+      clash given =
+          false≢true
+          (sym (declared.no_meta step.one step.among (meta_path target) (meta_path-is target))
+          ∙ step.changes_it (meta_path target) given)
 
   -- the meta file of a node was looked at, and since then nothing but looks for it and steps has happened
   pub record ReadAt (n : ℕ) (done : List Item) (build : Build) (clean : turn.Build) : Type 0 where
@@ -196,6 +251,9 @@ module _ (meaning : Meaning) (work : Work) (tasks : run.Tasks) (entry : Stand)
     pub late : List Item
     pub cut : done ≡ front ++ late
     pub of : AllOf n late
+    pub leave : AllLeave (meta_path (name n)) late
+    pub stays : (stand_after entry (happened_all front)).files (meta_path (name n))
+        ≡ entry.files (meta_path (name n))
     pub first : List Seen
     pub first_dated : AllSeen IsDated first
     pub seen_is : build.seen n ≡ first ++ read path bytes ∷ seen_in late
@@ -215,6 +273,7 @@ module _ (meaning : Meaning) (work : Work) (tasks : run.Tasks) (entry : Stand)
   -- what was seen for a node: its own file stands as each look at it saw it
   pub record Deciding (n : ℕ) (done : List Item) (build : Build) (stand : Stand) (clean : turn.Build) : Type 0 where
     pub target : has_job (node_at work.plan n) ≡ true → AllSeen (SawTarget n stand) (build.seen n)
+    pub meta_file : stand.files (meta_path (name n)) ≡ entry.files (meta_path (name n))
     pub phase : NotRead n build clean ⊎ ReadAt n done build clean
 
   abbrev pub EachDeciding : List Item → Build → Stand → turn.Build → Type 0
@@ -226,13 +285,15 @@ module _ (meaning : Meaning) (work : Work) (tasks : run.Tasks) (entry : Stand)
   kept-on : (n : ℕ) (done : List Item) (item : Item) (build later : Build) (stand then_stand : Stand)
       (clean then_clean : turn.Build) → later.seen n ≡ build.seen n
       → (has_job (node_at work.plan n) ≡ true → then_stand.files (name n) ≡ stand.files (name n))
+      → then_stand.files (meta_path (name n)) ≡ stand.files (meta_path (name n))
       → then_clean.looks n ≡ clean.looks n → (ReadAt n done build clean → ⊥)
       → Deciding n done build stand clean → Deciding n (done ++ item ∷ []) later then_stand then_clean
-  kept-on n done item build later stand then_stand clean then_clean seen files looks_same none deciding = record {
+  kept-on n done item build later stand then_stand clean then_clean seen files meta_same looks_same none deciding = record {
     target = λ has.
         subst (AllSeen (SawTarget n then_stand)) (sym seen)
         (subst (λ (f : Option Filed). AllSeen (λ s. path_of s ≡ name n → SawWhen (when_of f) s) (build.seen n))
         (sym (files has)) (deciding.target has));
+    meta_file = meta_same ∙ deciding.meta_file;
     phase = by deciding.phase;
   }
     where
@@ -253,14 +314,17 @@ module _ (meaning : Meaning) (work : Work) (tasks : run.Tasks) (entry : Stand)
   stepped : (n : ℕ) (done : List Item) (build : Build) (stand : Stand) (clean : turn.Build)
       (ticket owner time : ℕ) (deed : Deed) (then_clean : turn.Build) → then_clean.looks ≡ clean.looks
       → (has_job (node_at work.plan n) ≡ true → LeavesAlone (name n) (at_time time (changes_of deed)))
+      → LeavesAlone (meta_path (name n)) (at_time time (changes_of deed))
       → Deciding n done build stand clean
       → Deciding n (done ++ steps ticket owner deed time ∷ []) build
       (stand_after stand (happened (steps ticket owner deed time))) then_clean
-  stepped n done build stand clean ticket owner time deed then_clean same leave deciding = record {
+  stepped n done build stand clean ticket owner time deed then_clean same leave leave_meta deciding = record {
     target = λ has.
         let files = left_alone (name n) stand.files (at_time time (changes_of deed)) (leave has) in
         subst (λ (f : Option Filed). AllSeen (λ s. path_of s ≡ name n → SawWhen (when_of f) s) (build.seen n))
         (sym files) (deciding.target has);
+    meta_file = left_alone (meta_path (name n)) stand.files (at_time time (changes_of deed)) leave_meta
+        ∙ deciding.meta_file;
     phase = by deciding.phase;
   }
     where
@@ -281,6 +345,8 @@ module _ (meaning : Meaning) (work : Work) (tasks : run.Tasks) (entry : Stand)
         late = at.late ++ item ∷ [];
         cut = ap (λ l. l ++ item ∷ []) at.cut ∙ append_assoc at.front at.late (item ∷ []);
         of = of-last n at.late item at.of tt;
+        leave = leave-last (meta_path (name n)) at.late item at.leave leave_meta;
+        stays = at.stays;
         first = at.first;
         first_dated = at.first_dated;
         seen_is = at.seen_is
@@ -294,6 +360,112 @@ module _ (meaning : Meaning) (work : Work) (tasks : run.Tasks) (entry : Stand)
         free_now = at.free_now;
       })
 
+  -- a job whose meta file is to be written is over
+  abbrev pub DueDone : Build → Type 0
+  DueDone build =
+      (m : ℕ) → IsDue build.duty m
+      → (m < length work.plan) × (slice_get build.run.nodes m ≡ Some Undecided → ⊥)
+
+  nodes-long : (done : List Item) (build : Build) (stand : Stand)
+      → Past meaning work tasks entry idle done build stand
+      → length build.run.nodes ≡ length work.plan
+  nodes-long done build stand past =
+      ap (λ (r : run.State). length r.nodes)
+      (sym (ap (λ (b : Build). b.run) past.at) ∙ run-events work tasks (first_build work) done)
+      ∙ (long-run (rules_of work) tasks (reported_all done) ∙ length-before work.plan)
+
+  within-plan : (done : List Item) (build : Build) (stand : Stand)
+      → Past meaning work tasks entry idle done build stand → (n : ℕ) → {stands : NodeState}
+      → slice_get build.run.nodes n ≡ Some stands → n < length work.plan
+  within-plan done build stand past n {stands} is =
+      let less = slice_get_within build.run.nodes n stands is in
+      let long = nodes-long done build stand past in
+      omega (arith, less, long)
+
+  -- the meta file of another node is not changed
+  meta-other : (files : FileMap) (path bytes : List ℕ) (time m n : ℕ) → path ≡ meta_path (name m)
+      → n ≢ m → m < length work.plan → n < length work.plan
+      → (if bytes_eq path (meta_path (name n)) then filed (Some bytes) time
+      else files (meta_path (name n)))
+      ≡ files (meta_path (name n))
+  meta-other files path bytes time m n path_is other within also =
+      ap (λ b. if b then filed (Some bytes) time else files (meta_path (name n)))
+      (false_from_ne_true (bytes_eq path (meta_path (name n)))
+      (λ is.
+      other (names-differ work well n m also within
+      (append_cancel_right (name n) (name m) (codes ".meta")
+      (sym ((bytes_eq-Decides path (meta_path (name n))).0 is) ∙ path_is)))))
+
+  due-free : (duty : Duty) (m : ℕ) → duty ≡ free → IsDue duty m → ⊥
+  due-free duty m is due = free-not m (subst (λ d. IsDue d m) is due)
+
+  look-due : (duty : Duty) (m : ℕ) → IsDue (behind_look duty) m → IsDue duty m
+  look-due free m (inl is) = absurd cc
+  look-due free m (inr is) = absurd cc
+  look-due (remove one) m (inl is) = absurd cc
+  look-due (remove one) m (inr is) = absurd cc
+  look-due (begin one) m (inl is) = absurd cc
+  look-due (begin one) m (inr is) = absurd cc
+  look-due (date one) m (inl is) = absurd cc
+  look-due (date one) m (inr is) = inl cc
+  look-due (close one) m (inl is) = absurd cc
+  look-due (close one) m (inr is) = inr is
+  look-due stop m (inl is) = absurd cc
+  look-due stop m (inr is) = absurd cc
+
+  pub due-on : (done : List Item) (build : Build) (stand : Stand) (turns : List Turn) (clean : turn.Build)
+      (item : Item) → IsGood done build stand turns clean → DueDone build
+      → Makes work tasks build (item ∷ []) → NoneLeft (item ∷ [])
+      → DueDone (build_after work tasks build item)
+  due-on done build stand turns clean (looks n seen) good due makes none m is =
+      due m (look-due build.duty m is)
+  due-on done build stand turns clean (keeps n) good due makes none m is =
+      absurd (due-free build.duty m makes.1 is)
+  due-on done build stand turns clean (refuses n number what) good due makes none m is =
+      absurd (due-free build.duty m makes.1 is)
+  due-on done build stand turns clean (starts n number ticket owner cmd) good due makes none m is =
+      absurd (free-not m is)
+  due-on done build stand turns clean (passes n number) good due makes none m is =
+      let over = closing-due work n m (nat_le (length (tasks n)) number) is in
+      let begun_run = run.start_line tasks build.run n number in
+      let stops : (nat_le (length (tasks n)) number || is_stopped (rules_of work) begun_run.nodes) ≡ true =
+      rw over.1 refl in
+      let less = start-within (rules_of work) tasks build.run n number build.run.due good.steady makes.0.0 in
+      let long = nodes-long done build stand good.past in
+      let same = over.0 in (
+        omega (arith, less, long, same),
+        subst (λ k. slice_get (build_after work tasks build (passes n number)).run.nodes k ≡ Some Undecided → ⊥)
+            (sym same)
+            (ended-shut begun_run n number false _ refl stops).decided,
+      )
+  due-on done build stand turns clean waits good due makes none m is =
+      absurd (due-free build.duty m makes.1 is)
+  due-on done build stand turns clean (steps ticket owner deed time) good due makes none m is = due m is
+  due-on done build stand turns clean (ends n number owner ended) good due makes none m is =
+      let fails = run.fails (run.line_of (tasks n) number) ended.status in
+      let over = end-due work n m fails (nat_le (length (tasks n)) number) is in
+      let stops : (nat_le (length (tasks n)) number || is_stopped (rules_of work) build.run.nodes) ≡ true =
+      rw over.2 refl in
+      let taken = taken-due build.run n number ended.status build.run.due good.free_due makes.0.0 in
+      let less = within-plan done build stand good.past n taken.1 in
+      let same = over.0 in (
+        omega (arith, less, same),
+        subst (λ k. slice_get (build_after work tasks build (ends n number owner ended)).run.nodes k
+            ≡ Some Undecided → ⊥) (sym same)
+            (ended-shut build.run n number fails _ over.1 stops).decided,
+      )
+  due-on done build stand turns clean (changes n (gone path time)) good due makes none m is =
+      absurd (free-not m is)
+  due-on done build stand turns clean (changes n (head path bytes time)) good due makes none m is =
+      absurd (begin-not n m is)
+  due-on done build stand turns clean (changes n (whole path bytes time)) good due makes none m is =
+      absurd (free-not m is)
+  due-on done build stand turns clean (changes n (cut_head path part time)) good due makes none m is =
+      absurd (stop-not m is)
+  due-on done build stand turns clean (changes n (cut_whole path part time)) good due makes none m is =
+      absurd (stop-not m is)
+  due-on done build stand turns clean (leaves ticket owner) good due makes none m is = absurd none
+
   -- behind each item but a look
   refuse-fails : (failure : Option Failure) (next : Failure) → or_next failure (Some next) ≡ None → ⊥
   refuse-fails None next is = absurd cc
@@ -301,88 +473,98 @@ module _ (meaning : Meaning) (work : Work) (tasks : run.Tasks) (entry : Stand)
 
   pub decided-on : (done : List Item) (build : Build) (stand : Stand) (turns : List Turn) (clean : turn.Build)
       (item : Item) → IsGood done build stand turns clean → EachDeciding done build stand clean
-      → Makes work tasks build (item ∷ []) → NoneLeft (item ∷ [])
+      → DueDone build → Makes work tasks build (item ∷ []) → NoneLeft (item ∷ [])
       → (build_after work tasks build item).failure ≡ None
       → ((n : ℕ) (seen : Seen) → item ≡ looks n seen → ⊥)
       → (now : Turning meaning work tasks build stand clean item)
       → EachDeciding (done ++ item ∷ []) (build_after work tasks build item)
       (stand_after stand (happened item)) (after_turns plan clean now.now)
-  decided-on done build stand turns clean (looks m seen) good each makes none sound other now n undecided no_begin no_stop =
+  decided-on done build stand turns clean (looks m seen) good each due makes none sound other now n undecided no_begin no_stop =
       absurd (other m seen refl)
-  decided-on done build stand turns clean (keeps m) good each makes none sound other now n undecided no_begin no_stop =
+  decided-on done build stand turns clean (keeps m) good each due makes none sound other now n undecided no_begin no_stop =
       let back = set-back build.run.nodes m n Settled (λ same. absurd cc) undecided in
       kept-on n done (keeps m) build (build_after work tasks build (keeps m)) stand stand clean _ refl
-      (λ has. refl) (ap (λ l. l n) (now.looks other))
+      (λ has. refl) refl (ap (λ l. l n) (now.looks other))
       (λ at. back.0 (only n m build at.may.1 makes.0.0.1)) (each n back.1 no_begin no_stop)
-  decided-on done build stand turns clean (refuses m number what) good each makes none sound other now n undecided no_begin no_stop =
+  decided-on done build stand turns clean (refuses m number what) good each due makes none sound other now n undecided no_begin no_stop =
       absurd (refuse-fails build.failure _ sound)
-  decided-on done build stand turns clean (starts m number ticket owner cmd) good each makes none sound other now n undecided no_begin no_stop =
+  decided-on done build stand turns clean (starts m number ticket owner cmd) good each due makes none sound other now n undecided no_begin no_stop =
       let back = set-back build.run.nodes m n Open (λ same. absurd cc) undecided in
       let opens = (number == 1) && has_meta work m in
       kept-on n done (starts m number ticket owner cmd) build _ stand _ clean _ refl
-      (λ has. refl) (ap (λ l. l n) (now.looks other))
+      (λ has. refl) refl (ap (λ l. l n) (now.looks other))
       (λ at. back.0 (only n m build at.may.1
       (start-decides work tasks build.run m number build.run.due at.may.0 makes.0.0)))
       (each n back.1 (λ is. back.0 (opening-begins m n opens (sym makes.1 ∙ is)))
       (λ is. opening-stop m opens (sym makes.1 ∙ is)))
-  decided-on done build stand turns clean (passes m number) good each makes none sound other now n undecided no_begin no_stop =
+  decided-on done build stand turns clean (passes m number) good each due makes none sound other now n undecided no_begin no_stop =
       let begun_run = run.start_line tasks build.run m number in
       let stops = nat_le (length (tasks m)) number || is_stopped (rules_of work) begun_run.nodes in
       let back = set-back build.run.nodes m n Open (λ same. absurd cc)
       (ended-back begun_run m number n false stops undecided) in
       let opens = (number == 1) && has_meta work m in
       kept-on n done (passes m number) build _ stand stand clean _ refl
-      (λ has. refl) (ap (λ l. l n) (now.looks other))
+      (λ has. refl) refl (ap (λ l. l n) (now.looks other))
       (λ at. back.0 (only n m build at.may.1
       (start-decides work tasks build.run m number build.run.due at.may.0 makes.0.0)))
       (each n back.1 (λ is. back.0 (opening-begins m n opens (sym makes.1 ∙ is)))
       (λ is. opening-stop m opens (sym makes.1 ∙ is)))
-  decided-on done build stand turns clean waits good each makes none sound other now n undecided no_begin no_stop =
-      kept-on n done waits build _ stand stand clean _ refl (λ has. refl)
+  decided-on done build stand turns clean waits good each due makes none sound other now n undecided no_begin no_stop =
+      kept-on n done waits build _ stand stand clean _ refl (λ has. refl) refl
       (ap (λ l. l n) (now.looks other))
       (λ at. let both : Some n ≡ None = sym at.may.1 ∙ makes.0.0.1 in absurd cc)
       (each n undecided no_begin no_stop)
-  decided-on done build stand turns clean (steps ticket owner deed time) good each makes none sound other now n undecided no_begin no_stop =
+  decided-on done build stand turns clean (steps ticket owner deed time) good each due makes none sound other now n undecided no_begin no_stop =
       stepped n done build stand clean ticket owner time deed _ (now.looks other)
       (λ has. target-stays done build stand turns clean ticket owner time deed good now n undecided has)
+      (meta-stays done build stand turns clean ticket owner time deed good now (name n))
       (each n undecided no_begin no_stop)
-  decided-on done build stand turns clean (ends m number owner ended) good each makes none sound other now n undecided no_begin no_stop =
+  decided-on done build stand turns clean (ends m number owner ended) good each due makes none sound other now n undecided no_begin no_stop =
       let fails = run.fails (run.line_of (tasks m) number) ended.status in
       let stops = nat_le (length (tasks m)) number || is_stopped (rules_of work) build.run.nodes in
       let due = taken-due build.run m number ended.status build.run.due good.free_due makes.0.0 in
-      kept-on n done (ends m number owner ended) build _ stand _ clean _ refl (λ has. refl)
+      kept-on n done (ends m number owner ended) build _ stand _ clean _ refl (λ has. refl) refl
       (ap (λ l. l n) (now.looks other))
       (λ at. let both : run.anything ≡ run.child = sym at.may.0 ∙ due.0 in absurd cc)
       (each n (ended-back build.run m number n fails stops undecided)
       (λ is. let both : free ≡ begin n = sym makes.1 ∙ is in absurd cc)
       (λ is. let both : free ≡ stop = sym makes.1 ∙ is in absurd cc))
-  decided-on done build stand turns clean (changes m (gone path time)) good each makes none sound other now n undecided no_begin no_stop =
+  decided-on done build stand turns clean (changes m (gone path time)) good each due makes none sound other now n undecided no_begin no_stop =
       absurd (good.none_removed m makes.1)
-  decided-on done build stand turns clean (changes m (head path bytes time)) good each makes none sound other now n undecided no_begin no_stop =
+  decided-on done build stand turns clean (changes m (head path bytes time)) good each due makes none sound other now n undecided no_begin no_stop =
       kept-on n done (changes m (head path bytes time)) build _ stand _ clean _ refl
       (λ has.
       put-elsewhere stand.files path (name n) bytes time
       (ap is_meta_path makes.2.path_is ∙ meta_path-is (name m)) (no_meta n has))
+      (meta-other stand.files path bytes time m n makes.2.path_is
+      (λ same. no_begin (ap begin (sym same)))
+      (within-plan done build stand good.past m
+      (may-undecided (rules_of work) build.run.nodes m makes.2.may.1))
+      (within-plan done build stand good.past n undecided))
       (ap (λ l. l n) (now.looks other))
       (λ at. no_begin (ap begin (sym (only n m build at.may.1 makes.2.may.1))))
       (each n undecided
       (λ is. let both : free ≡ begin n = sym makes.1 ∙ is in absurd cc)
       (λ is. let both : free ≡ stop = sym makes.1 ∙ is in absurd cc))
-  decided-on done build stand turns clean (changes m (whole path bytes time)) good each makes none sound other now n undecided no_begin no_stop =
+  decided-on done build stand turns clean (changes m (whole path bytes time)) good each due makes none sound other now n undecided no_begin no_stop =
       kept-on n done (changes m (whole path bytes time)) build _ stand _ clean _ refl
       (λ has.
       put-elsewhere stand.files path (name n) bytes time
       (ap is_meta_path makes.2.path_is ∙ meta_path-is (name m)) (no_meta n has))
+      (meta-other stand.files path bytes time m n makes.2.path_is
+      (λ same.
+      (due m (inr makes.1)).1 (subst (λ k. slice_get build.run.nodes k ≡ Some Undecided) same undecided))
+      (due m (inr makes.1)).0 (within-plan done build stand good.past n undecided))
       (ap (λ l. l n) (now.looks other))
       (λ at. let both : close m ≡ free = sym makes.1 ∙ at.free_now in absurd cc)
       (each n undecided
       (λ is. let both : close m ≡ begin n = sym makes.1 ∙ is in absurd cc)
       (λ is. let both : close m ≡ stop = sym makes.1 ∙ is in absurd cc))
-  decided-on done build stand turns clean (changes m (cut_head path part time)) good each makes none sound other now n undecided no_begin no_stop =
+  decided-on done build stand turns clean (changes m (cut_head path part time)) good each due makes none sound other now n undecided no_begin no_stop =
       absurd (no_stop refl)
-  decided-on done build stand turns clean (changes m (cut_whole path part time)) good each makes none sound other now n undecided no_begin no_stop =
+  decided-on done build stand turns clean (changes m (cut_whole path part time)) good each due makes none sound other now n undecided no_begin no_stop =
       absurd (no_stop refl)
-  decided-on done build stand turns clean (leaves ticket owner) good each makes none sound other now n undecided no_begin no_stop =
+  decided-on done build stand turns clean (leaves ticket owner) good each due makes none sound other now n undecided no_begin no_stop =
       absurd none
 
   -- behind a look
@@ -446,7 +628,7 @@ module _ (meaning : Meaning) (work : Work) (tasks : run.Tasks) (entry : Stand)
       (stand_after stand (happened (looks m seen))) then_clean
   look-others done build stand clean then_clean m n seen other same none deciding =
       kept-on n done (looks m seen) build _ stand _ clean then_clean (other-seen m n seen build other)
-      (λ has. refl) same none deciding
+      (λ has. refl) refl same none deciding
 
   -- a look of the node itself, before its meta file is looked at
   look-dated : (done : List Item) (build : Build) (stand : Stand) (clean : turn.Build) (m : ℕ) (seen : Seen)
@@ -460,11 +642,12 @@ module _ (meaning : Meaning) (work : Work) (tasks : run.Tasks) (entry : Stand)
 
   look-read : (done : List Item) (build : Build) (stand : Stand) (clean : turn.Build) (m : ℕ)
       (path : List ℕ) (bytes : Option (List ℕ)) → Past meaning work tasks entry idle done build stand
-      → bytes ≡ contents stand.files path → NotRead m build clean
+      → bytes ≡ contents stand.files path
+      → stand.files (meta_path (name m)) ≡ entry.files (meta_path (name m)) → NotRead m build clean
       → run.MayDecide (rules_of work) build.run m → build.duty ≡ free
       → ReadAt m (done ++ looks m (read path bytes) ∷ [])
       (build_after work tasks build (looks m (read path bytes))) clean
-  look-read done build stand clean m path bytes past fits not_read may duty =
+  look-read done build stand clean m path bytes past fits meta_file not_read may duty =
       let item = looks m (read path bytes) in
       let stands : stand_after entry (happened_all (done ++ item ∷ [])) ≡ stand_after stand (happened item) =
       ap (stand_after entry) (happened_all-append done (item ∷ []))
@@ -478,6 +661,8 @@ module _ (meaning : Meaning) (work : Work) (tasks : run.Tasks) (entry : Stand)
         late = [];
         cut = sym (append-nil (done ++ item ∷ []));
         of = tt;
+        leave = tt;
+        stays = ap (λ (s : Stand). s.files (meta_path (name m))) stands ∙ meta_file;
         first = build.seen m;
         first_dated = not_read.dated_all;
         seen_is = own-seen m (read path bytes) build;
@@ -502,6 +687,8 @@ module _ (meaning : Meaning) (work : Work) (tasks : run.Tasks) (entry : Stand)
         late = at.late ++ item ∷ [];
         cut = ap (λ l. l ++ item ∷ []) at.cut ∙ append_assoc at.front at.late (item ∷ []);
         of = of-last m at.late item at.of refl;
+        leave = leave-last (meta_path (name m)) at.late item at.leave tt;
+        stays = at.stays;
         first = at.first;
         first_dated = at.first_dated;
         seen_is = own-seen m seen build
@@ -528,6 +715,7 @@ module _ (meaning : Meaning) (work : Work) (tasks : run.Tasks) (entry : Stand)
         each-node m _
             (λ undecided no_begin no_stop. record {
               target = target-more done build stand clean m seen fits deciding;
+              meta_file = deciding.meta_file;
               phase = inr (look-more done build clean clean m seen at
                   (λ other. at.looks_are other ∙ sym (same other (bytes_eq (path_of seen) other) refl)));
             })
@@ -553,6 +741,7 @@ module _ (meaning : Meaning) (work : Work) (tasks : run.Tasks) (entry : Stand)
         each-node m _
             (λ undecided no_begin no_stop. record {
               target = target-more done build stand clean m seen fits deciding;
+              meta_file = deciding.meta_file;
               phase = inr (look-more done build clean _ m seen at
                   (λ other.
                   with-own m (path_of seen) (clean.files (path_of seen)) clean.looks other
@@ -588,7 +777,7 @@ module _ (meaning : Meaning) (work : Work) (tasks : run.Tasks) (entry : Stand)
       first-look-at duty may deciding (dated one) is fit not_read =
           inl (look-dated done build stand clean m (dated one) tt not_read)
       first-look-at duty may deciding (read path bytes) is fit not_read =
-          inr (look-read done build stand clean m path bytes good.past fit not_read may duty)
+          inr (look-read done build stand clean m path bytes good.past fit deciding.meta_file not_read may duty)
 
       in-phase : (duty : build.duty ≡ free) → run.MayDecide (rules_of work) build.run m
           → Deciding m done build stand clean
@@ -598,6 +787,7 @@ module _ (meaning : Meaning) (work : Work) (tasks : run.Tasks) (entry : Stand)
         each-node m _
             (λ undecided no_begin no_stop. record {
               target = target-more done build stand clean m seen fits deciding;
+              meta_file = deciding.meta_file;
               phase = first-look-at duty may deciding seen refl fits not_read;
             })
             (λ n other undecided no_begin no_stop.
@@ -626,6 +816,7 @@ module _ (meaning : Meaning) (work : Work) (tasks : run.Tasks) (entry : Stand)
             (λ given. let both : date late_look.1 ≡ stop = sym late_look.2 ∙ given in absurd cc) in
             record {
               target = target-more done build stand clean m seen fits deciding;
+              meta_file = deciding.meta_file;
               phase = dated_phase deciding.phase;
             })
             (λ n other undecided no_begin no_stop.
@@ -646,5 +837,6 @@ module _ (meaning : Meaning) (work : Work) (tasks : run.Tasks) (entry : Stand)
   pub deciding-first : EachDeciding [] (first_build work) entry (turn.first_build (contents entry.files))
   deciding-first n undecided no_begin no_stop = record {
     target = λ has. tt;
+    meta_file = refl;
     phase = inl (record { dated_all = tt; none = λ path. refl });
   }

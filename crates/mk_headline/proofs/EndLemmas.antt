@@ -1,5 +1,5 @@
 -- Builds that are over leave what the clean build leaves.
-use Rattle.std.proofs.Common.{◌≡◌, ◌∙◌, ℕ, suc, ◌<◌, List, [], ◌∷◌, ◌++◌, length, get_or, slice_get, Option, Some, None, true}
+use Rattle.std.proofs.Common.{◌≡◌, ◌∙◌, ℕ, ◌<◌, List, [], ◌∷◌, ◌++◌, length, get_or, slice_get, Option, Some, None, true}
 use Rattle.std.proofs.Common.{refl, sym, ap, subst, arith}
 use Rattle.mk_clean.proofs.BesideLemmas.{builds_clean}
 use Rattle.mk_clean.proofs.StepLemmas.{steps_clean}
@@ -11,11 +11,10 @@ use Rattle.mk_graph.specs.Walks.{is_among}
 use Rattle.mk_headline.proofs.FullLemmas.{makes-first, full_turns}
 use Rattle.mk_headline.proofs.KeepLemmas.{fits-parts}
 use Rattle.mk_headline.proofs.PastLemmas.{settled-at}
-use Rattle.mk_headline.proofs.PlanLemmas.{are-distinct, before-less, clean-node, job-has}
+use Rattle.mk_headline.proofs.PlanLemmas.{length-before, are-distinct, before-less, clean-node, job-has}
 use Rattle.mk_headline.specs.Laws.{BuildsAreClean, DoneBuildsAreClean, IsClean, IsReady}
 use Rattle.mk_headline.specs.Plans.{clean_plan}
 use Rattle.mk_headline.specs.Premises.{IsWellMade}
-use Rattle.mk_plan.specs.declared.plan.PlanNode.{PlanNode}
 use Rattle.mk_plan.specs.declared.plan.NodeState.TheVariants.{Undecided, Settled}
 use Rattle.mk_sched.proofs.StartLemmas.{predecessors-at}
 use Rattle.mk_sched.specs.Schedule.{predecessors}
@@ -113,10 +112,6 @@ stand-behind work well node one among =
     (subst (λ l. is_among l one ≡ true) (predecessors-at work.plan node) among) in
     omega (arith, less)
 
-length-before : (nodes : List PlanNode) → length (predecessors nodes) ≡ length nodes
-length-before [] = refl
-length-before (node ∷ nodes) = ap suc (length-before nodes)
-
 no-event : (next : Option Event) → None ≡ run.or_next None next → next ≡ None
 no-event next is = sym is
 
@@ -154,7 +149,7 @@ ends_clean meaning work tasks items old new ready makes happens last room over =
     (subst (λ l. run.IsOver (rules_of work) (build_after_all work tasks (first_build work) l).run) are
     over.over)) in
     let built = full_turns meaning work tasks items old new ready.lawful ready.idle ready.truth
-    ready.well_made ready.mode ready.declared ready.apart makes happens none over.failed in
+    ready.well_made ready.mode ready.declared makes happens none over.failed in
     let distinct = are-distinct meaning work tasks store ready.well_made in
     let clean = builds_clean meaning plan store ready.declared distinct built.turns built.may
     (λ one among.
@@ -172,7 +167,7 @@ told_clean : (meaning : Meaning) (work : Work) (tasks : run.Tasks) (items : List
     → 0 < jobs_of work → IsOver work None (build_after_all work tasks (first_build work) items)
     → Told before after (Happened meaning items)
     → Told before after
-    (λ old new. IsReady meaning work tasks items old → IsClean meaning work tasks items old new)
+    (λ old new. IsReady meaning work tasks old → IsClean meaning work tasks items old new)
 told_clean meaning work tasks items before None makes last room over told = tt
 told_clean meaning work tasks items None (Some new) makes last room over told = absurd told
 told_clean meaning work tasks items (Some old) (Some new) makes last room over told =

@@ -4,7 +4,7 @@ use Rattle.std.proofs.Common.{inl, inr, refl, sym, ap, subst, arith, append_asso
 use Rattle.std.proofs.lemmas.List.{append-nil, map-append}
 use Rattle.std.proofs.lemmas.List.Elements.{recursion_from_All}
 use Rattle.std.specs.List.{AllByRecursion, Contains}
-use Rattle.std.specs.Option.{option_or}
+use Rattle.std.specs.Option.{option_map, option_or}
 use Rattle.std.specs.Prelude.{Result, Ok, Err, unwrap_or}
 use Rattle.std.specs.Str.{bytes_eq}
 use Rattle.mk_bytes.specs.Agrees.{◌>>=◌}
@@ -326,8 +326,8 @@ never-phony : (phony exec remake : Bool) → (phony || exec || remake) ≡ false
 never-phony false exec remake is = refl
 never-phony true exec remake is = absurd cc
 
-module _ (meaning : Meaning) (work : Work) (tasks : run.Tasks) (base : List File) (events : List Happening)
-    (n : ℕ) (clean : turn.Build) (late : List Item) (seen first : List Seen) (path : List ℕ)
+module _ (meaning : Meaning) (work : Work) (tasks : run.Tasks) (base : List File)
+    (past mid : List Happening) (n : ℕ) (clean : turn.Build) (late : List Item) (seen first : List Seen) (path : List ℕ)
     (bytes : Option (List ℕ)) (task : Task) where
   abbrev plan : Plan
   plan = clean_plan work tasks
@@ -337,6 +337,13 @@ module _ (meaning : Meaning) (work : Work) (tasks : run.Tasks) (base : List File
 
   abbrev mp : List ℕ
   mp = meta_path name
+
+  -- what had happened when the meta file was looked at, and what before the build
+  abbrev events : List Happening
+  events = past ++ mid
+
+  abbrev before : Stand
+  before = after_all (first_state base) past
 
   abbrev front : Stand
   front = after_all (first_state base) events
@@ -355,8 +362,10 @@ module _ (meaning : Meaning) (work : Work) (tasks : run.Tasks) (base : List File
     pub fits : FitsAll meaning front late
     pub leave : AllLeave mp late
     pub told : (meta : Meta) → IsLawful meta
-        → contents front.files (meta_path meta.target) ≡ Some (meta_text meta)
-        → IsTrue meaning.next meta events
+        → contents before.files (meta_path meta.target) ≡ Some (meta_text meta)
+        → IsTrue meaning.next meta past
+    -- the meta file was not changed in the build
+    pub stays : front.files mp ≡ before.files mp
     pub looks_are : (other : List ℕ) → clean.looks n other ≡ first_look front late other
     pub files : clean.files ≡ contents last.files
     pub first_dated : AllSeen IsDated first
@@ -449,10 +458,13 @@ module _ (meaning : Meaning) (work : Work) (tasks : run.Tasks) (base : List File
       at_mp : meta_path meta.target ≡ mp
       at_mp = ap meta_path target_is
 
-      is_true : IsTrue meaning.next meta events
-      is_true = given.told meta lawful_meta
-          (ap (contents front.files) (at_mp ∙ split.paths)
-          ∙ (sym given.text ∙ (sym split.texts ∙ (bytes_are ∙ ap Some text_is))))
+      is_true : IsTrue meaning.next meta past
+      is_true =
+          given.told meta lawful_meta
+          (ap (contents before.files) at_mp
+          ∙ (ap (option_map (λ (file : Filed). file.bytes)) (sym given.stays)
+          ∙ (ap (contents front.files) split.paths
+          ∙ (sym given.text ∙ (sym split.texts ∙ (bytes_are ∙ ap Some text_is))))))
 
       -- the meta file stands all the while
       abbrev mp_when : When
@@ -468,15 +480,22 @@ module _ (meaning : Meaning) (work : Work) (tasks : run.Tasks) (base : List File
       meta_when : ms.when ≡ when.At (record { 0 = is_true.time })
       meta_when =
           when_is
-          ∙ ap when_of (ap front.files (sym at_mp) ∙ meta-stands meaning.next base meta events is_true)
+          ∙ ap when_of (given.stays
+          ∙ (ap before.files (sym at_mp) ∙ meta-stands meaning.next base meta past is_true))
 
       abbrev later : List ℕ → List Happening
-      later other = is_true.since ++ happened_all (until_look other late)
+      later other = is_true.since ++ (mid ++ happened_all (until_look other late))
 
-      state_is : (other : List ℕ) → after_all (first_state base) (until is_true (later other)) ≡ moment other
+      until_is : (other : List ℕ)
+          → until is_true (later other) ≡ events ++ happened_all (until_look other late)
+      until_is other =
+          until-more meaning.next meta past (mid ++ happened_all (until_look other late)) is_true
+          ∙ sym (append_assoc past mid (happened_all (until_look other late)))
+
+      state_is : (other : List ℕ)
+          → after_all (first_state base) (until is_true (later other)) ≡ moment other
       state_is other =
-          ap (after_all (first_state base))
-          (until-more meaning.next meta events (happened_all (until_look other late)) is_true)
+          ap (after_all (first_state base)) (until_is other)
           ∙ after_all-append (first_state base) events (happened_all (until_look other late))
 
       lawful_at : (other : List ℕ) → MayAll meaning (first_state base) (until is_true (later other))
@@ -488,7 +507,7 @@ module _ (meaning : Meaning) (work : Work) (tasks : run.Tasks) (base : List File
           ∙ (ap (λ l. events ++ l) (happened_all-append (until_look other late) (from_look other late))
           ∙ sym (append_assoc events here there)) in
           subst (MayAll meaning (first_state base))
-          (sym (until-more meaning.next meta events here is_true))
+          (sym (until_is other))
           (MayAll-parts meaning (first_state base) (events ++ here) there
           (subst (MayAll meaning (first_state base)) whole given.lawful)).0
 
@@ -614,9 +633,9 @@ module _ (meaning : Meaning) (work : Work) (tasks : run.Tasks) (base : List File
 
       pub keeps-by-file : MayKeep meaning plan clean n
       keeps-by-file =
-          let holds = present meaning base meta events is_true later records lawful_at fresh.recorded.1
+          let holds = present meaning base meta past is_true later records lawful_at fresh.recorded.1
           untouched found in
-          fresh_may_keep meaning base meta events is_true plan clean n task times has_task fresh later
+          fresh_may_keep meaning base meta past is_true plan clean n task times has_task fresh later
           (λ other.
           ap (λ (s : Stand). contents s.files other) (state_is other)
           ∙ (sym (seen-is front late other)

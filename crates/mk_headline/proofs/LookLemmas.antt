@@ -294,6 +294,11 @@ abbrev pub AllLeave : List ℕ → List Item → Type 0
 AllLeave path [] = Unit {0}
 AllLeave path (item ∷ items) = StepLeaves path item × AllLeave path items
 
+pub leave-last : (path : List ℕ) (items : List Item) (item : Item) → AllLeave path items
+    → StepLeaves path item → AllLeave path (items ++ item ∷ [])
+leave-last path [] item all is = (is, tt)
+leave-last path (one ∷ items) item all is = (all.0, leave-last path items item all.1 is)
+
 -- then each look at it saw the same
 pub all-saw : (meaning : Meaning) (n : ℕ) (path : List ℕ) (stand : Stand) (items : List Item)
     → FitsAll meaning stand items → AllOf n items → AllLeave path items

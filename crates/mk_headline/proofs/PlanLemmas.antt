@@ -284,3 +284,7 @@ depends-less work tasks well n other (through between one depends among) =
     let less = before-less work.plan 0 between one well.ordered
     (source-before work.plan between one well.sourced among) in
     omega (arith, first, less)
+
+pub length-before : (nodes : List PlanNode) → length (predecessors nodes) ≡ length nodes
+length-before [] = refl
+length-before (node ∷ nodes) = ap suc (length-before nodes)

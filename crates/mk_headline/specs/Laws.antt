@@ -13,7 +13,6 @@ use Rattle.mk_trace.specs.Ends.{IsOver}
 use Rattle.mk_decision.specs.Makers.{jobs_of}
 use Rattle.mk_trace.specs.Items.{Item, looks, keeps, refuses, starts, passes, waits, steps, ends, changes, leaves, Happened}
 use Rattle.mk_trace.specs.Runs.{Tasks}
-use Rattle.mk_trace.specs.TrueBuilds.{IsApart}
 use Rattle.mk_world.specs.History.{files_of, state_of}
 use Rattle.mk_world.specs.Lawful.{IsLawful}
 use Rattle.mk_world.specs.Talks.{Meaning}
@@ -70,25 +69,22 @@ BuildsAreTurns =
     → IsLawful meaning old → (state_of old).children ≡ [] → IsTrueHistory meaning.next old
     → IsWellMade work → GoesByMetaMode work tasks
     → IsDeclared (clean_plan work tasks) (clean_build meaning (clean_plan work tasks) (files_of old))
-    → IsApart work tasks items → Makes work tasks (first_build work) items
+    → Makes work tasks (first_build work) items
     → Happened meaning items old new → NoneLeft items
     → (build_after_all work tasks (first_build work) items).failure ≡ None
     → IsBuildOfTurns meaning work tasks items old new
 
 -- A build begins so: where no child runs, in a history that may have come about, in which each meta file that
--- stands tells what happened. The plan is well made, the build goes by meta mode, what its jobs read and
--- change is declared, and they keep apart.
-pub record IsReady (meaning : Meaning) (work : Work) (tasks : Tasks) (items : List Item) (old : History)
-    : Type 0
-  where
-    pub lawful : IsLawful meaning old
-    pub idle : (state_of old).children ≡ []
-    pub truth : IsTrueHistory meaning.next old
-    pub well_made : IsWellMade work
-    pub mode : GoesByMetaMode work tasks
-    pub declared : IsDeclared (clean_plan work tasks)
-        (clean_build meaning (clean_plan work tasks) (files_of old))
-    pub apart : IsApart work tasks items
+-- stands tells what happened. The plan is well made, the build goes by meta mode, and what the jobs of the
+-- clean build read and change is declared.
+pub record IsReady (meaning : Meaning) (work : Work) (tasks : Tasks) (old : History) : Type 0 where
+  pub lawful : IsLawful meaning old
+  pub idle : (state_of old).children ≡ []
+  pub truth : IsTrueHistory meaning.next old
+  pub well_made : IsWellMade work
+  pub mode : GoesByMetaMode work tasks
+  pub declared : IsDeclared (clean_plan work tasks)
+      (clean_build meaning (clean_plan work tasks) (files_of old))
 
 -- A build leaves what the clean build leaves: that goes well, each file that its nodes make has the bytes
 -- that it gives it, and each step of the build is a step of the same node in it.
@@ -104,7 +100,7 @@ pub record IsClean (meaning : Meaning) (work : Work) (tasks : Tasks) (items : Li
 abbrev pub BuildsAreClean : Type 0
 BuildsAreClean =
     (meaning : Meaning) (work : Work) (tasks : Tasks) (items : List Item) (old new : History)
-    → IsReady meaning work tasks items old → Makes work tasks (first_build work) items
+    → IsReady meaning work tasks old → Makes work tasks (first_build work) items
     → Happened meaning items old new → GivesUpLast items → 0 < jobs_of work
     → IsOver work None (build_after_all work tasks (first_build work) items)
     → IsClean meaning work tasks items old new
@@ -116,5 +112,5 @@ DoneBuildsAreClean =
     (meaning : Meaning) (work : Work) (cut : Bool) (first last : Moment)
     (build : IsBuild meaning work cut first last (IsOver work None)) → 0 < jobs_of work
     → Told first.history last.history
-    (λ old new. IsReady meaning work build.tasks build.items old
+    (λ old new. IsReady meaning work build.tasks old
     → IsClean meaning work build.tasks build.items old new)
