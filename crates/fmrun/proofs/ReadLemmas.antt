@@ -1,6 +1,6 @@
 -- A log that is read again, line by line.
-use Rattle.std.proofs.Common.{◌≡◌, ℕ, Bool, true, false, not, ◌&&◌, ◌==◌, ◌-◌, List, [], ◌∷◌, ◌++◌}
-use Rattle.std.proofs.Common.{length, take, map, Some, None, codes, flat_map, refl, sym, ◌∙◌, ap, arith}
+use Rattle.std.proofs.Common.{◌≡◌, ℕ, Bool, true, false, ◌&&◌, ◌==◌, ◌-◌, List, [], ◌∷◌, ◌++◌}
+use Rattle.std.proofs.Common.{length, map, Some, codes, flat_map, refl, sym, ◌∙◌, ap, arith}
 use Rattle.std.proofs.Common.{append_assoc}
 use Rattle.std.proofs.Math.Seq.{get_or-append_seam, take-append_seam}
 use Rattle.std.proofs.lemmas.Bool.Decides.{nat_tests}
@@ -11,8 +11,8 @@ use Rattle.mk_world.specs.declared.step.Op.{Op}
 use Rattle.mk_world.specs.declared.step.Op.TheVariants.{Read, Miss, Write, Delete, Move}
 use Rattle.mk_filemon.specs.Escapes.{quote, cut_at}
 use Rattle.mk_filemon.specs.Log.{Directories, no_directories, with_directory, directory_of}
-use Rattle.mk_filemon.specs.Log.{directory_from, is_newline, cut_at_gap, closed, pair_in, line_of}
-use Rattle.mk_filemon.specs.Log.{ops_on, directories_after, lines_logged, logged}
+use Rattle.mk_filemon.specs.Log.{directory_from, is_newline, cut_at_gap, closed, pair_in}
+use Rattle.mk_filemon.specs.Log.{lines_logged}
 use Rattle.mk_filemon.proofs.EscapeLemmas.{cases}
 use Rattle.fmrun.specs.Logs.{is_not_empty, has_no, has_form, line, are_apart, move_lines, lines_of}
 use Rattle.fmrun.specs.Logs.{log}

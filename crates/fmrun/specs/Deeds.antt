@@ -80,6 +80,17 @@ abbrev pub deed_of : Act → List Sight → List ℕ → Deed
 deed_of what sights text =
     if is_stopped what sights then ends 1 else done what sights text
 
+abbrev pub is_end : List Sight → Bool
+is_end [] = true
+is_end (sight ∷ sights) = false
+
+-- Looks go on in order while files are found, up to the last path or the first that is not.
+abbrev pub are_looks : List (List ℕ) → List Sight → Bool
+are_looks [] sights = is_end sights
+are_looks (path ∷ paths) [] = false
+are_looks (path ∷ paths) (sight ∷ sights) =
+    if is_found sight then are_looks paths sights else is_end sights
+
 -- A look at a file that stands is a read, also where it is refused, and one at a missing file a miss.
 abbrev pub look_op : List ℕ → Sight → Op
 look_op path Found = op.Read path

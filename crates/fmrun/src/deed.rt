@@ -78,7 +78,8 @@ fn prints(output: Text) -> Deed
     }
 }
 
-fn is_found(sight: Sight) -> bool
+/// Whether a look found its file.
+pub fn is_found(sight: Sight) -> bool
     ensures { result ≡ spec.is_found sight }
 {
     matches!(sight, Sight::Found)

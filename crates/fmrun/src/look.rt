@@ -1,5 +1,8 @@
 //! The looks of a request, at real files and the environment.
-use crate::deed::{Sight, Sights};
+ghost use Rattle.std.specs.Prelude.{◌≡◌, true, IfOk};
+ghost use Rattle.fmrun.specs.Deeds.{are_looks};
+
+use crate::deed::{Sight, Sights, is_found};
 use crate::file;
 use crate::refusal::Refusal;
 use crate::request::Act;
@@ -30,18 +33,16 @@ fn look_at<R: Files + AllocGlobal>(
 }
 
 // Looks at the files in order, up to the first that does not stand.
-fn look_at_all<R: Files + AllocGlobal>(
-    rt: &R,
-    act: &Act,
-    looks: &[Text],
-) -> Result<Seen, NoMemory> {
+fn look_at_all<R: Files + AllocGlobal>(rt: &R, act: &Act, looks: &[Text]) -> Result<Seen, NoMemory>
+    ensures { IfOk result (λ seen. are_looks looks.now seen.sights ≡ true) }
+{
     let mut sights = Items::new(rt.alloc(), looks.len())?;
     let mut text = Text::new(rt.alloc());
     for path in looks {
         let sight = look_at(rt, act, path.bytes(), &mut text)?;
         sights.push(sight)?;
-        if !matches!(sight, Sight::Found) {
-            break;
+        if !is_found(sight) {
+            return Ok(Seen { sights, text });
         }
     }
     Ok(Seen { sights, text })
