@@ -1,6 +1,6 @@
 -- Members of a closure that are gathered one after the other.
-use Rattle.std.proofs.Common.{◌≡◌, ◌∙◌, ℕ, zero, suc, ◌+◌, ◌-◌, ◌<◌, ◌≤◌, Bool, true, false, ◌&&◌, List, [], ◌∷◌, ◌++◌}
-use Rattle.std.proofs.Common.{length, map, get_or, not, Option, Some, None, Result, Ok, Err, IfOk, refl, sym, ap, append_assoc, arith}
+use Rattle.std.proofs.Common.{◌≡◌, ◌∙◌, ℕ, zero, suc, ◌+◌, ◌-◌, ◌^◌, ◌<◌, ◌≤◌, Bool, true, false, ◌&&◌, List, [], ◌∷◌, ◌++◌}
+use Rattle.std.proofs.Common.{length, map, get_or, not, Option, Some, None, Result, Ok, Err, IfOk, refl, sym, ap, append_assoc, length-append, arith}
 use Rattle.std.proofs.lemmas.List.{append-nil, length-map}
 use Rattle.mk_closure.specs.Members.{is_planned, planned_of, numbers_in, number_onto, numbers_from}
 use Rattle.mk_closure.specs.Members.{preds_in, all_preds, sources_in}
@@ -33,6 +33,22 @@ filter-append s n more = one (is_planned s n) refl
         → planned_of s (n ∷ more) ≡ planned_of s (n ∷ []) ++ planned_of s more
     one true is = rw is refl
     one false is = rw is refl
+
+-- the planned ones of two lists
+pub planned_of-append : (s : State) (a b : List ℕ)
+    → planned_of s (a ++ b) ≡ planned_of s a ++ planned_of s b
+planned_of-append s [] b = refl
+planned_of-append s (n ∷ a) b =
+    filter-append s n (a ++ b)
+    ∙ (ap (λ l. planned_of s (n ∷ []) ++ l) (planned_of-append s a b)
+    ∙ (sym (append_assoc (planned_of s (n ∷ [])) (planned_of s a) (planned_of s b))
+    ∙ ap (λ l. l ++ planned_of s b) (sym (filter-append s n a))))
+
+-- sources that stand apart are fewer than 2 ^ 33
+pub listed-short : (own : List ℕ) (found : Option ℕ) → length own < 2 ^ 32
+    → length (own ++ number_onto found []) < 2 ^ 33
+listed-short own None short = rw (append-nil own) (omega (arith, short))
+listed-short own (Some n) short = rw (length-append own (n ∷ [])) (omega (arith, short))
 
 -- the planned nodes with one more
 pub planned_of-next : (s : State) (all planned rest : List ℕ) (n : ℕ) (more : List ℕ)

@@ -3,6 +3,7 @@ use Rattle.std.specs.Prelude.{ℕ, zero, suc, ◌+◌, Bool, not, ◌&&◌, List
 use Rattle.std.specs.Prelude.{filter, codes, unwrap_or, Option, Some, None}
 use Rattle.mk_closure.specs.Names.{name_in, number_in}
 use Rattle.mk_closure.specs.Parts.{State, part_at, is_dropped_way}
+use Rattle.mk_closure.specs.declared.members.Sources.{Sources}
 use Rattle.mk_closure.specs.declared.part.Way.{Way}
 use Rattle.mk_closure.specs.declared.part.Way.TheVariants.{Open, Own, Rule, Default, Dropped}
 use Rattle.mk_graph.specs.Nodes.{Node, node_at, number_of}
@@ -18,6 +19,14 @@ sources_by own Dropped = []
 
 abbrev pub sources_in : State → ℕ → List ℕ
 sources_in s n = sources_by (node_at s.nodes n).sources (part_at s n).way
+
+abbrev pub number_onto : Option ℕ → List ℕ → List ℕ
+number_onto None numbers = numbers
+number_onto (Some n) numbers = n ∷ numbers
+
+-- a node's sources as one list, where those that it has of its own and that of a rule stand apart
+abbrev pub listed : Sources → List ℕ
+listed sources = sources.own.now ++ number_onto sources.of_rule []
 
 -- the node of `.DEFAULT`
 abbrev pub default_of : List Node → ℕ
@@ -66,10 +75,6 @@ numbers_from start (suc count) = start ∷ numbers_from (start + 1) count
 
 abbrev pub all_preds : State → List (List ℕ)
 all_preds s = map (preds_in s) (numbers_from 0 (length s.parts))
-
-abbrev pub number_onto : Option ℕ → List ℕ → List ℕ
-number_onto None numbers = numbers
-number_onto (Some n) numbers = n ∷ numbers
 
 abbrev pub numbers_in : State → List (List ℕ) → List ℕ
 numbers_in s [] = []

@@ -14,5 +14,6 @@ mod visit;
 pub use closure::Closure;
 pub use fault::CloseFault;
 pub use law::{closures_are_named, closures_are_what_is_needed};
+pub use members::Sources;
 pub use part::{Part, Way};
 pub use visit::close;

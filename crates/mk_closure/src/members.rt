@@ -1,5 +1,5 @@
 //! The nodes of a closure, and what belongs to each.
-ghost use Rattle.std.specs.Prelude.{◌≡◌, ◌<◌, [], ◌∷◌, ◌++◌, length, IfOk, OnOk};
+ghost use Rattle.std.specs.Prelude.{◌≡◌, ◌<◌, ◌^◌, [], ◌∷◌, ◌++◌, length, IfOk, OnOk};
 ghost use Rattle.mk_closure.specs.Members as spec;
 ghost use Rattle.mk_closure.specs.Names.{number_in};
 ghost use Rattle.mk_graph.specs.Nodes.{node_at};
@@ -11,14 +11,25 @@ use mk_bytes::{Items, NoMemory, Text};
 use mk_graph::{Graph, Marks, Nodes, Preds};
 use std::alloc::Global;
 
-fn copied(alloc: Global, nodes: &[u32]) -> Result<Nodes, NoMemory>
-    ensures { IfOk result (λ copies. copies ≡ nodes.now) }
-{
-    let mut copies = Items::new(alloc, nodes.len())?;
-    for n in nodes {
-        copies.push(*n)?;
+/// The sources of a node as they stand, without a copy: those that the makefiles give it, and behind them
+/// that of a rule.
+#[derive(Clone, Copy)]
+pub struct Sources<'g> {
+    pub own: &'g [u32],
+    pub of_rule: Option<u32>,
+}
+
+impl<'g> Sources<'g> {
+    /// How many there are.
+    pub fn len(&self) -> usize
+        requires { length self.now.own.now < 2 ^ 32 }
+        ensures { result ≡ length (spec.listed self.now) }
+    {
+        match self.of_rule {
+            Some(_) => self.own.len() + 1,
+            None => self.own.len(),
+        }
     }
-    Ok(copies)
 }
 
 fn default_of(graph: &Graph) -> u32
@@ -32,36 +43,53 @@ fn default_of(graph: &Graph) -> u32
 
 impl<'g> Closure<'g> {
     // The sources that the makefiles give a node.
-    fn own_sources(&self, alloc: Global, n: u32) -> Result<Nodes, NoMemory>
+    fn own_sources(&self, n: u32) -> &'g [u32]
         requires { n < length self.now.parts }
-        ensures value { IfOk result (λ nodes. nodes ≡ (node_at self.now.nodes n).sources) }
-        ensures below { IfOk result (AreBelow (length self.now.parts)) }
+        ensures value { result.now ≡ (node_at self.now.nodes n).sources }
+        ensures below { AreBelow (length self.now.parts) result.now }
+        ensures short { length result.now < 2 ^ 32 }
     {
         if (n as usize) < self.graph().len() {
-            return copied(alloc, self.graph().sources(n).as_slice());
+            return self.graph().sources(n).as_slice();
         }
-        Items::new(alloc, 0)
+        &[]
     }
 
     /// The sources of a node, in their order.
-    pub(crate) fn sources(&self, alloc: Global, n: u32) -> Result<Nodes, NoMemory>
+    pub fn sources(&self, n: u32) -> Sources<'g>
         requires { n < length self.now.parts }
-        ensures value { IfOk result (λ nodes. nodes ≡ spec.sources_in self.now n) }
-        ensures below { IfOk result (AreBelow (length self.now.parts)) }
+        ensures value { spec.listed result ≡ spec.sources_in self.now n }
+        ensures below { AreBelow (length self.now.parts) (spec.listed result) }
+        ensures short { length result.own.now < 2 ^ 32 }
     {
         match self.part(n).way {
-            Way::Open | Way::Own | Way::Default => self.own_sources(alloc, n),
-            Way::Rule(_, source) => {
-                let mut sources = self.own_sources(alloc, n)?;
-                sources.push(source)?;
-                Ok(sources)
-            }
-            Way::Dropped => Items::new(alloc, 0),
+            Way::Open | Way::Own | Way::Default => Sources {
+                own: self.own_sources(n),
+                of_rule: None,
+            },
+            Way::Rule(_, source) => Sources {
+                own: self.own_sources(n),
+                of_rule: Some(source),
+            },
+            Way::Dropped => Sources {
+                own: &[],
+                of_rule: None,
+            },
         }
     }
 
+    /// The nodes that are ordered before a node, planned or not.
+    pub fn ordered(&self, n: u32) -> &'g [u32]
+        ensures { result.now ≡ (node_at self.now.nodes n).ordered }
+    {
+        if (n as usize) < self.graph().len() {
+            return self.graph().ordered(n).as_slice();
+        }
+        &[]
+    }
+
     /// Whether a node is planned: it was met, and is not dropped.
-    pub(crate) fn is_planned(&self, n: u32) -> bool
+    pub fn is_planned(&self, n: u32) -> bool
         ensures { result ≡ spec.is_planned self.now n }
     {
         if (n as usize) >= self.len() {
@@ -91,36 +119,28 @@ impl<'g> Closure<'g> {
         Ok(())
     }
 
-    /// Those of a node's sources that are planned.
-    pub fn planned_sources(&self, alloc: Global, n: u32) -> Result<Nodes, NoMemory>
-        requires { n < length self.now.parts }
-        ensures { IfOk result (λ nodes. nodes
-            ≡ spec.planned_of self.now (spec.sources_in self.now n)) }
-    {
-        let mut planned = Items::new(alloc, 0)?;
-        self.add_planned(&mut planned, self.sources(alloc, n)?.as_slice())?;
-        Ok(planned)
-    }
-
-    // Adds the nodes that are ordered before one.
-    fn add_ordered(&self, planned: &mut Nodes, n: u32) -> Result<(), NoMemory>
+    // Adds those of a node's sources that are planned.
+    fn add_sources(&self, planned: &mut Nodes, sources: Sources<'g>) -> Result<(), NoMemory>
         ensures { OnOk result (planned.new
-            ≡ planned.old ++ spec.planned_of self.now (node_at self.now.nodes n).ordered) }
+            ≡ planned.old ++ spec.planned_of self.now (spec.listed sources.entry)) }
     {
-        if (n as usize) < self.graph().len() {
-            self.add_planned(planned, self.graph().ordered(n).as_slice())?;
+        self.add_planned(planned, sources.own)?;
+        match sources.of_rule {
+            Some(source) => self.add_if_planned(planned, source),
+            None => Ok(()),
         }
-        Ok(())
     }
 
-    /// The predecessors of a node: its sources that are planned, and then the planned nodes that are
-    /// ordered before it.
-    pub fn preds(&self, alloc: Global, n: u32) -> Result<Nodes, NoMemory>
+    // The predecessors of a node: its sources that are planned, and then the planned nodes that are
+    // ordered before it.
+    fn preds(&self, alloc: Global, n: u32) -> Result<Nodes, NoMemory>
         requires { n < length self.now.parts }
         ensures { IfOk result (λ nodes. nodes ≡ spec.preds_in self.now n) }
     {
-        let mut preds = self.planned_sources(alloc, n)?;
-        self.add_ordered(&mut preds, n)?;
+        let sources = self.sources(n);
+        let mut preds = Items::new(alloc, sources.len())?;
+        self.add_sources(&mut preds, sources)?;
+        self.add_planned(&mut preds, self.ordered(n))?;
         Ok(preds)
     }
 

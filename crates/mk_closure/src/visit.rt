@@ -1,6 +1,7 @@
 //! The walk from wanted names over their sources.
 ghost use Rattle.std.specs.Prelude.{◌≡◌, ◌+◌, ◌<◌, ◌≤◌, ◌^◌, false, [], ◌∷◌, ◌++◌, length, reverse, Ok, IfOk, IfErr, OnOk};
 ghost use Rattle.mk_closure.specs.Faults.{IsRefusedBy};
+ghost use Rattle.mk_closure.specs.Members.{listed};
 ghost use Rattle.mk_closure.specs.Names.{is_frame};
 ghost use Rattle.mk_closure.specs.Parts.{part_at, met_count};
 ghost use Rattle.mk_closure.specs.Steps as steps;
@@ -13,6 +14,7 @@ ghost use Rattle.mk_world.specs.Causes.{HasCause};
 use crate::closure::Closure;
 use crate::fault::CloseFault;
 use crate::means::means_of;
+use crate::members::Sources;
 use mk_bytes::{NoMemory, Text, Texts};
 use mk_graph::Graph;
 use mk_pool::MAX_NAMES;
@@ -35,6 +37,16 @@ fn push_turned(todo: &mut Vec<u32>, nodes: &[u32]) -> Result<(), NoMemory>
         todo.push(nodes[left])?;
     }
     Ok(())
+}
+
+// Pushes the sources of a node, so that the first of them is popped first.
+fn push_sources(todo: &mut Vec<u32>, sources: Sources<'_>) -> Result<(), NoMemory>
+    ensures { OnOk result (todo.new.items ≡ todo.old.items ++ reverse (listed sources.entry)) }
+{
+    if let Some(source) = sources.of_rule {
+        todo.push(source)?;
+    }
+    push_turned(todo, sources.own)
 }
 
 fn one(alloc: Global, n: u32) -> Result<Vec<u32>, NoMemory>
@@ -111,8 +123,7 @@ impl<'g> Closure<'g> {
             return Ok(());
         }
         self.enter(alloc, suffixes, n, world)?;
-        let sources = self.sources(alloc, n)?;
-        push_turned(todo, sources.as_slice())?;
+        push_sources(todo, self.sources(n))?;
         Ok(())
     }
 

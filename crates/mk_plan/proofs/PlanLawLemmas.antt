@@ -24,7 +24,7 @@ use Rattle.mk_graph.specs.Walks.{is_among, preds_of, depth_first}
 use Rattle.mk_graph.specs.declared.Made.{Made}
 use Rattle.mk_graph.specs.declared.walk.Ordered.{Ordered}
 use Rattle.mk_graph.specs.declared.walk.Ordered.TheVariants as walk
-use Rattle.mk_plan.proofs.PlanLemmas.{preds_of-is}
+use Rattle.mk_plan.proofs.PlanLemmas.{map-append, preds_of-is}
 use Rattle.mk_plan.specs.PlanLaws.{plan_names, all_sources, DependenceGoesBack, PlansAreSourced, IsReached, PlansAreReached, PlannedNamesDiffer}
 use Rattle.mk_plan.specs.Plans.{wanted, as_plan, order_by, order_of, place_from, plan_node, inner_nodes, frame_node, frame_commands, first_nodes, nodes_of, plan_of, named_plan, is_behind, are_ordered, has_its_sources, are_sourced}
 use Rattle.mk_plan.specs.declared.fault.PlanFault.{PlanFault}
@@ -105,10 +105,6 @@ all-among first second (one ∷ places) each =
     (each one (or_left (nat_eq one one) (is_among places one) (eq-eqb one one refl))))
     (all-among first second places
     (λ other among. each other (or_right (nat_eq other one) (is_among places other) among)))
-
-map-append : (place : ℕ → ℕ) (a b : List ℕ) → map place (a ++ b) ≡ map place a ++ map place b
-map-append place [] b = refl
-map-append place (n ∷ a) b = ap (λ l. place n ∷ l) (map-append place a b)
 
 node-sourced : (s : State) (place : ℕ → ℕ) (first n : ℕ)
     → has_its_sources (plan_node s place first n) ≡ true

@@ -7,7 +7,7 @@ use Rattle.std.proofs.lemmas.Bool.{cond_both, or_cases, eqb-true, false≢true, 
 use Rattle.std.proofs.lemmas.Grind.{common_steps}
 use Rattle.std.proofs.lemmas.List.{length-reverse, reverse-append, get_or-set_same, get_or-set_other}
 use Rattle.std.proofs.Math.Seq.{drop-cons}
-use Rattle.mk_closure.proofs.MemberLemmas.{AreBelow-append, all_preds-length}
+use Rattle.mk_closure.proofs.MemberLemmas.{AreBelow-append, all_preds-length, planned_of-append}
 use Rattle.mk_closure.specs.Members.{preds_in, all_preds, numbers_from, planned_of, sources_in}
 use Rattle.mk_closure.specs.Parts.{State}
 use Rattle.mk_graph.specs.Numbers.{AreBelow}
@@ -170,6 +170,20 @@ nodes_of-ordered s query order is =
     (frame_commands s.nodes (codes ".END") query)) front
     (frame-ordered (codes ".END") (0 + length nodes) (length nodes)
     (frame_commands s.nodes (codes ".END") query) (omega arith))
+
+-- the places of two lists
+pub map-append : (place : ℕ → ℕ) (a b : List ℕ) → map place (a ++ b) ≡ map place a ++ map place b
+map-append place [] b = refl
+map-append place (n ∷ a) b = ap (λ l. place n ∷ l) (map-append place a b)
+
+-- the places of the planned ones of two lists
+pub placed-append : (s : State) (place : ℕ → ℕ) (found a b : List ℕ)
+    → found ++ map place (planned_of s (a ++ b))
+    ≡ (found ++ map place (planned_of s a)) ++ map place (planned_of s b)
+placed-append s place found a b =
+    ap (λ l. found ++ map place l) (planned_of-append s a b)
+    ∙ (ap (λ l. found ++ l) (map-append place (planned_of s a) (planned_of s b))
+    ∙ sym (append_assoc found (map place (planned_of s a)) (map place (planned_of s b))))
 
 -- nodes are the same by the same places
 map-same : (p q : ℕ → ℕ) → ((n : ℕ) → p n ≡ q n) → (nodes : List ℕ) → map p nodes ≡ map q nodes

@@ -1,7 +1,7 @@
 //! Making a plan.
-ghost use Rattle.std.specs.Prelude.{◌≡◌, ℕ, ◌+◌, ◌<◌, ◌≤◌, ◌^◌, [], ◌++◌, length, map, get_or, IsTrue, Ok, IfOk, IfErr, OnOk};
+ghost use Rattle.std.specs.Prelude.{◌≡◌, ℕ, ◌+◌, ◌<◌, ◌≤◌, ◌^◌, [], ◌∷◌, ◌++◌, length, map, get_or, IsTrue, Ok, IfOk, IfErr, OnOk};
 ghost use Rattle.mk_bytes.specs.Agrees.{Agrees};
-ghost use Rattle.mk_closure.specs.Members.{numbers_from, all_preds};
+ghost use Rattle.mk_closure.specs.Members.{all_preds, listed, numbers_from, planned_of, sources_in};
 ghost use Rattle.mk_closure.specs.Names.{name_in};
 ghost use Rattle.mk_graph.specs.Numbers.{AreBelow};
 ghost use Rattle.mk_graph.specs.Orders.{IsOrder};
@@ -18,7 +18,7 @@ use crate::copies::copied;
 use crate::fault::PlanFault;
 use crate::plan::{Nodes, Plan, PlanNode};
 use mk_bytes::{Items, NoMemory, Text, Texts};
-use mk_closure::{Closure, close};
+use mk_closure::{Closure, Sources, close};
 use mk_graph::{Attr, Graph, Made, Marks, Ordered, depth_first};
 use mk_world::World;
 use std::alloc::Global;
@@ -91,14 +91,80 @@ fn place_in(places: &[u32], n: u32) -> u32
     }
 }
 
-fn places_in(alloc: Global, places: &[u32], nodes: &[u32]) -> Result<Nodes, NoMemory>
-    ensures { IfOk result (λ found. found ≡ map (λ n. get_or places.now n 0) nodes.now) }
+// Adds the place of a node, if it is planned.
+fn add_place(
+    closure: &Closure<'_>,
+    places: &[u32],
+    found: &mut Nodes,
+    n: u32,
+) -> Result<(), NoMemory>
+    ensures { OnOk result (found.new ≡ found.old
+        ++ map (λ m. get_or places.now m 0) (planned_of closure.now (n ∷ []))) }
 {
-    let mut found = Items::new(alloc, nodes.len())?;
-    for n in nodes {
-        found.push(place_in(places, *n))?;
+    if closure.is_planned(n) {
+        found.push(place_in(places, n))?;
     }
+    Ok(())
+}
+
+// Adds the places of those of several nodes that are planned.
+fn add_places(
+    closure: &Closure<'_>,
+    places: &[u32],
+    found: &mut Nodes,
+    nodes: &[u32],
+) -> Result<(), NoMemory>
+    ensures { OnOk result (found.new ≡ found.old
+        ++ map (λ m. get_or places.now m 0) (planned_of closure.now nodes.now)) }
+{
+    for n in nodes {
+        add_place(closure, places, found, *n)?;
+    }
+    Ok(())
+}
+
+// Adds the places of those of a node's sources that are planned.
+fn add_sources(
+    closure: &Closure<'_>,
+    places: &[u32],
+    found: &mut Nodes,
+    sources: Sources<'_>,
+) -> Result<(), NoMemory>
+    ensures { OnOk result (found.new ≡ found.old
+        ++ map (λ m. get_or places.now m 0) (planned_of closure.now (listed sources.entry))) }
+{
+    add_places(closure, places, found, sources.own)?;
+    match sources.of_rule {
+        Some(source) => add_place(closure, places, found, source),
+        None => Ok(()),
+    }
+}
+
+// The places of those of a node's sources that are planned.
+fn sources_of(
+    alloc: Global,
+    closure: &Closure<'_>,
+    places: &[u32],
+    n: u32,
+) -> Result<Nodes, NoMemory>
+    requires { n < length closure.now.parts }
+    ensures { IfOk result (λ found. found
+        ≡ map (λ m. get_or places.now m 0) (planned_of closure.now (sources_in closure.now n))) }
+{
+    let sources = closure.sources(n);
+    let mut found = Items::new(alloc, sources.len())?;
+    add_sources(closure, places, &mut found, sources)?;
     Ok(found)
+}
+
+// Adds places.
+fn add_all(places: &mut Nodes, more: &[u32]) -> Result<(), NoMemory>
+    ensures { OnOk result (places.new ≡ places.old ++ more.now) }
+{
+    for place in more {
+        places.push(*place)?;
+    }
+    Ok(())
 }
 
 // Adds the places before a place.
@@ -112,20 +178,25 @@ fn add_earlier(places: &mut Nodes, count: usize) -> Result<(), NoMemory>
     Ok(())
 }
 
+// The places that have to be settled before a node, of which these are those of its sources.
 fn before_of(
     alloc: Global,
     closure: &Closure<'_>,
     places: &[u32],
+    sources: &Nodes,
     first: usize,
     n: u32,
 ) -> Result<Nodes, NoMemory>
     requires within { n < length closure.now.parts }
     requires short { first < 2 ^ 32 }
+    requires sources { sources.now
+        ≡ map (λ m. get_or places.now m 0) (planned_of closure.now (sources_in closure.now n)) }
     ensures { IfOk result (λ before. before
         ≡ (spec.plan_node closure.now (λ m. get_or places.now m 0) first n).before) }
 {
-    let preds = closure.preds(alloc, n)?;
-    let mut before = places_in(alloc, places, preds.as_slice())?;
+    let mut before = Items::new(alloc, sources.len() + first)?;
+    add_all(&mut before, sources.as_slice())?;
+    add_places(closure, places, &mut before, closure.ordered(n))?;
     add_earlier(&mut before, first)?;
     Ok(before)
 }
@@ -142,11 +213,12 @@ fn plan_node(
     ensures { IfOk result (λ node. node
         ≡ spec.plan_node closure.now (λ m. get_or places.now m 0) first n) }
 {
-    let sources = closure.planned_sources(alloc, n)?;
+    let sources = sources_of(alloc, closure, places, n)?;
+    let before = before_of(alloc, closure, places, &sources, first, n)?;
     Ok(PlanNode {
         name: Text::from_bytes(alloc, closure.name(n))?,
-        sources: places_in(alloc, places, sources.as_slice())?,
-        before: before_of(alloc, closure, places, first, n)?,
+        sources,
+        before,
         commands: copied(alloc, closure.commands(n))?,
         implied: Text::from_bytes(alloc, closure.implied(n))?,
         marks: closure.marks(n),

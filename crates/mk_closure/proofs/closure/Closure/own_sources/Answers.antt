@@ -1,5 +1,4 @@
-use Rattle.std.proofs.Common.{◌≡◌, ◌∙◌, length, sym, subst}
-use Rattle.mk_closure.proofs.MemberLemmas.{IfOk-map}
+use Rattle.std.proofs.Common.{length, sym, subst}
 use Rattle.mk_closure.proofs.WalkLemmas.{AreBelow-more}
 use Rattle.mk_graph.specs.Numbers.{AreBelow}
 use Rattle.mk_closure.proofs.closure.Closure.own_sources.Goals as goal
@@ -9,7 +8,4 @@ returns-then-n-len-clause-below c =
     let within = rw c.graph-then-n-len.ensures.value at c.sources.ensures.within in
     let below = AreBelow-more (length c.args.self.now.nodes) (length c.args.self.now.parts)
     c.sources.result.now c.graph.ensures.fewer within in
-    IfOk-map c.copied.result (λ copies. copies ≡ c.as_slice.result.now)
-    (AreBelow (length c.args.self.now.parts)) c.copied.ensures
-    (λ copies are. subst (AreBelow (length c.args.self.now.parts))
-    (sym (are ∙ c.as_slice.ensures.value)) below)
+    subst (AreBelow (length c.args.self.now.parts)) (sym c.as_slice.ensures.value) below

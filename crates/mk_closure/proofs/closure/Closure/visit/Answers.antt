@@ -1,11 +1,11 @@
 use Rattle.std.proofs.Common.{◌≡◌, ◌∙◌, ◌+◌, ◌<◌, ◌≤◌, ◌^◌, ◌∷◌, ◌++◌, Ok, length, reverse, sym, ap, subst, arith, length-append}
 use Rattle.std.proofs.lemmas.List.{length-reverse}
 use Rattle.std.proofs.lemmas.Result.{err_from_is_err_and}
-use Rattle.mk_closure.proofs.MemberLemmas.{AreBelow-append}
+use Rattle.mk_closure.proofs.MemberLemmas.{AreBelow-append, listed-short}
 use Rattle.mk_closure.proofs.WalkLemmas.{walk-over, walk-new, walk-refused, turned-first}
 use Rattle.mk_closure.proofs.WalkLemmas.{AreBelow-more, AreBelow-reverse, fewer-met}
 use Rattle.mk_closure.specs.Faults.{IsRefusedBy}
-use Rattle.mk_closure.specs.Members.{sources_in}
+use Rattle.mk_closure.specs.Members.{listed, sources_in}
 use Rattle.mk_closure.specs.Steps as steps
 use Rattle.mk_closure.specs.Walks as spec
 use Rattle.mk_suffix.proofs.LookLemmas.{OnLooks-map, OnLooks-none}
@@ -37,13 +37,13 @@ pub returns-clause-leads : goal.returns-clause-leads
 returns-clause-leads g c =
     let todo = c.args.todo.now.items in
     let later = c.enter.new.self in
-    let pushed = c.in_ok-push_turned.ensures
-    ∙ ap (λ l. todo ++ reverse l) (c.as_slice.ensures.value ∙ c.in_ok-sources.ensures.value) in
-    let turned = turned-first todo c.push_turned.new.todo.items (sources_in later c.args.n) pushed in
+    let pushed = c.in_ok-push_sources.ensures
+    ∙ ap (λ l. todo ++ reverse l) c.sources.ensures.value in
+    let turned = turned-first todo c.push_sources.new.todo.items (sources_in later c.args.n) pushed in
     OnLooks-map _ _
     (λ files. spec.entered files c.args.suffixes.now c.args.self.now c.args.n ≡ Ok later)
     (λ files. steps.Leads (spec.entered files c.args.suffixes.now) c.args.self.now
-    (c.args.n ∷ reverse todo) later (reverse c.push_turned.new.todo.items))
+    (c.args.n ∷ reverse todo) later (reverse c.push_sources.new.todo.items))
     c.in_ok-enter.ensures.entered
     (λ files is. walk-new (spec.entered files c.args.suffixes.now) c.args.self.now later c.args.n
     (reverse todo) (sym c.is_over.ensures.value ∙ c.if-is_over.false)
@@ -53,23 +53,23 @@ returns-clause-leads g c =
 pub returns-clause-below : goal.returns-clause-below
 returns-clause-below g c =
     let later = c.enter.new.self in
-    rw (c.in_ok-push_turned.ensures, c.as_slice.ensures.value)
-    (AreBelow-append (length later.parts) c.args.todo.now.items
-    (reverse c.in_ok-sources.sources)
+    let sources = listed c.sources.result in
+    rw c.in_ok-push_sources.ensures
+    (AreBelow-append (length later.parts) c.args.todo.now.items (reverse sources)
     (AreBelow-more (length c.args.self.now.parts) (length later.parts) c.args.todo.now.items
     c.in_ok-enter.ensures.met.longer c.requires.below)
-    (AreBelow-reverse (length later.parts) c.in_ok-sources.sources c.in_ok-sources.ensures.below))
+    (AreBelow-reverse (length later.parts) sources c.sources.ensures.below))
 
 pub returns-clause-fewer : goal.returns-clause-fewer
 returns-clause-fewer g c =
     let todo = c.args.todo.now.items in
-    let sources = c.as_slice.result.now in
+    let sources = listed c.sources.result in
     let later = c.enter.new.self in
-    let long = ap length c.in_ok-push_turned.ensures
+    let long = ap length c.in_ok-push_sources.ensures
     ∙ (length-append todo (reverse sources)
     ∙ ap (λ k. length todo + k) (length-reverse sources)) in
     let short : length sources < 2 ^ 33 =
-    omega (arith, c.as_slice.ensures.short, ap length c.as_slice.ensures.value) in
+    listed-short c.sources.result.own.now c.sources.result.of_rule c.sources.ensures.short in
     subst (λ k. steps.steps_left later k ≤ steps.steps_left c.args.self.now (length todo))
     (sym long)
     (fewer-met c.args.self.now later (length todo) (length sources)
