@@ -3,6 +3,7 @@
 #![tactic(auto)]
 
 mod counts;
+mod followers;
 mod least;
 mod sched;
 mod start;

@@ -4,10 +4,10 @@ ghost use Rattle.mk_plan.specs.declared.plan.NodeState.TheVariants.{Undecided as
 ghost use Rattle.mk_sched.specs.Schedule as spec;
 
 use crate::counts::settle;
+use crate::followers::Followers;
 use crate::least::{change, least};
 use crate::start::{counts_of, entries_of, followers_of};
 use mk_bytes::NoMemory;
-use mk_graph::Nodes;
 use mk_plan::{NodeState, Plan};
 use std::alloc::Global;
 use std::marker::Model;
@@ -36,7 +36,7 @@ pub struct Sched<'p> {
     /// Whether a node has failed.
     any_failed: bool,
     /// What each node is a predecessor of.
-    followers: Vec<Nodes>,
+    followers: Vec<Followers>,
     /// How many predecessors of each node are not settled.
     counts: Vec<usize>,
     /// The ready nodes, of which the least is at hand.

@@ -5,9 +5,9 @@ ghost use Rattle.mk_sched.specs.Counts.{AreFollowers, times};
 ghost use Rattle.mk_sched.specs.Least.{IsTournament, entry};
 ghost use Rattle.mk_sched.specs.Schedule.{predecessors};
 
+use crate::followers::Followers;
 use crate::least::compare_all;
 use mk_bytes::NoMemory;
-use mk_graph::Nodes;
 use mk_plan::Plan;
 use std::alloc::Global;
 
@@ -26,19 +26,19 @@ pub fn counts_of(alloc: Global, plan: &Plan) -> Result<Vec<usize>, NoMemory>
 }
 
 // Nodes without followers.
-fn no_followers(alloc: Global, count: usize) -> Result<Vec<Nodes>, NoMemory>
+fn no_followers(alloc: Global, count: usize) -> Result<Vec<Followers>, NoMemory>
     ensures long { IfOk result (λ followers. length followers.items ≡ count) }
     ensures none { IfOk result (λ followers. (node : ℕ) → get_or followers.items node [] ≡ []) }
 {
     let mut followers = Vec::with_capacity(alloc, count)?;
     for _ in 0..count {
-        followers.push(Nodes::new(alloc, 0)?)?;
+        followers.push(Followers::none(alloc))?;
     }
     Ok(followers)
 }
 
 // Puts a node among the followers of one.
-fn follow_one(followers: &mut Vec<Nodes>, one: usize, n: u32) -> Result<(), NoMemory>
+fn follow_one(followers: &mut Vec<Followers>, one: usize, n: u32) -> Result<(), NoMemory>
     requires within { one < length followers.old.items }
     ensures long { length followers.new.items ≡ length followers.old.items }
     ensures ok { OnOk result ((other node : ℕ) → other < length followers.old.items
@@ -51,7 +51,7 @@ fn follow_one(followers: &mut Vec<Nodes>, one: usize, n: u32) -> Result<(), NoMe
 }
 
 // Puts a node among the followers of each of its predecessors.
-fn follow(followers: &mut Vec<Nodes>, before: &[u32], n: u32) -> Result<(), NoMemory>
+fn follow(followers: &mut Vec<Followers>, before: &[u32], n: u32) -> Result<(), NoMemory>
     requires within { IsTrue (is_behind (length followers.old.items) before.now) }
     ensures long { length followers.new.items ≡ length followers.old.items }
     ensures ok { OnOk result ((one node : ℕ) → one < length followers.old.items
@@ -66,7 +66,7 @@ fn follow(followers: &mut Vec<Nodes>, before: &[u32], n: u32) -> Result<(), NoMe
 }
 
 /// What each node is a predecessor of.
-pub fn followers_of(alloc: Global, plan: &Plan) -> Result<Vec<Nodes>, NoMemory>
+pub fn followers_of(alloc: Global, plan: &Plan) -> Result<Vec<Followers>, NoMemory>
     ensures { IfOk result (λ followers.
         AreFollowers (predecessors plan.now) followers.items) }
 {
