@@ -63,14 +63,14 @@ FirstBuildsAreTurns =
     → (build_after_all work tasks (first_build work) items).failure ≡ None
     → IsBuildOfTurns meaning work tasks items old new
 
+-- A build in meta mode in which nothing has failed so far is one of turns, whichever nodes it has kept.
 abbrev pub BuildsAreTurns : Type 0
 BuildsAreTurns =
     (meaning : Meaning) (work : Work) (tasks : Tasks) (items : List Item) (old new : History)
     → IsLawful meaning old → (state_of old).children ≡ [] → IsTrueHistory meaning.next old
     → IsWellMade work → GoesByMetaMode work tasks
     → IsDeclared (clean_plan work tasks) (clean_build meaning (clean_plan work tasks) (files_of old))
-    → Makes work tasks (first_build work) items
-    → Happened meaning items old new → NoneLeft items
+    → Makes work tasks (first_build work) items → Happened meaning items old new → NoneLeft items
     → (build_after_all work tasks (first_build work) items).failure ≡ None
     → IsBuildOfTurns meaning work tasks items old new
 
