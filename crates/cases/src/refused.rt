@@ -55,12 +55,7 @@ fn edit_before(case: &Case, line: u32, world: &mut MemWorld) -> Result<(), Troub
 }
 
 // A world before a run, in which a call is refused.
-fn world_before(
-    alloc: Global,
-    case: &Case,
-    step: &Step,
-    one: Refusal,
-) -> Result<MemWorld, Trouble>
+fn world_before(alloc: Global, case: &Case, step: &Step, one: Refusal) -> Result<MemWorld, Trouble>
     ensures { IfOk result (λ world. tickets_of (state_of world.chronicle).children ≡ []) }
 {
     let schedule = schedule_of(alloc, case)?;
@@ -188,13 +183,37 @@ fn refuse_kind(
     for nth in 0..made(&model.ran, kind) {
         let nth = (nth as u32).saturating_add(1);
         let left = None;
-        refuse(alloc, case, step, Refusal { name, kind, nth, left }, model, found)?;
+        refuse(
+            alloc,
+            case,
+            step,
+            Refusal {
+                name,
+                kind,
+                nth,
+                left,
+            },
+            model,
+            found,
+        )?;
         if !matches!(kind, Counted::Call(CallKind::Stamp | CallKind::Put)) {
             continue;
         }
         for left in LEFT {
             let left = Some(left);
-            refuse(alloc, case, step, Refusal { name, kind, nth, left }, model, found)?;
+            refuse(
+                alloc,
+                case,
+                step,
+                Refusal {
+                    name,
+                    kind,
+                    nth,
+                    left,
+                },
+                model,
+                found,
+            )?;
         }
     }
     Ok(())

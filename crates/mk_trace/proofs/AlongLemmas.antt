@@ -168,8 +168,13 @@ built-true meaning work tasks items old planned new asked happens stays lawful i
         let planned_true = subst (IsTrueHistory meaning.next) planned_is
         (questions-keep-truth meaning old asked.run.events asked.questions leave_asked truth) in
         let here : longer old so_far ≡ behind planned cut.so_far =
-        rw (is, cut.happened_is, asked.run.base, asked.run.longer,
-        append_assoc old.events asked.run.events between) refl in
+        rw (
+          is,
+          cut.happened_is,
+          asked.run.base,
+          asked.run.longer,
+          append_assoc old.events asked.run.events between,
+        ) refl in
         subst (IsTrueHistory meaning.next) (sym here)
         (stays (runs_stay_lawful meaning old planned asked.run lawful) planned_idle planned_true cut.so_far
         cut.later cut.are (apart cut.so_far cut.later cut.are here))
