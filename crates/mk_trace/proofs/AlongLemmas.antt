@@ -36,7 +36,7 @@ cancel-front (item ∷ front) one other same =
     cancel-front front one other rest
 
 -- an item tells of one event at most
-AtMostOne : List Happening → Type 0
+abbrev AtMostOne : List Happening → Type 0
 AtMostOne events = (events ≡ []) ⊎ ((event : Happening) × (events ≡ event ∷ []))
 
 at-most-one : (item : Item) → AtMostOne (happened item)
@@ -65,23 +65,25 @@ cut-items [] [] back same = record { so_far = []; later = []; are = refl; happen
 cut-items [] (event ∷ front) back same = cc
 cut-items (item ∷ items) [] back same =
     record { so_far = []; later = item ∷ items; are = refl; happened_is = refl }
-cut-items (item ∷ items) (event ∷ front) back same = by (at-most-one item)
+cut-items (item ∷ items) (event ∷ front) back same =
+    by (at-most-one item) (cut-items items (event ∷ front) back) (cut-items items front back)
   where
-    by : AtMostOne (happened item) → Cut (item ∷ items) (event ∷ front)
-    by (inl none) =
-        let rest = cut-items items (event ∷ front) back
-        (ap (λ l. l ++ happened_all items) (sym none) ∙ same) in record {
+    by : AtMostOne (happened item)
+        → (happened_all items ≡ event ∷ (front ++ back) → Cut items (event ∷ front))
+        → (happened_all items ≡ front ++ back → Cut items front) → Cut (item ∷ items) (event ∷ front)
+    by (inl none) whole behind_it =
+        let rest = whole (ap (λ l. l ++ happened_all items) (sym none) ∙ same) in record {
           so_far = item ∷ rest.so_far;
           later = rest.later;
           are = ap (λ l. item ∷ l) rest.are;
           happened_is = ap (λ l. l ++ happened_all rest.so_far) none ∙ rest.happened_is;
         }
-    by (inr one) =
+    by (inr one) whole behind_it =
         let all : one.0 ∷ happened_all items ≡ event ∷ (front ++ back) =
         ap (λ l. l ++ happened_all items) (sym one.1) ∙ same in
         let first : one.0 ≡ event = cc in
         let tail : happened_all items ≡ front ++ back = cc in
-        let rest = cut-items items front back tail in record {
+        let rest = behind_it tail in record {
           so_far = item ∷ rest.so_far;
           later = rest.later;
           are = ap (λ l. item ∷ l) rest.are;
