@@ -6,7 +6,7 @@ use Rattle.mk_decision.specs.Makers.{jobs_of}
 use Rattle.mk_headline.proofs.EndLemmas.{done_clean}
 use Rattle.mk_headline.specs.CleanBuilds.{IsCleanBuild}
 use Rattle.mk_headline.specs.Laws.{IsClean, IsReady}
-use Rattle.mk_trace.proofs.TrueBuildLemmas.{true-build}
+use Rattle.mk_trace.proofs.TrueBuildLemmas.{build-true}
 use Rattle.mk_trace.specs.Builds.{IsBuild, Moment}
 use Rattle.mk_trace.specs.Ends.{StandsBy, is_cut}
 use Rattle.mk_trace.specs.declared.result.BuildResult.{BuildResult}
@@ -38,6 +38,6 @@ pub clean-build : {meaning : Meaning} {work : Work} {result : BuildResult} {firs
     → 1 ≤ work.flags.jobs → IsBuild meaning work (is_cut result) first last (StandsBy work result)
     → IsCleanBuild meaning work result first last
 clean-build {meaning} {work} {result} {first} {last} some build = record {
-  true_build = true-build build;
+  true_build = record { build = build; meta_files = build-true build };
   clean = clean-by meaning work result first last (some-jobs work some) build;
 }

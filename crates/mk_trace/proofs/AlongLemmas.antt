@@ -15,7 +15,7 @@ use Rattle.mk_world.specs.declared.history.History.{History}
 use Rattle.mk_decision.specs.Decisions.{Work}
 use Rattle.mk_trace.proofs.QuestionLemmas.{questions-keep-truth}
 use Rattle.mk_trace.proofs.TrueBuildLemmas.{Longer, parts}
-use Rattle.mk_trace.specs.Items.{Item, looks, keeps, refuses, starts, passes, waits, steps, ends, changes, leaves, changed, gone, head, whole, cut_head, cut_whole, path_of, Change, happened, happened_all, Happened}
+use Rattle.mk_trace.specs.Items.{Item, looks, keeps, refuses, starts, passes, waits, steps, ends, changes, leaves, changed, path_of, happened, happened_all, Happened}
 use Rattle.mk_trace.specs.Runs as run
 use Rattle.mk_trace.specs.TrueBuilds.{IsApart, IsQuestion, LeavesFiles, StaysTrue, behind, longer}
 
@@ -71,19 +71,19 @@ cut-items (item ∷ items) (event ∷ front) back same =
     by : AtMostOne (happened item)
         → (happened_all items ≡ event ∷ (front ++ back) → Cut items (event ∷ front))
         → (happened_all items ≡ front ++ back → Cut items front) → Cut (item ∷ items) (event ∷ front)
-    by (inl none) whole behind_it =
-        let rest = whole (ap (λ l. l ++ happened_all items) (sym none) ∙ same) in record {
+    by (inl none) if_none if_one =
+        let rest = if_none (ap (λ l. l ++ happened_all items) (sym none) ∙ same) in record {
           so_far = item ∷ rest.so_far;
           later = rest.later;
           are = ap (λ l. item ∷ l) rest.are;
           happened_is = ap (λ l. l ++ happened_all rest.so_far) none ∙ rest.happened_is;
         }
-    by (inr one) whole behind_it =
+    by (inr one) if_none if_one =
         let all : one.0 ∷ happened_all items ≡ event ∷ (front ++ back) =
         ap (λ l. l ++ happened_all items) (sym one.1) ∙ same in
         let first : one.0 ≡ event = cc in
         let tail : happened_all items ≡ front ++ back = cc in
-        let rest = behind_it tail in record {
+        let rest = if_one tail in record {
           so_far = item ∷ rest.so_far;
           later = rest.later;
           are = ap (λ l. item ∷ l) rest.are;
@@ -143,10 +143,10 @@ pub built-true : (meaning : Meaning) (work : Work) (tasks : run.Tasks) (items : 
     → IsTrueHistory meaning.next (longer old so_far)
 built-true meaning work tasks items old planned new asked happens stays lawful idle truth so_far later events
     leave apart =
-    by (parts so_far later asked.run.events (happened_all items) whole)
+    by (parts so_far later asked.run.events (happened_all items) parted)
   where
-    whole : so_far ++ later ≡ asked.run.events ++ happened_all items
-    whole =
+    parted : so_far ++ later ≡ asked.run.events ++ happened_all items
+    parted =
         cancel-front old.events (so_far ++ later) (asked.run.events ++ happened_all items)
         (sym events ∙ (happens.events ∙ (ap (λ l. l ++ happened_all items) asked.run.longer
         ∙ append_assoc old.events asked.run.events (happened_all items))))

@@ -14,7 +14,7 @@ use Rattle.mk_trace.specs.Builds.{Build, IsBuild, Makes, Moment, first_build}
 use Rattle.mk_trace.specs.Calls.{AreLeaveItems, AreStepItems, GivesUpLast, NoneLeft}
 use Rattle.mk_trace.specs.Items.{Item, looks, keeps, refuses, starts, passes, waits, steps, ends, changes, leaves, FitsAll, Happened, happened_all}
 use Rattle.mk_trace.specs.Runs as run
-use Rattle.mk_trace.specs.TrueBuilds.{IsTrueBuild, StaysTrue, behind}
+use Rattle.mk_trace.specs.TrueBuilds.{StaysTrue, behind}
 
 -- beginnings of lists
 
@@ -135,12 +135,10 @@ told-true meaning work tasks items None (Some new) makes last told = absurd told
 told-true meaning work tasks items (Some old) (Some new) makes last told =
     stays-true meaning work tasks items old new makes last told
 
--- every build is one
-pub true-build : {meaning : Meaning} {work : Work} {cut : Bool} {first last : Moment}
-    {Stands : Build → Type 0} → IsBuild meaning work cut first last Stands
-    → IsTrueBuild meaning work cut first last Stands
-true-build {meaning} {work} {cut} {first} {last} {Stands} build = record {
-  build = build;
-  meta_files = told-true meaning work build.tasks build.items first.history last.history build.makes
-      build.gives_up build.told;
-}
+-- the meta files of every build
+pub build-true : {meaning : Meaning} {work : Work} {cut : Bool} {first last : Moment}
+    {Stands : Build → Type 0} (build : IsBuild meaning work cut first last Stands)
+    → Told first.history last.history (λ old new. StaysTrue meaning work build.tasks build.items old)
+build-true {meaning} {work} {cut} {first} {last} {Stands} build =
+    told-true meaning work build.tasks build.items first.history last.history build.makes build.gives_up
+    build.told
