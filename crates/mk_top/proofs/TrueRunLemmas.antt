@@ -125,14 +125,14 @@ asking-true meaning build old new asked lawful idle truth so_far later events le
     asked-true meaning old new asked truth so_far later events leave
 
 -- what is told between moments that tell
-told-at : {A : Type 0} {Related : A → A → Type 0} {before after : Option A} {old new : A}
+told-at : {A : Type 0} (Related : A → A → Type 0) {before after : Option A} {old new : A}
     → before ≡ Some old → after ≡ Some new → Told before after Related → Related old new
-told-at {A} {Related} {before} {after} {old} {new} is then_is told =
+told-at {A} Related {before} {after} {old} {new} is then_is told =
     subst (λ h. Told (Some old) h Related) then_is (subst (λ h. Told h after Related) is told)
 
-told-before : {A : Type 0} {Related : A → A → Type 0} {before after : Option A} {new : A}
+told-before : {A : Type 0} (Related : A → A → Type 0) {before after : Option A} {new : A}
     → before ≡ None → after ≡ Some new → Told before after Related → ⊥
-told-before {A} {Related} {before} {after} {new} is then_is told =
+told-before {A} Related {before} {after} {new} is then_is told =
     subst (λ h. Told None h Related) then_is (subst (λ h. Told h after Related) is told)
 
 -- what follows the reading, before which make has only asked
@@ -141,15 +141,15 @@ goes-true : (meaning : Meaning) (meant : Meant) (old read : History) (first last
     → last.history ≡ Some new → (goes : Goes meaning meant first last went)
     → StaysTrue meaning (built_in meaning meant first last went goes) old new
 goes-true meaning (only outcome) old read first last went new asked at is goes =
-    let same = told-at at is goes.same in
+    let same = told-at Same at is goes.same in
     asking-true meaning None old new
     (asked-then meaning old read new asked (asked-same meaning read new same.base same.events))
 goes-true meaning (prints variables lists all) old read first last went new asked at is goes =
     asking-true meaning None old new
-    (asked-then meaning old read new asked (dates-ask meaning goes.looked read new (told-at at is goes.told)))
+    (asked-then meaning old read new asked (dates-ask meaning goes.looked read new (told-at (DatesAll goes.looked) at is goes.told)))
 goes-true meaning (builds made flags) old read first last went new asked at is (inl unplanned) =
     asking-true meaning None old new
-    (asked-then meaning old read new asked (looks-ask meaning read new (told-at at is unplanned.refused).0))
+    (asked-then meaning old read new asked (looks-ask meaning read new (told-at _ at is unplanned.refused).0))
 goes-true meaning (builds made flags) old read first last went new asked at is (inr built) =
     planned built.planned_at refl
   where
@@ -161,48 +161,48 @@ goes-true meaning (builds made flags) old read first last went new asked at is (
           tasks = built.built.true_build.build.tasks;
           items = built.built.true_build.build.items;
         })) old new
-    planned None here = absurd (told-before here is built.built.true_build.build.told)
+    planned None here = absurd (told-before _ here is built.built.true_build.build.told)
     planned (Some planned_then) here =
         λ lawful idle truth so_far later events leave apart.
         built-true meaning (work_on built.nodes made flags) built.built.true_build.build.tasks built.built.true_build.build.items
         old planned_then new
         (asked-then meaning old read planned_then asked
-        (looks-ask meaning read planned_then (told-at at here built.planned).0))
-        (told-at here is built.built.true_build.build.told) (told-at here is built.built.true_build.meta_files)
+        (looks-ask meaning read planned_then (told-at _ at here built.planned).0))
+        (told-at _ here is built.built.true_build.build.told) (told-at _ here is built.built.true_build.meta_files)
         lawful idle truth so_far later events leave
         (λ done rest are now_is. apart planned_then done rest here are now_is)
 
 -- what tells behind a part of a run told before it
 goes-told : (meaning : Meaning) (meant : Meant) (first last : Point) (went : Went) (new : History)
     → first.history ≡ None → last.history ≡ Some new → Goes meaning meant first last went → ⊥
-goes-told meaning (only outcome) first last went new at is goes = told-before at is goes.same
-goes-told meaning (prints variables lists all) first last went new at is goes = told-before at is goes.told
+goes-told meaning (only outcome) first last went new at is goes = told-before Same at is goes.same
+goes-told meaning (prints variables lists all) first last went new at is goes = told-before (DatesAll goes.looked) at is goes.told
 goes-told meaning (builds made flags) first last went new at is (inl unplanned) =
-    told-before at is unplanned.refused
+    told-before _ at is unplanned.refused
 goes-told meaning (builds made flags) first last went new at is (inr built) = planned built.planned_at refl
   where
     planned : (planned_at : Option History) → built.planned_at ≡ planned_at → ⊥
-    planned None here = told-before here is built.built.true_build.build.told
-    planned (Some then_is) here = told-before at here built.planned
+    planned None here = told-before _ here is built.built.true_build.build.told
+    planned (Some then_is) here = told-before _ at here built.planned
 
 does-told : (meaning : Meaning) (env : Env) (order : Result Order End) (first last : Point) (err : Held)
     (went : Went) (new : History) → first.history ≡ None → last.history ≡ Some new
     → Does meaning env order first last err went → ⊥
-does-told meaning env (Err end) first last err went new at is does = told-before at is does.0.same
+does-told meaning env (Err end) first last err went new at is does = told-before Same at is does.0.same
 does-told meaning env (Ok order) first last err went new at is does = read does.read_at refl
   where
     read : (read_at : Option History) → does.read_at ≡ read_at → ⊥
     read None here =
         goes-told meaning (by_reading order does.read) (point does.read_at first.out) last went new here is
         does.goes
-    read (Some then_is) here = told-before at here does.reads.asked
+    read (Some then_is) here = told-before (AreAsked meaning does.reads.questions) at here does.reads.asked
 
 does-true : (meaning : Meaning) (env : Env) (order : Result Order End) (first last : Point) (err : Held)
     (went : Went) (old new : History) → first.history ≡ Some old → last.history ≡ Some new
     → (does : Does meaning env order first last err went)
     → StaysTrue meaning (built_for meaning env order first last err went does) old new
 does-true meaning env (Err end) first last err went old new at is does =
-    let same = told-at at is does.0.same in
+    let same = told-at Same at is does.0.same in
     asking-true meaning None old new (asked-same meaning old new same.base same.events)
 does-true meaning env (Ok order) first last err went old new at is does = read does.read_at refl
   where
@@ -214,7 +214,7 @@ does-true meaning env (Ok order) first last err went old new at is does = read d
         is does.goes)
     read (Some read_then) here =
         goes-true meaning (by_reading order does.read) old read_then (point does.read_at first.out) last went
-        new (questions-ask meaning does.reads.questions old read_then (told-at at here does.reads.asked)) here
+        new (questions-ask meaning does.reads.questions old read_then (told-at (AreAsked meaning does.reads.questions) at here does.reads.asked)) here
         is does.goes
 
 -- every run is one

@@ -9,6 +9,7 @@ use Rattle.mk_world.specs.History.{State as Stand, after as stand_next, after_al
 use Rattle.mk_world.specs.Lawful.{IsLawful}
 use Rattle.mk_world.specs.Runs.{Run}
 use Rattle.mk_world.specs.Talks.{Meaning}
+use Rattle.mk_world.specs.declared.history.File.{File}
 use Rattle.mk_world.specs.declared.history.Happening.{Happening}
 use Rattle.mk_world.specs.declared.history.Happening.TheVariants as world
 use Rattle.mk_world.specs.declared.history.History.{History}
@@ -89,7 +90,8 @@ cut-items (item ∷ items) (event ∷ front) back same =
           are = ap (λ l. item ∷ l) rest.are;
           happened_is =
               ap (λ l. l ++ happened_all rest.so_far) one.1
-              ∙ rw (first, rest.happened_is) refl;
+              ∙ (ap (λ e. e ∷ happened_all rest.so_far) first
+              ∙ ap (λ l. event ∷ l) rest.happened_is);
         }
 
 questions-children : (state : Stand) (events : List Happening) → AllByRecursion IsQuestion events
@@ -107,6 +109,13 @@ questions-children state (world.Start ticket owner cmd ∷ events) are = absurd 
 questions-children state (world.Step ticket owner deed time ∷ events) are = absurd are.0
 questions-children state (world.End ticket owner ∷ events) are = absurd are.0
 questions-children state (world.Left ticket owner ∷ events) are = absurd are.0
+
+abbrev history_of : List File → List Happening → History
+history_of base events = record { base = base; events = events }
+
+same-history : (one other : History) → one.base ≡ other.base → one.events ≡ other.events → one ≡ other
+same-history one other base events =
+    ap (λ b. history_of b one.events) base ∙ ap (λ e. history_of other.base e) events
 
 -- make looked and asked, and nothing else happened
 pub record OnlyAsked (meaning : Meaning) (old new : History) : Type 0 where
@@ -166,17 +175,15 @@ built-true meaning work tasks items old planned new asked happens stays lawful i
         let leave_asked = all-first LeavesFiles asked.run.events between
         (subst (AllByRecursion LeavesFiles) is leave) in
         let planned_is : longer old asked.run.events ≡ planned =
-        rw (asked.run.base, asked.run.longer) refl in
+        same-history (longer old asked.run.events) planned (sym asked.run.base) (sym asked.run.longer) in
         let planned_true = subst (IsTrueHistory meaning.next) planned_is
         (questions-keep-truth meaning old asked.run.events asked.questions leave_asked truth) in
         let here : longer old so_far ≡ behind planned cut.so_far =
-        rw (
-          is,
-          cut.happened_is,
-          asked.run.base,
-          asked.run.longer,
-          append_assoc old.events asked.run.events between,
-        ) refl in
+        same-history (longer old so_far) (behind planned cut.so_far) (sym asked.run.base)
+        (ap (λ l. old.events ++ l) is
+        ∙ (sym (append_assoc old.events asked.run.events between)
+        ∙ (ap (λ l. l ++ between) (sym asked.run.longer)
+        ∙ ap (λ l. planned.events ++ l) (sym cut.happened_is)))) in
         subst (IsTrueHistory meaning.next) (sym here)
         (stays (runs_stay_lawful meaning old planned asked.run lawful) planned_idle planned_true cut.so_far
         cut.later cut.are (apart cut.so_far cut.later cut.are here))
