@@ -92,7 +92,7 @@ const NONE: Refusal = Refusal {
     left: None,
 };
 
-fn model(alloc: Global, case: &Case, step: &Step) -> Result<Model, Trouble> {
+fn run_unrefused(alloc: Global, case: &Case, step: &Step) -> Result<Model, Trouble> {
     let mut world = world_before(alloc, case, step, NONE)?;
     let ran = run_with(alloc, case, step, &mut world, NONE)?;
     let end = end_text(alloc, &ran.report.end)?;
@@ -226,7 +226,7 @@ pub fn refuse_all(alloc: Global, case: &Case, found: &mut Found) -> Result<(), T
     }
     for step in case.steps.as_slice() {
         if step.item.directive == Directive::Run {
-            let model = model(alloc, case, step)?;
+            let model = run_unrefused(alloc, case, step)?;
             for (name, kind) in KINDS {
                 refuse_kind(alloc, case, step, name, kind, &model, found)?;
             }
