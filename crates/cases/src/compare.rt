@@ -110,8 +110,8 @@ fn compare_missing(
     }
 }
 
-/// How many calls of a kind a run made.
-pub fn made(ran: &Ran, kind: Counted) -> u64 {
+// How many calls of a kind a run made.
+fn made(ran: &Ran, kind: Counted) -> u64 {
     match kind {
         Counted::Call(call) => ran.after.get(call).saturating_sub(ran.before.get(call)),
         Counted::Out => ran.out.calls(CallKind::Write),

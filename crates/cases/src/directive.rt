@@ -10,8 +10,6 @@ pub enum Directive {
     Schedule,
     Schedules,
     Fail,
-    Made,
-    Refused,
     Run,
     Edit,
     Remove,
@@ -39,7 +37,7 @@ pub enum Place {
     Want,
 }
 
-const NAMES: [(Directive, &str, Place); 21] = [
+const NAMES: [(Directive, &str, Place); 19] = [
     (Directive::Case, "case", Place::Head),
     (Directive::File, "file", Place::Setup),
     (Directive::Environment, "environment", Place::Setup),
@@ -47,8 +45,6 @@ const NAMES: [(Directive, &str, Place); 21] = [
     (Directive::Schedule, "schedule", Place::Setup),
     (Directive::Schedules, "schedules", Place::Setup),
     (Directive::Fail, "fail", Place::Setup),
-    (Directive::Made, "made", Place::Setup),
-    (Directive::Refused, "refused", Place::Setup),
     (Directive::Run, "run", Place::Step),
     (Directive::Edit, "edit", Place::Step),
     (Directive::Remove, "remove", Place::Step),

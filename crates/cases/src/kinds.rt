@@ -2,7 +2,7 @@
 use crate::case::{Case, Item};
 use crate::directive::Directive;
 use crate::fault::Trouble;
-use mk_bytes::{Items, NoMemory};
+use mk_bytes::Items;
 use mk_memworld::{CallKind, Fail, Fails, MemWorld};
 use std::alloc::Global;
 
@@ -14,35 +14,20 @@ pub enum Counted {
     Err,
 }
 
-/// All that is counted, by its names.
-pub const KINDS: [(&str, Counted); 10] = [
-    ("read", Counted::Call(CallKind::Read)),
-    ("time", Counted::Call(CallKind::Time)),
-    ("stamp", Counted::Call(CallKind::Stamp)),
-    ("put", Counted::Call(CallKind::Put)),
-    ("remove", Counted::Call(CallKind::Remove)),
-    ("ask", Counted::Call(CallKind::Ask)),
-    ("start", Counted::Call(CallKind::Start)),
-    ("wait", Counted::Call(CallKind::WaitAny)),
-    ("out", Counted::Out),
-    ("err", Counted::Err),
-];
-
 /// What a name counts.
 pub fn kind_named(name: &str) -> Option<Counted> {
-    for (one, kind) in KINDS {
-        if one == name {
-            return Some(kind);
-        }
-    }
-    None
-}
-
-// The call that fails where one of these does.
-fn call_of(kind: Counted) -> CallKind {
-    match kind {
-        Counted::Call(call) => call,
-        Counted::Out | Counted::Err => CallKind::Write,
+    match name {
+        "read" => Some(Counted::Call(CallKind::Read)),
+        "time" => Some(Counted::Call(CallKind::Time)),
+        "stamp" => Some(Counted::Call(CallKind::Stamp)),
+        "put" => Some(Counted::Call(CallKind::Put)),
+        "remove" => Some(Counted::Call(CallKind::Remove)),
+        "ask" => Some(Counted::Call(CallKind::Ask)),
+        "start" => Some(Counted::Call(CallKind::Start)),
+        "wait" => Some(Counted::Call(CallKind::WaitAny)),
+        "out" => Some(Counted::Out),
+        "err" => Some(Counted::Err),
+        _ => None,
     }
 }
 
@@ -59,7 +44,10 @@ fn fail(call: CallKind, nth: &str, left: Option<&str>) -> Option<Fail> {
 fn failing(rest: &str) -> Option<(Counted, Fail)> {
     let (name, numbers) = rest.split_once(' ')?;
     let kind = kind_named(name)?;
-    let call = call_of(kind);
+    let call = match kind {
+        Counted::Call(call) => call,
+        Counted::Out | Counted::Err => CallKind::Write,
+    };
     let fail = match numbers.split_once(' ') {
         Some((nth, left)) => fail(call, nth, Some(left))?,
         None => fail(call, numbers, None)?,
@@ -100,22 +88,6 @@ pub fn fails_of(alloc: Global, case: &Case, place: Where) -> Result<Fails, Troub
         if item.directive == Directive::Fail {
             push_fail(&mut fails, item, place)?;
         }
-    }
-    Ok(fails)
-}
-
-/// One call that fails, where it is one of this place: the nth of its kind, behind which so many bytes stand.
-pub fn one_fail(
-    alloc: Global,
-    kind: Counted,
-    nth: u32,
-    left: Option<usize>,
-    place: Where,
-) -> Result<Fails, NoMemory> {
-    let mut fails = Items::new(alloc, 0)?;
-    if is_there(kind, place) {
-        let call = call_of(kind);
-        fails.push(Fail { call, nth, left })?;
     }
     Ok(fails)
 }

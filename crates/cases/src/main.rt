@@ -4,13 +4,11 @@
 
 mod body;
 mod case;
-mod clean;
 mod compare;
 mod directive;
 mod fault;
 mod found;
 mod kinds;
-mod refused;
 mod running;
 mod setup;
 mod shown;

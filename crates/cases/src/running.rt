@@ -4,23 +4,21 @@ ghost use Rattle.mk_bytes.specs.Paths.{is_clean_directory as is_clean};
 ghost use Rattle.mk_world.specs.History.{state_of, tickets_of};
 
 use crate::case::{Case, Step};
-use crate::clean::compare_clean;
 use crate::compare::{Ran, compare};
 use crate::directive::Directive;
 use crate::fault::Trouble;
 use crate::found::{Found, Turn};
 use crate::kinds::{Counts, Where, fails_of};
-use crate::refused::refuse_all;
 use crate::setup::{environment_of, generated, schedule_of, schedules_of, world_of};
 use crate::words::words_of;
 use mk_bytes::Texts;
 use mk_memworld::{MemSink, MemWorld, Turns};
 use mk_scopes::Env;
-use mk_top::{End, run};
+use mk_top::run;
 use std::alloc::Global;
 
-/// Runs these words.
-pub fn run_words(
+// Runs these words.
+fn run_words(
     alloc: Global,
     words: &Texts,
     env: &Env,
@@ -60,8 +58,8 @@ fn run_step(alloc: Global, case: &Case, step: &Step, world: &mut MemWorld) -> Re
     Ok(run_words(alloc, &words, &env, world, sinks))
 }
 
-/// A file is changed from outside.
-pub fn edit(step: &Step, world: &mut MemWorld) -> Result<(), Trouble>
+// A file is changed from outside.
+fn edit(step: &Step, world: &mut MemWorld) -> Result<(), Trouble>
     requires idle { tickets_of (state_of world.old.chronicle).children ≡ [] }
     ensures { tickets_of (state_of world.new.chronicle).children ≡ [] }
 {
@@ -75,7 +73,7 @@ pub fn edit(step: &Step, world: &mut MemWorld) -> Result<(), Trouble>
     }
 }
 
-// A run, and what differs. One that memory ran out in is run again.
+// A run, and what differs.
 fn take_run(
     alloc: Global,
     case: &Case,
@@ -87,12 +85,8 @@ fn take_run(
     requires idle { tickets_of (state_of world.old.chronicle).children ≡ [] }
     ensures { tickets_of (state_of world.new.chronicle).children ≡ [] }
 {
-    let mut ran = run_step(alloc, case, step, world)?;
-    if matches!(ran.report.end, End::NoMemory) {
-        ran = run_step(alloc, case, step, world)?;
-    }
-    compare(alloc, found, step, turn, &ran, world)?;
-    compare_clean(alloc, case, step, turn, &ran, found, world)
+    let ran = run_step(alloc, case, step, world)?;
+    compare(alloc, found, step, turn, &ran, world)
 }
 
 // All steps in one world.
@@ -128,14 +122,12 @@ fn run_under(
     take_steps(alloc, case, seed, &mut world, found)
 }
 
-/// Runs a case under its own schedule, then with each call refused where it asks for that, and then under the
-/// generated schedules that it asks for.
+/// Runs a case under its own schedule, and then under the generated ones that it asks for.
 pub fn run_case(alloc: Global, case: &Case, found: &mut Found) -> Result<(), Trouble> {
     if !case.has_run() {
         return Err(Trouble::Bad(case.head.line));
     }
     run_under(alloc, case, 0, schedule_of(alloc, case)?, found)?;
-    refuse_all(alloc, case, found)?;
     for seed in 0..schedules_of(case)? {
         let seed = seed.saturating_add(1);
         run_under(alloc, case, seed, generated(alloc, seed)?, found)?;

@@ -8,7 +8,7 @@ use crate::directive::Directive;
 use crate::fault::Trouble;
 use crate::kinds::{Where, fails_of};
 use mk_bytes::{Items, NoMemory, Pair, Pairs, Text, is_clean_directory};
-use mk_memworld::{Fails, MemWorld, Turns, are_clean};
+use mk_memworld::{MemWorld, Turns, are_clean};
 use mk_scopes::Env;
 use std::alloc::Global;
 
@@ -136,27 +136,15 @@ pub fn generated(alloc: Global, seed: u32) -> Result<Turns, NoMemory> {
     Ok(turns)
 }
 
-/// The world of a case, under a schedule, in which these calls fail.
-pub fn world_with(
-    alloc: Global,
-    case: &Case,
-    schedule: Turns,
-    fails: Fails,
-) -> Result<MemWorld, Trouble>
-    ensures { IfOk result (λ world. tickets_of (state_of world.chronicle).children ≡ []) }
-{
-    let cwd = directory_of(alloc, case)?;
-    let files = files_of(alloc, case)?;
-    if !is_clean_directory(cwd.bytes()) || !are_clean(alloc, &cwd, &files)? {
-        return Err(Trouble::Bad(case.head.line));
-    }
-    Ok(MemWorld::new(alloc, cwd, files, schedule, fails)?)
-}
-
 /// The world of a case, under a schedule.
 pub fn world_of(alloc: Global, case: &Case, schedule: Turns) -> Result<MemWorld, Trouble>
     ensures { IfOk result (λ world. tickets_of (state_of world.chronicle).children ≡ []) }
 {
+    let cwd = directory_of(alloc, case)?;
+    let files = files_of(alloc, case)?;
     let fails = fails_of(alloc, case, Where::World)?;
-    world_with(alloc, case, schedule, fails)
+    if !is_clean_directory(cwd.bytes()) || !are_clean(alloc, &cwd, &files)? {
+        return Err(Trouble::Bad(case.head.line));
+    }
+    Ok(MemWorld::new(alloc, cwd, files, schedule, fails)?)
 }
