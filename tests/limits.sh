@@ -72,5 +72,9 @@ row 'a chain of 100000 targets below one that is newer than its file' \
 row 'a chain of 100000 targets below one that is older than its file' \
     "touch -d 2001-01-01 t; touch a; $chain; printf 't: n100000\n\t@echo \${.OODATE}\n'" 0 "n100000$nl" '' t
 
+# Ten thousand targets in a generated world, in 1 GiB: all are made, and then what the changed source reaches.
+told="targets 10000${nl}first 10000 started 0 kept${nl}second 2 started 9998 kept${nl}bytes 76644$nl"
+row 'ten thousand generated targets' 'ulimit -v 1048576' 0 "$told" '' --generate 10000
+
 echo "$passed passed, $failed failed"
 [ "$failed" = 0 ]

@@ -55,7 +55,79 @@ outside=$'bmake: an outside call failed\n'
 
 row shows='each option that is built stands in the text of --help' \
     run='"$program" --help | sed -n "s/^  -\([A-Za-z]\) .*/\1/p" | tr -d "\n"' \
-    out='fImDVvejBkSis'
+    out='fImDVvejBkSisnqr'
+
+row shows='-n prints the commands that would run, and runs none' \
+    before='echo 1 >a' \
+    makefile=$'p: t\n\t@cat t > p\nt: a\n\tcat a > t\n' \
+    run='"$program" -n' \
+    out=$'cat a > t\ncat t > p\n' \
+    after='[ "$(ls -A)" = "a
+makefile" ]'
+
+row shows='-n runs a command that is marked +' \
+    before='echo 1 >a' \
+    makefile=$'t: a\n\t+@echo hi\n\tcat a > t\n' \
+    run='"$program" -n -j4' \
+    out=$'echo hi\nhi\ncat a > t\n' \
+    after='[ ! -e t ]'
+
+row shows='-n: what is made of a shown target is out of date, too' \
+    before='echo 1 >a; echo 1 >o; echo 1 >p; touch -d 2001-01-01 p; touch -d 2000-01-01 o' \
+    makefile=$'p: o\n\tcat o > p\no: a\n\tcat a > o\n' \
+    run='"$program" -n' \
+    out=$'cat a > o\ncat o > p\n'
+
+row shows='-n: a command marked + that fails ends the run' \
+    makefile=$'p: t\n\techo p\nt:\n\t+exit 3\n\techo t\n' \
+    run='"$program" -n' status=1 \
+    out=$'exit 3\n' err=$'bmake: target t command 1: status 3\n'
+
+row shows='-n in meta mode writes nothing' \
+    before='echo 1 >a' \
+    makefile=$'.MAKE.MODE=meta curdirOk=yes\nt: a\n\tcat a > t\n' \
+    run='"$program" -n' \
+    out=$'cat a > t\n' \
+    after='[ "$(ls -A)" = "a
+makefile" ]'
+
+row shows='-q asks, and makes nothing' \
+    before='echo 1 >a' \
+    makefile=$'t: a\n\tcat a > t\n' \
+    run='"$program" -q' status=1 \
+    after='[ ! -e t ]'
+
+row shows='-q where all is up to date' \
+    before='echo 1 >a; echo 2 >t; touch -d 2001-01-01 a' \
+    makefile=$'.BEGIN:\n\techo begin\nt: a\n\tcat a > t\n' \
+    run='"$program" -q'
+
+row shows='-q where a command cannot be expanded' \
+    makefile=$'t:\n\techo ${:U1:Z}\n' \
+    run='"$program" -q' status=2 \
+    err=$'bmake: target t command 1: unknown modifier at 11\n'
+
+row shows='-r is taken, and without effect' \
+    makefile=$'t:\n\techo hi > t\n' \
+    run='"$program" -r' \
+    out=$'echo hi > t\n'
+
+row shows='--explain tells why each target is out of date, and makes nothing' \
+    before='echo 1 >a; echo 1 >o; touch -d 1970-01-01T00:00:02Z a; touch -d 1970-01-01T00:00:01Z o' \
+    makefile=$'p: o\n\tcat o > p\no: a\n\tcat a > o\n' \
+    run='"$program" --explain' \
+    out=$'o newer a 2000000000 1000000000\np missing\n' \
+    after='[ ! -e p ]'
+
+row shows='--explain in meta mode tells of another command' \
+    before='mkdir -p x; printf ".MAKE.MODE=meta curdirOk=yes nofilemon\nt:\n\techo 1 > t\n" >makefile; "$program" >/dev/null; sed -i "s/echo 1/echo 2/" makefile' \
+    run='"$program" --explain' \
+    out=$'t command 1\n- echo 1 > t\n+ echo 2 > t\n'
+
+row shows='--generate makes a project in memory, and builds it twice' \
+    run='"$program" --generate 10' \
+    out=$'targets 10\nfirst 10 started 0 kept\nsecond 2 started 8 kept\nbytes 56\n' \
+    after='[ -z "$(ls -A)" ]'
 
 row shows='a command writes its target' \
     makefile=$'t:\n\techo hi > t\n' \

@@ -58,15 +58,28 @@ objects() {
 }
 
 # One step: what it shows, the shell lines before the run, the words of the run, the commands that are
-# wanted, by the shell line that prints them, and what the program then prints. Between the change and the
+# wanted, by the shell line that prints them, why, as --explain tells it with a T for each time, and what the
+# program then prints. Before the run -n shows these commands, and -q tells whether there are some. Between the change and the
 # run there is a pause: the clock of a file system goes in steps, and a file that was changed in the step in
 # which a job began counts as changed behind it.
 step() {
-    local shows before=: words='' wanted=: says=$'2 the\n1 and\n1 cat\n1 dog' is wrong=''
+    local shows before=: words='' wanted=: told=any says=$'2 the\n1 and\n1 cat\n1 dog' is wrong=''
     local "$@"
     eval "$before" || wrong='the change failed'
     sleep 0.02
+    [ "$wanted" != : ] || told=''
     # The words are parted by the blanks between them.
+    # shellcheck disable=SC2086
+    "$program" -n $words >"$room/out" 2>&1 </dev/null
+    eval "$wanted" | cmp -s - "$room/out" || wrong="$wrong; -n shows: $(cat "$room/out")"
+    # shellcheck disable=SC2086
+    "$program" -q $words >"$room/out" 2>&1 </dev/null
+    is=$?
+    [ "$is" = "$([ "$wanted" = : ]; echo $?)" ] || wrong="$wrong; -q ends with $is"
+    [ ! -s "$room/out" ] || wrong="$wrong; -q prints: $(cat "$room/out")"
+    # shellcheck disable=SC2086
+    "$program" --explain $words </dev/null 2>&1 | sed -E 's/ [0-9]{10,}/ T/g' >"$room/out"
+    [ "$told" = any ] || [ "$(cat "$room/out")" = "$told" ] || wrong="$wrong; --explain tells: $(cat "$room/out")"
     # shellcheck disable=SC2086
     "$program" $words >"$room/out" 2>"$room/err" </dev/null
     is=$?
@@ -83,30 +96,35 @@ step() {
     fi
 }
 
-step shows='all is built' wanted='objects main table words; link'
+step shows='all is built' wanted='objects main table words; link' \
+    told=$'main.o missing\ntable.o missing\nwords.o missing\ntool missing'
 
 step shows='a second run prints and starts nothing'
 
 step shows='nor does one with several jobs' words='-j 4'
 
 step shows='a header that no makefile names was edited, which two sources include' \
-    before='echo "/* Words. */" >>include/words.h' wanted='objects main words; link'
+    before='echo "/* Words. */" >>include/words.h' wanted='objects main words; link' \
+    told=$'main.o read include/words.h T T\nwords.o read include/words.h T T\ntool newer main.o new T'
 
 step shows='nothing more is to do'
 
 step shows='a header was edited that one source includes' \
-    before='echo "/* Letters. */" >>include/letters.h' wanted='objects words; link'
+    before='echo "/* Letters. */" >>include/letters.h' wanted='objects words; link' \
+    told=$'words.o read include/letters.h T T\ntool newer words.o new T'
 
 step shows='a header appeared earlier in the include path' \
     before='echo "#define IS_LETTER(c) ((c) > 100)" >local/letters.h' wanted='objects words; link' \
+    told=$'words.o appeared local/letters.h\ntool newer words.o new T' \
     says=$'2 the\n1 n\n1 og\n1 t'
 
 step shows='it is found there from now on' says=$'2 the\n1 n\n1 og\n1 t'
 
 step shows='it was edited' before='echo "#define IS_LETTER(c) ((c) >= 97)" >local/letters.h' \
-    wanted='objects words; link'
+    wanted='objects words; link' told=$'words.o read local/letters.h T T\ntool newer words.o new T'
 
-step shows='it is gone again' before='rm local/letters.h' wanted='objects words; link'
+step shows='it is gone again' before='rm local/letters.h' wanted='objects words; link' \
+    told=$'words.o read local/letters.h missing T\ntool newer words.o new T'
 
 step shows='a header appeared that nothing looks for' before='echo "#error" >local/other.h'
 
@@ -116,27 +134,33 @@ step shows='the flags of the compiler reach the objects' words=CFLAGS=-O1 wanted
 step shows='the same flags again' words=CFLAGS=-O1
 
 link_flags=-rdynamic
-step shows='the flags of the linker reach the program alone' words='CFLAGS=-O1 LDFLAGS=-rdynamic' wanted=link
+step shows='the flags of the linker reach the program alone' words='CFLAGS=-O1 LDFLAGS=-rdynamic' wanted=link \
+    told=$'tool command 1
+- ../../tools/fmtrace cc -s -o tool main.o table.o words.o
++ ../../tools/fmtrace cc -rdynamic -o tool main.o table.o words.o'
 
 flags=-O2
 link_flags=-s
 step shows='the flags of the makefile again' wanted='objects main table words; link'
 
-step shows='an object was removed' before='rm table.o' wanted='objects table; link'
+step shows='an object was removed' before='rm table.o' wanted='objects table; link' \
+    told=$'table.o missing\ntool newer table.o new T'
 
-step shows='an object was edited by hand' before='echo 1 >>words.o' wanted='objects words; link'
+step shows='an object was edited by hand' before='echo 1 >>words.o' wanted='objects words; link' \
+    told=$'words.o touched T T\ntool newer words.o new T'
 
 step shows='an object of another build was put in its place' before='cp main.o table.o' wanted='objects table; link'
 
-step shows='the program was edited by hand' before='echo 1 >>tool' wanted=link
+step shows='the program was edited by hand' before='echo 1 >>tool' wanted=link told='tool touched T T'
 
-step shows='the record of an object was removed' before='rm main.o.meta' wanted='objects main; link'
+step shows='the record of an object was removed' before='rm main.o.meta' wanted='objects main; link' \
+    told=$'main.o no meta\ntool newer main.o new T'
 
 step shows='the record of an object was cut' before='head -c 200 words.o.meta >cut; mv cut words.o.meta' \
     wanted='objects words; link'
 
 step shows='a source was edited' before='cp main.c old; sed -i "s/%zu %s/%zu times %s/" main.c' \
-    wanted='objects main; link' says=$'2 times the\n1 times and\n1 times cat\n1 times dog'
+    wanted='objects main; link' told=$'main.o newer main.c T T\ntool newer main.o new T' says=$'2 times the\n1 times and\n1 times cat\n1 times dog'
 
 step shows='the old source was put back' before='cp old main.c; rm old' wanted='objects main; link'
 

@@ -27,6 +27,11 @@ const HELP: &[u8] = b"usage: bmake [options] [NAME=VALUE ..] [TARGET ..]
   -S           stop at the first failure: undoes a -k before it
   -i           pass over commands that fail
   -s           do not print commands before they run
+  -n           print the commands that would be run; only those marked + are run
+  -q           make nothing: status 1 where a target is out of date
+  -r           taken, and without effect: no rules are built in
+  --explain    make nothing: tell of each target that is out of date why it is
+  --generate N make a project of N targets in memory and build it twice, where it is the first word
   --           the words after it are no options
   NAME=VALUE   set this variable above all others; also with +=, ?= and :=
   TARGET       make this target; without one, the makefile's first is made
@@ -36,8 +41,9 @@ const HELP: &[u8] = b"usage: bmake [options] [NAME=VALUE ..] [TARGET ..]
 Each command of a target is run by /bin/sh, in the current directory; what it prints stands in a
 file below $TMPDIR, or else /tmp, until it has ended.
 
-Exit status: 0 where all went well, 1 where a command failed, 2 for a bad word, a fault in a
-makefile or a target that cannot be made, 3 where an outside call failed, 4 where memory ran out.
+Exit status: 0 where all went well, 1 where a command failed or, with -q, a target is out of date,
+2 for a bad word, a fault in a makefile or a target that cannot be made, 3 where an outside call failed,
+4 where memory ran out.
 ";
 
 const VERSION: &[u8] = b"bmake 0.1.0\n";

@@ -203,6 +203,7 @@ pub fn end_text(alloc: Global, end: &End) -> Result<Text, NoMemory> {
             numbered(alloc, "Expand", node.bytes(), *line, wrong.bytes())
         }
         End::JobFailed(node, line, status) => failed_text(alloc, node.bytes(), *line, *status),
+        End::NotUpToDate(name) => call(alloc, "NotUpToDate", &[name.bytes()]),
         End::WorldFault => plain(alloc, "WorldFault"),
         End::SinkFault => plain(alloc, "SinkFault"),
         End::NoMemory => plain(alloc, "NoMemory"),

@@ -1,5 +1,6 @@
 pub mod Agrees
 pub mod Bytes
+pub mod Lent
 pub mod Numbers
 pub mod Paths
 pub mod Texts

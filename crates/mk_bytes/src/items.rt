@@ -26,6 +26,9 @@ impl<T> Model for Items<T> {
 }
 
 impl<T> Items<T> {
+    ghost use Rattle.std.specs.Borrow.{sem};
+    ghost use Rattle.mk_bytes.specs.Lent.{LendsItem};
+
     /// An empty list with room for `room` items. Without room it takes no memory and succeeds.
     pub fn new(alloc: Global, room: usize) -> Result<Items<T>, NoMemory>
         ensures empty { IfOk result (λ list. list ≡ []) }
@@ -56,6 +59,15 @@ impl<T> Items<T> {
         ensures { slice_get self.now i ≡ Some result.now }
     {
         &self.items[i]
+    }
+
+    /// The item at place `i`, counted from 0, to be changed. The others stay.
+    pub fn get_mut(&mut self, i: usize) -> &mut T
+        requires { i < length self.old }
+        ensures* writes_back { sem 𝓛 (LendsItem T.row self.entry i result) }
+        ensures value { Some result.now ≡ slice_get self.old i }
+    {
+        &mut self.items[i]
     }
 
     /// All items in order.

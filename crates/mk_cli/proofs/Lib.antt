@@ -1,4 +1,3 @@
 mod OrderLemmas
 mod Rows
 mod SoundLemmas
-mod UnbuiltLemmas

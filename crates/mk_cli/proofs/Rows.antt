@@ -158,5 +158,17 @@ nameless_append_row = refl
 pub nameless_now_row : read (codes ":=x" ∷ []) ≡ Err (Word 0)
 nameless_now_row = refl
 
-pub unknown_option_row : read (codes "--explain" ∷ []) ≡ Err (Word 0)
+pub unknown_option_row : read (codes "--audit" ∷ []) ≡ Err (Word 0)
 unknown_option_row = refl
+
+-- `--explain` stands beside targets and options, and behind `--` it is a target
+pub explain_row : read (codes "t" ∷ codes "--explain" ∷ codes "-k" ∷ [])
+    ≡ Ok (record no_order {
+      explain = true;
+      flags = record no_flags { keep_going = true; requested = codes "t" ∷ [] };
+    })
+explain_row = refl
+
+pub explain_operand_row : read (codes "--" ∷ codes "--explain" ∷ [])
+    ≡ Ok (only_targets (codes "--explain" ∷ []))
+explain_operand_row = refl

@@ -3,5 +3,4 @@ pub mod Letters
 pub mod Numbers
 pub mod Options
 pub mod Orders
-pub mod Unbuilt
 pub mod Words

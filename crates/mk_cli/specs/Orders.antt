@@ -1,5 +1,5 @@
 -- What a command line asks for, and how it changes.
-use Rattle.std.specs.Prelude.{ℕ, ◌≤◌, Bool, false, List, [], ◌∷◌, ◌++◌, Some, None, IfSome}
+use Rattle.std.specs.Prelude.{ℕ, ◌≤◌, Bool, true, false, List, [], ◌∷◌, ◌++◌, Some, None, IfSome}
 use Rattle.mk_flags.specs.declared.Flags.{Flags}
 use Rattle.mk_cli.specs.declared.order.Order.{Order}
 use Rattle.mk_cli.specs.declared.order.Set.{Set}
@@ -32,6 +32,7 @@ no_order = record {
   sets = [];
   prints = [];
   env_first = false;
+  explain = false;
   generate = None;
   flags = no_flags;
 }
@@ -72,6 +73,10 @@ with_print order full text =
 -- this many jobs, whatever was said before
 abbrev pub with_jobs : Order → ℕ → Order
 with_jobs order jobs = record order { flags = record order.flags { jobs = jobs } }
+
+-- why targets are out of date is asked
+abbrev pub with_explain : Order → Order
+with_explain order = record order { explain = true }
 
 -- this many makefiles to generate
 abbrev pub with_generate : Order → ℕ → Order

@@ -52,19 +52,6 @@ fn add_print(alloc: Global, order: &mut Order, full: bool, text: &[u8]) -> Resul
     order.prints.push(Print { full, text })
 }
 
-/// Whether an argument is what its option takes.
-pub fn is_fine(place: u32, argument: Argument, text: &[u8]) -> bool
-    ensures { (order : AnyOrder)
-        → result ≡ is_ok (spec.with_argument place order argument text.now) }
-{
-    match argument {
-        Argument::Define | Argument::Print | Argument::PrintFull => true,
-        Argument::File | Argument::Near | Argument::System => !names_nothing(text),
-        Argument::Generate => number(MOST_GENERATED, place, text).is_ok(),
-        Argument::Jobs => number(MOST_JOBS, place, text).is_ok(),
-    }
-}
-
 /// Adds an option with its argument, which the word at `place` holds. That word is refused where
 /// the argument is not what the option takes.
 pub fn add_argument(

@@ -62,16 +62,6 @@ fn is_shell(op: AssignOp) -> bool
     matches!(op, AssignOp::Shell)
 }
 
-/// Whether the assignment that a word with an `=` is has a name, and no sign `!=`.
-pub fn is_named(word: &[u8]) -> bool
-    ensures { result ≡ is_some (spec.assignment word.now) }
-{
-    let (before, _) = split_at_equals(word);
-    let (name, op) = name_and_op(before);
-    let name = without_blanks(name);
-    !name.is_empty() && !is_shell(op)
-}
-
 /// The assignment that a word with an `=` is, of the command line's own class. `None` where it is
 /// refused: without a name, and with the sign `!=`.
 pub fn assignment(alloc: Global, word: &[u8]) -> Result<Option<Set>, NoMemory>

@@ -9,8 +9,6 @@ mod letter;
 mod number;
 mod order;
 mod reading;
-mod unbuilt;
 
 pub use command_line::words;
 pub use order::{AssignOp, Order, Print, Prints, Set, Sets, Usage};
-pub use unbuilt::first_unbuilt;

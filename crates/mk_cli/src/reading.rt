@@ -61,13 +61,14 @@ fn no_order(alloc: Global) -> Result<Order, NoMemory>
         sets: Items::new(alloc, 0)?,
         prints: Items::new(alloc, 0)?,
         env_first: false,
+        explain: false,
         generate: None,
         flags: no_flags(alloc)?,
     })
 }
 
-/// What the next word may be, behind the argument of an option.
-pub fn after(argument: Argument) -> Expected
+// What the next word may be, behind the argument of an option.
+fn after(argument: Argument) -> Expected
     ensures { result ≡ spec.after argument }
 {
     match argument {
@@ -76,8 +77,8 @@ pub fn after(argument: Argument) -> Expected
     }
 }
 
-/// Whether a word is `-` and a letter at least.
-pub fn is_option(word: &[u8]) -> bool
+// Whether a word is `-` and a letter at least.
+fn is_option(word: &[u8]) -> bool
     ensures { result ≡ spec.is_option word.now }
 {
     match word {
@@ -86,11 +87,18 @@ pub fn is_option(word: &[u8]) -> bool
     }
 }
 
-/// Whether the word at a place is `--generate`, and the first one.
-pub fn is_generate(place: u32, word: &[u8]) -> bool
+// Whether the word at a place is `--generate`, and the first one.
+fn is_generate(place: u32, word: &[u8]) -> bool
     ensures { result ≡ spec.is_generate place word.now }
 {
     place == 0 && word == b"--generate".as_slice()
+}
+
+// Whether a word is `--explain`.
+fn is_explain(word: &[u8]) -> bool
+    ensures { result ≡ spec.is_explain word.now }
+{
+    word == b"--explain".as_slice()
 }
 
 impl Reading {
@@ -218,6 +226,10 @@ impl Reading {
         }
         if is_generate(place, word) {
             self.expected = Expected::ArgumentOf(place, Argument::Generate);
+            return Ok(());
+        }
+        if is_explain(word) {
+            self.order.explain = true;
             return Ok(());
         }
         if is_option(word) {

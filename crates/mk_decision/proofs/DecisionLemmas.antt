@@ -1,6 +1,6 @@
--- What is decided of a node, by looks.
+-- How a node is judged, by looks, and what is decided of it.
 use Rattle.std.proofs.Common.{◌≡◌, ◌≢◌, ◌⊎◌, ℕ, ◌<◌, List, [], ◌++◌, map, length, Option, Some, None}
-use Rattle.std.proofs.Common.{inl, inr, Result, Ok, Err, IfOk, IfErr, append_assoc, sym, refl}
+use Rattle.std.proofs.Common.{inl, inr, Result, Ok, Err, IfOk, IfErr, append_assoc, sym, refl, ap, ◌∙◌}
 use Rattle.mk_expand.specs.Facts.{AnsweredBy, Answers}
 use Rattle.mk_expand.specs.declared.facts.Asked.{Asked}
 use Rattle.mk_expand.specs.declared.fault.ExpandFault.TheVariants as expand
@@ -19,14 +19,15 @@ use Rattle.mk_world.specs.declared.history.History.{History}
 use Rattle.mk_world.specs.declared.time.When.{When}
 use Rattle.mk_decision.specs.Ages.{IsWalk, source_ages}
 use Rattle.mk_decision.specs.Decisions.{Work, Sight, HasTask, IsDecision, IsJudged, asked_questions, asked_task, decided, mode_at, newer_of, setting_by}
+use Rattle.mk_decision.specs.Judgements.{IsFound, IsJudgement, decision_by, found_by}
 use Rattle.mk_decision.specs.Looks.{LooksAt}
 use Rattle.mk_decision.specs.Metas.{MetaSight, meta_looks}
-use Rattle.mk_decision.specs.Reasons.{IsMetaSight, reason}
+use Rattle.mk_decision.specs.Reasons.{IsMetaSight}
 use Rattle.mk_meta.specs.TrueHistory.{meta_path}
 use Rattle.mk_decision.proofs.LookLemmas.{looks-then}
 use Rattle.mk_decision.specs.Sights.{seen_of}
-use Rattle.mk_decision.specs.declared.decision.Decision.{Decision}
-use Rattle.mk_decision.specs.declared.decision.Decision.TheVariants.{Refuse}
+use Rattle.mk_decision.specs.declared.judgement.Judgement.{Judgement}
+use Rattle.mk_decision.specs.declared.judgement.Judgement.TheVariants.{Nothing, Refused, Judged}
 use Rattle.mk_decision.specs.declared.sight.Sighting.{Sighting}
 
 -- the looks at a node's target and sources, by their times, and those for `exists`
@@ -36,11 +37,11 @@ abbrev pub sight-of : (work : Work) (n : ℕ) (target : When) (sources : List Si
 sight-of work n target sources asked walk =
     record { target = target; sources = sources; asked = asked; are = refl; walk = walk }
 
--- what is decided of a node by these looks, and why
-abbrev pub IsDecided : Meaning → Work → Option History → Option History → ℕ → List Seen
-    → Result Decision WorldFault → Type 0
-IsDecided meaning work a b n sighted result = IfOk result (λ decision. (more : List Seen)
-    × LooksAt meaning a b more × IsDecision work n (sighted ++ more) decision)
+-- how a node is judged by these looks and more
+abbrev pub IsJudgedBy : Meaning → Work → Option History → Option History → ℕ → List Seen
+    → Result Judgement WorldFault → Type 0
+IsJudgedBy meaning work a b n sighted result = IfOk result (λ judgement. (more : List Seen)
+    × LooksAt meaning a b more × IsJudgement work n (sighted ++ more) judgement)
 
 -- what was asked behind a fault
 pub asked-behind : {X : Type 0} → (asked : List Asked) (result : Result X TaskFault)
@@ -50,76 +51,82 @@ pub asked-behind : {X : Type 0} → (asked : List Asked) (result : Result X Task
 asked-behind asked (Ok made) questions answers answered behind = tt
 asked-behind asked (Err fault) questions answers answered behind = behind answers answered
 
--- the decision of a node whose task has a fault
-pub decided-fault : (meaning : Meaning) (work : Work) (a b : Option History) (n : ℕ)
-    (fault : TaskFault) (result : Result Decision WorldFault) (target : When) (sources : List Sighting)
+-- the judgement of a node whose task has a fault
+pub judged-fault : (meaning : Meaning) (work : Work) (a b : Option History) (n : ℕ)
+    (fault : TaskFault) (result : Result Judgement WorldFault) (target : When) (sources : List Sighting)
     (asked : List Dated) → IsWalk work.plan n target sources → LooksAt meaning a b (map dated asked)
     → IsTaskFault fault (asked_task work n (newer_of work n target sources) asked)
     → IsFree fault ⊎ (asked_questions work n (newer_of work n target sources) asked ≡ map as_asked asked)
     → ((result ≡ Err world.NoMemory) × (fault.what ≢ expand.Failed))
     ⊎ (((result ≡ Err world.Failed) × (fault.what ≡ expand.Failed))
-    ⊎ ((result ≡ Ok (Refuse fault.line fault.what)) × IsOwn fault))
-    → IsDecided meaning work a b n (seen_of work.plan n target sources) result
-decided-fault meaning work a b n fault result target sources asked walk looked is all (inl none) =
+    ⊎ ((result ≡ Ok (Refused fault.line fault.what)) × IsOwn fault))
+    → IsJudgedBy meaning work a b n (seen_of work.plan n target sources) result
+judged-fault meaning work a b n fault result target sources asked walk looked is all (inl none) =
     rw none.0 tt
-decided-fault meaning work a b n fault result target sources asked walk looked is all (inr (inl failed)) =
+judged-fault meaning work a b n fault result target sources asked walk looked is all (inr (inl failed)) =
     rw failed.0 tt
-decided-fault meaning work a b n fault result target sources asked walk looked (inl free) all
+judged-fault meaning work a b n fault result target sources asked walk looked (inl free) all
     (inr (inr told)) = absurd (told.1 free)
-decided-fault meaning work a b n fault result target sources asked walk looked (inr is) (inl free)
+judged-fault meaning work a b n fault result target sources asked walk looked (inr is) (inl free)
     (inr (inr told)) = absurd (told.1 free)
-decided-fault meaning work a b n fault result target sources asked walk looked (inr is) (inr all)
+judged-fault meaning work a b n fault result target sources asked walk looked (inr is) (inr all)
     (inr (inr told)) =
     rw told.0 (map dated asked, looked, (sight-of work n target sources asked walk, (is, all)))
 
--- the decision of a node that has a task
-pub decided-task : (meaning : Meaning) (work : Work) (a b c : Option History) (n : ℕ) (task : Task)
-    (why : Option Why) (decision : Decision) (target : When) (sources : List Sighting)
+-- the judgement of a node that has a task
+pub judged-task : (meaning : Meaning) (work : Work) (a b c : Option History) (n : ℕ) (task : Task)
+    (judgement : Judgement) (target : When) (sources : List Sighting)
     (asked : List Dated) (meta : Option MetaSight) → IsWalk work.plan n target sources
     → LooksAt meaning a b (map dated asked) → 0 < length (node_at work.plan n).commands
     → HasTask work n target sources asked task
     → IsMetaSight work.mode.ignore_paths (mode_at work n) task target (source_ages work.plan n sources)
     meta → LooksAt meaning b c (meta_looks (meta_path (node_at work.plan n).name) meta)
-    → why ≡ reason (mode_at work n) task target (source_ages work.plan n sources) meta
-    → decision ≡ decided task why
+    → judgement ≡ Judged task (found_by (mode_at work n) task target (source_ages work.plan n sources) meta)
     → (more : List Seen) × LooksAt meaning a c more
-    × IsDecision work n (seen_of work.plan n target sources ++ more) decision
-decided-task meaning work a b c n task why decision target sources asked meta walk looked some has opened
-    seen is decides =
-    rw decides (
+    × IsJudgement work n (seen_of work.plan n target sources ++ more) judgement
+judged-task meaning work a b c n task judgement target sources asked meta walk looked some has opened
+    seen is =
+    rw is (
       map dated asked ++ last,
       looks-then meaning a b c (map dated asked) last looked seen,
-      by why (judged is),
+      record { commands = some; judged = judged; times = refl; value = refl },
     )
   where
     last : List Seen
     last = meta_looks (meta_path (node_at work.plan n).name) meta
 
-    newer : List (List ℕ)
-    newer = newer_of work n target sources
-
-    judged : why ≡ reason (mode_at work n) task target (source_ages work.plan n sources) meta
-        → IsJudged work n (seen_of work.plan n target sources ++ (map dated asked ++ last)) task why
-    judged is = record {
+    judged : IsJudged work n (seen_of work.plan n target sources ++ (map dated asked ++ last)) task
+        (found_by (mode_at work n) task target (source_ages work.plan n sources) meta).why
+    judged = record {
       first = seen_of work.plan n target sources ++ map dated asked;
       sight = sight-of work n target sources asked walk;
       meta = meta;
       are = sym (append_assoc (seen_of work.plan n target sources) (map dated asked) last);
       has = has;
       opened = opened;
-      reason = is;
+      reason = refl;
     }
 
-    by : (why : Option Why)
-        → IsJudged work n (seen_of work.plan n target sources ++ (map dated asked ++ last)) task why
-        → IsDecision work n (seen_of work.plan n target sources ++ (map dated asked ++ last))
-        (decided task why)
-    by None judged = (task.lines, inr (task, judged, refl))
-    by (Some why) judged = (
+-- the decision of a node that was judged and has a task
+task-decided : (work : Work) (n : ℕ) (seen : List Seen) (task : Task) (why : Option Why)
+    → 0 < length (node_at work.plan n).commands → IsJudged work n seen task why
+    → IsDecision work n seen (decided task why)
+task-decided work n seen task None some judged = (task.lines, inr (task, judged, refl))
+task-decided work n seen task (Some why) some judged =
+    let sight = judged.sight in
+    let newer = newer_of work n sight.target sight.sources in (
       (task, why, judged, refl),
-      rw (task_of-length (setting_by work asked) work.suffixes work.plan n newer work.mode work.flags []
-          (map as_asked asked) task has) some,
-      task_of-with (setting_by work asked) work.suffixes work.plan n newer work.mode work.flags []
-          (map as_asked asked) task has,
+      rw (task_of-length (setting_by work sight.asked) work.suffixes work.plan n newer work.mode work.flags
+          [] (map as_asked sight.asked) task judged.has) some,
+      task_of-with (setting_by work sight.asked) work.suffixes work.plan n newer work.mode work.flags []
+          (map as_asked sight.asked) task judged.has,
       judged,
     )
+
+-- what is decided of a node that was judged
+pub judged-decided : (work : Work) (n : ℕ) (seen : List Seen) (judgement : Judgement)
+    → IsJudgement work n seen judgement → IsDecision work n seen (decision_by judgement)
+judged-decided work n seen Nothing is = ([], inl is.0)
+judged-decided work n seen (Refused number what) is = is
+judged-decided work n seen (Judged task found) is =
+    task-decided work n seen task found.why is.commands is.judged

@@ -12,6 +12,8 @@ use Rattle.mk_world.specs.declared.command.Task.{Task}
 use Rattle.mk_world.specs.declared.time.When.{When}
 use Rattle.mk_decision.specs.Metas.{AreOf, IsValueOf, PathTimes, no_paths, records_in}
 use Rattle.mk_decision.specs.Reasons.{IsMetaSight, by_times, first_times, is_opened, reason}
+use Rattle.mk_decision.specs.declared.reason.Found.{Found}
+use Rattle.mk_oodate.specs.declared.reason.Times.{Times}
 
 pub none-from : (found : Option Why) → is_some found ≡ false → found ≡ None
 none-from None is = refl
@@ -95,3 +97,10 @@ pub judged-by_paths : (ignored : List (List ℕ)) (mode : NodeMode) (task : Task
     (Some (record { bytes = bytes; value = value; when = when; paths = paths }))
 judged-by_paths ignored mode task target ages bytes value when paths opened is_value none are =
     (opened, is_value, rw none are)
+
+-- what was found is the same where its reason and its times are
+pub found-is : (why other : Option Why) (times more : Times) (value : Option Meta) → why ≡ other
+    → times ≡ more
+    → let first : Found = record { why = why; times = times; value = value } in
+    first ≡ record { why = other; times = more; value = value }
+found-is why other times more value is are = rw (is, are) refl

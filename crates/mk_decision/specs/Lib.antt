@@ -2,6 +2,7 @@ pub mod Ages
 pub mod Asks
 pub mod Dates
 pub mod Decisions
+pub mod Judgements
 pub mod Known
 pub mod Looks
 pub mod Makers

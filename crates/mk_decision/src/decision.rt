@@ -1,33 +1,19 @@
 //! How a node is decided.
-ghost use Rattle.std.specs.Prelude.{◌≡◌, ◌≢◌, ◌⊎◌, ◌<◌, ◌++◌, ℕ, List, length, Option, Ok, Err, IfOk, OnErr};
-ghost use Rattle.mk_decision.specs.Ages.{IsWalk, source_ages as ages_of};
-ghost use Rattle.mk_decision.specs.Asks.{TaskAsked};
-ghost use Rattle.mk_decision.specs.Decisions.{asked_questions, asked_task, decided, mode_at, newer_of, IsDecision};
+ghost use Rattle.std.specs.Prelude.{◌≡◌, ◌<◌, ℕ, List, length, IfOk, OnErr};
+ghost use Rattle.mk_decision.specs.Decisions.{decided, IsDecision};
+ghost use Rattle.mk_decision.specs.Judgements as spec;
 ghost use Rattle.mk_decision.specs.Looks.{LooksAt};
 ghost use Rattle.mk_decision.specs.Makers.{work_of};
-ghost use Rattle.mk_decision.specs.Metas.{MetaSight, meta_looks};
-ghost use Rattle.mk_decision.specs.Reasons.{IsMetaSight, reason as reason_of};
-ghost use Rattle.mk_decision.specs.Sights.{SawSome, seen_of};
-ghost use Rattle.mk_decision.specs.declared.decision.Decision.TheVariants.{Refuse as refuse};
-ghost use Rattle.mk_expand.specs.declared.fault.ExpandFault.TheVariants.{Failed as failed};
-ghost use Rattle.mk_meta.specs.TrueHistory.{meta_path};
-ghost use Rattle.mk_plan.specs.Plans.{node_at};
-ghost use Rattle.mk_plan.specs.Refusals.{IsOwn, without_line};
+ghost use Rattle.mk_decision.specs.Sights.{SawSome};
 ghost use Rattle.mk_world.specs.Causes.{HasCause};
 ghost use Rattle.mk_world.specs.Looks.{Seen};
-ghost use Rattle.mk_world.specs.declared.fault.WorldFault.TheVariants.{Failed as world_failed, NoMemory as no_memory};
+ghost use Rattle.mk_world.specs.declared.fault.WorldFault.TheVariants.{Failed as world_failed};
 
-use crate::age::source_ages;
+use crate::judgement::{Judgement, judge_on};
 use crate::maker::Maker;
-use crate::newest::raise_by;
-use crate::reason::reason;
-use crate::sight::{NodeTimes, look};
-use crate::test::newer_names;
-use mk_bytes::{NoMemory, Texts};
 use mk_expand::ExpandFault;
-use mk_oodate::{Ages, Why};
-use mk_plan::{MadeFacts, TaskFault, task};
-use mk_world::{Task, Time, When, World, WorldFault};
+use mk_oodate::Why;
+use mk_world::{Task, Time, World, WorldFault};
 
 /// What is to be done with a node.
 #[derive(Drop)]
@@ -40,126 +26,24 @@ pub enum Decision {
     Make(Task, Why),
 }
 
-// The task of a node, where these of its sources are newer than it. What its conditions ask is asked
-// of the makefiles and of the world.
-fn task_in<W: World>(
-    maker: &Maker,
-    world: &mut W,
-    node: u32,
-    newer: &Texts,
-) -> Result<Task, TaskFault>
-    requires within { node < length maker.now.plan.now }
-    ensures task { TaskAsked W.meaning (W.history world.old) (W.history world.new) result
-        (λ looked. asked_task (work_of maker.now) node newer.now looked)
-        (λ looked. asked_questions (work_of maker.now) node newer.now looked) }
-    ensures cause { HasCause failed (W.faults world.old) (W.faults world.new)
-        (without_line result) }
-    ensures children { (kids : List ℕ) → W.runs world.old kids → W.runs world.new kids }
+// The decision of a node that has a task, by the reason that was found.
+fn decision_of(task: Task, why: Option<Why>) -> Decision
+    ensures { result ≡ decided task why }
 {
-    let mut asked = Vec::new(maker.alloc);
-    let requested = &maker.flags.requested;
-    let mut facts = MadeFacts::new(maker.made, requested, world, &mut asked);
-    task(
-        maker.alloc,
-        maker.plan,
-        maker.made,
-        node,
-        newer,
-        maker.flags,
-        &mut facts,
-    )
-}
-
-// What is known of a node by times.
-#[derive(Drop)]
-struct Verdict {
-    /// The names of its sources that are newer than it.
-    newer: Texts,
-    /// The ages of all its sources.
-    ages: Ages,
-}
-
-fn judge(maker: &Maker, node: u32, times: &NodeTimes) -> Result<Verdict, NoMemory>
-    requires within { node < length maker.now.plan.now }
-    requires walk { IsWalk maker.now.plan.now node times.now.target times.now.sources }
-    ensures newer { IfOk result (λ verdict. verdict.newer
-        ≡ newer_of (work_of maker.now) node times.now.target times.now.sources) }
-    ensures ages { IfOk result (λ verdict. verdict.ages
-        ≡ ages_of maker.now.plan.now node times.now.sources) }
-{
-    let ages = source_ages(maker.alloc, maker.plan, node, &times.sources)?;
-    let dated = ages.as_slice();
-    let places = maker.plan.sources(node).as_slice();
-    let newer = newer_names(maker.alloc, maker.plan, places, times.target, dated)?;
-    Ok(Verdict { newer, ages })
-}
-
-// The decision of a node whose task has a fault.
-fn refused(fault: TaskFault) -> Result<Decision, WorldFault>
-    ensures { ((result ≡ Err no_memory) × (fault.what ≢ failed))
-        ⊎ (((result ≡ Err world_failed) × (fault.what ≡ failed))
-        ⊎ ((result ≡ Ok (refuse fault.line fault.what)) × IsOwn fault)) }
-{
-    match fault.what {
-        ExpandFault::NoMemory => Err(WorldFault::NoMemory),
-        ExpandFault::Failed => Err(WorldFault::Failed),
-        what => Ok(Decision::Refuse(fault.line, what)),
+    match why {
+        Some(why) => Decision::Make(task, why),
+        None => Decision::Keep,
     }
 }
 
-// The decision of a node that has a task.
-fn decision_of<W: World>(
-    maker: &Maker,
-    world: &mut W,
-    node: u32,
-    task: Task,
-    target: When,
-    ages: Ages,
-    newest: &mut Time,
-) -> Result<Decision, WorldFault>
-    requires within { node < length maker.now.plan.now }
-    ensures seen { IfOk result (λ decision. (meta : Option MetaSight)
-        × IsMetaSight maker.now.made.now.mode.ignore_paths (mode_at (work_of maker.now) node) task
-        target ages meta
-        × LooksAt W.meaning (W.history world.old) (W.history world.new)
-        (meta_looks (meta_path (node_at maker.now.plan.now node).name) meta)
-        × (decision ≡ decided task
-        (reason_of (mode_at (work_of maker.now) node) task target ages meta))) }
-    ensures some { OnErr result
-        (SawSome W.meaning (W.history world.old) (W.history world.new)) }
-    ensures cause { HasCause world_failed (W.faults world.old) (W.faults world.new) result }
-    ensures children { (kids : List ℕ) → W.runs world.old kids → W.runs world.new kids }
+// The decision of a node that is so judged.
+fn decision_by(judgement: Judgement) -> Decision
+    ensures { result ≡ spec.decision_by judgement }
 {
-    match reason(maker, world, node, &task, target, ages, newest)? {
-        Some(why) => Ok(Decision::Make(task, why)),
-        None => Ok(Decision::Keep),
-    }
-}
-
-// The decision of a node with commands that was looked at.
-fn decision_by<W: World>(
-    maker: &Maker,
-    world: &mut W,
-    node: u32,
-    times: &NodeTimes,
-    newest: &mut Time,
-) -> Result<Decision, WorldFault>
-    requires within { node < length maker.now.plan.now }
-    requires some { 0 < length (node_at maker.now.plan.now node).commands }
-    requires walk { IsWalk maker.now.plan.now node times.now.target times.now.sources }
-    ensures decided { IfOk result (λ decision. (more : List Seen)
-        × LooksAt W.meaning (W.history world.old) (W.history world.new) more
-        × IsDecision (work_of maker.now) node
-        (seen_of maker.now.plan.now node times.now.target times.now.sources ++ more) decision) }
-    ensures halted { OnErr result
-        (SawSome W.meaning (W.history world.old) (W.history world.new)) }
-    ensures cause { HasCause world_failed (W.faults world.old) (W.faults world.new) result }
-    ensures children { (kids : List ℕ) → W.runs world.old kids → W.runs world.new kids }
-{
-    let verdict = judge(maker, node, times)?;
-    match task_in(maker, world, node, &verdict.newer) {
-        Err(fault) => refused(fault),
-        Ok(task) => { decision_of(maker, world, node, task, times.target, verdict.ages, newest) }
+    match judgement {
+        Judgement::Nothing => Decision::Keep,
+        Judgement::Refused(number, what) => Decision::Refuse(number, what),
+        Judgement::Judged(task, found) => decision_of(task, found.why),
     }
 }
 
@@ -180,10 +64,6 @@ pub fn decide_on<W: World>(
     ensures cause { HasCause world_failed (W.faults world.old) (W.faults world.new) result }
     ensures children { (kids : List ℕ) → W.runs world.old kids → W.runs world.new kids }
 {
-    if maker.plan.commands(node).is_empty() {
-        return Ok(Decision::Keep);
-    }
-    let times = look(maker.alloc, world, maker.plan, node)?;
-    raise_by(newest, &times);
-    decision_by(maker, world, node, &times, newest)
+    let judgement = judge_on(maker, world, node, newest)?;
+    Ok(decision_by(judgement))
 }

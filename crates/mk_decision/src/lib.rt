@@ -19,6 +19,7 @@
 
 mod age;
 mod decision;
+mod judgement;
 mod maker;
 mod newest;
 mod opening;
@@ -28,4 +29,6 @@ mod sight;
 mod test;
 
 pub use decision::{Decision, decide_on};
+pub use judgement::{Judgement, judge_on};
 pub use maker::{Maker, jobs_in};
+pub use reason::Found;

@@ -2,6 +2,7 @@
 ghost use Rattle.std.specs.Prelude.{◌≡◌, ◌<◌, ℕ, List, [], Option, None, true, false, length, unwrap_or, IfOk, OnErr};
 ghost use Rattle.std.specs.Option.{option_copied};
 ghost use Rattle.mk_decision.specs.Decisions.{mode_at};
+ghost use Rattle.mk_decision.specs.Judgements.{found_by};
 ghost use Rattle.mk_decision.specs.Looks.{LooksAt};
 ghost use Rattle.mk_decision.specs.Makers.{work_of};
 ghost use Rattle.mk_decision.specs.Metas.{AreOf, MetaSight, PathTimes, meta_looks, no_paths, path_looks, records_in as records_of};
@@ -23,6 +24,17 @@ use mk_meta::Meta;
 use mk_oodate::{Ages, NodeMode, Times, Why, stale};
 use mk_world::{Task, Time, When, World, WorldFault};
 use std::alloc::Global;
+
+/// What was found of a node that has a task.
+#[derive(Drop)]
+pub struct Found {
+    /// Why it is out of date, or `None` where it is not.
+    pub why: Option<Why>,
+    /// What the test went by.
+    pub times: Times,
+    /// The value of its meta file, where this was looked at and has one.
+    pub value: Option<Meta>,
+}
 
 // The times where only the target and the sources were looked at.
 fn first_times(alloc: Global, target: When, ages: Ages) -> Result<Times, NoMemory>
@@ -67,8 +79,8 @@ fn records_in<'m>(mode: &NodeMode, task: &Task, value: &'m Option<Meta>) -> Opti
     meta.records.as_ref()
 }
 
-// The reason by the records of a meta file, which alone gives none.
-fn by_records<W: World>(
+// The times, with those of the paths that count by a meta file.
+fn with_records<W: World>(
     maker: &Maker,
     world: &mut W,
     mode: &NodeMode,
@@ -76,33 +88,31 @@ fn by_records<W: World>(
     value: &Option<Meta>,
     times: Times,
     newest: &mut Time,
-) -> Result<Option<Why>, WorldFault>
+) -> Result<Times, WorldFault>
     requires bare { times ≡ spec.with_paths no_paths times }
-    requires none { test.stale value.now task.now mode.now times ≡ None }
-    ensures seen { IfOk result (λ why. (paths : PathTimes)
+    ensures seen { IfOk result (λ after. (paths : PathTimes)
         × AreOf maker.now.made.now.mode.ignore_paths (records_of mode.now task.now value.now) paths
         × LooksAt W.meaning (W.history world.old) (W.history world.new) (path_looks paths)
-        × (why ≡ test.stale value.now task.now mode.now (spec.with_paths paths times))) }
+        × (after ≡ spec.with_paths paths times)) }
     ensures some { OnErr result
         (SawSome W.meaning (W.history world.old) (W.history world.new)) }
     ensures cause { HasCause failed (W.faults world.old) (W.faults world.new) result }
     ensures children { (kids : List ℕ) → W.runs world.old kids → W.runs world.new kids }
 {
     let Some(records) = records_in(mode, task, value) else {
-        return Ok(None);
+        return Ok(times);
     };
     let ignored = &maker.made.mode.ignore_paths;
     let seen = look_at_records(maker.alloc, world, ignored, records, newest)?;
-    let times = Times {
+    Ok(Times {
         reads: seen.reads,
         misses: seen.misses,
         left: seen.left,
         ..times
-    };
-    Ok(reason_by(value, task, mode, &times))
+    })
 }
 
-// The reason by the meta file of a node, which times give no reason for.
+// What is found of a node by its meta file, where times give no reason.
 fn by_meta<W: World>(
     maker: &Maker,
     world: &mut W,
@@ -111,16 +121,16 @@ fn by_meta<W: World>(
     task: &Task,
     times: Times,
     newest: &mut Time,
-) -> Result<Option<Why>, WorldFault>
+) -> Result<Found, WorldFault>
     requires within { node < length maker.now.plan.now }
     requires bare { times ≡ spec.first_times times.target times.sources }
     requires opened { spec.is_opened mode.now task.now times.target times.sources ≡ true }
-    ensures seen { IfOk result (λ why. (meta : Option MetaSight)
+    ensures seen { IfOk result (λ found. (meta : Option MetaSight)
         × spec.IsMetaSight maker.now.made.now.mode.ignore_paths mode.now task.now
         times.target times.sources meta
         × LooksAt W.meaning (W.history world.old) (W.history world.new)
         (meta_looks (meta_path (node_at maker.now.plan.now node).name) meta)
-        × (why ≡ spec.reason mode.now task.now times.target times.sources meta)) }
+        × (found ≡ found_by mode.now task.now times.target times.sources meta)) }
     ensures some { OnErr result
         (SawSome W.meaning (W.history world.old) (W.history world.new)) }
     ensures cause { HasCause failed (W.faults world.old) (W.faults world.new) result }
@@ -133,15 +143,24 @@ fn by_meta<W: World>(
     };
     let why = reason_by(&file.value, task, mode, &times);
     if why.is_some() {
-        return Ok(why);
+        return Ok(Found {
+            why,
+            times,
+            value: file.value,
+        });
     }
-    by_records(maker, world, mode, task, &file.value, times, newest)
+    let times = with_records(maker, world, mode, task, &file.value, times, newest)?;
+    Ok(Found {
+        why: reason_by(&file.value, task, mode, &times),
+        times,
+        value: file.value,
+    })
 }
 
-/// Why a node is out of date, or `None` where it is not, by its task, the time of its file and the ages of
-/// its sources. In meta mode its meta file is looked at where these give no reason, and where that gives
-/// none either, so is each path that counts of its records.
-pub fn reason<W: World>(
+/// What is found of a node by its task, the time of its file and the ages of its sources. In meta mode its
+/// meta file is looked at where these give no reason, and where that gives none either, so is each path
+/// that counts of its records.
+pub fn find<W: World>(
     maker: &Maker,
     world: &mut W,
     node: u32,
@@ -149,14 +168,14 @@ pub fn reason<W: World>(
     target: When,
     ages: Ages,
     newest: &mut Time,
-) -> Result<Option<Why>, WorldFault>
+) -> Result<Found, WorldFault>
     requires within { node < length maker.now.plan.now }
-    ensures seen { IfOk result (λ why. (meta : Option MetaSight)
+    ensures seen { IfOk result (λ found. (meta : Option MetaSight)
         × spec.IsMetaSight maker.now.made.now.mode.ignore_paths (mode_at (work_of maker.now) node)
         task.now target ages meta
         × LooksAt W.meaning (W.history world.old) (W.history world.new)
         (meta_looks (meta_path (node_at maker.now.plan.now node).name) meta)
-        × (why ≡ spec.reason (mode_at (work_of maker.now) node) task.now target ages meta)) }
+        × (found ≡ found_by (mode_at (work_of maker.now) node) task.now target ages meta)) }
     ensures some { OnErr result
         (SawSome W.meaning (W.history world.old) (W.history world.new)) }
     ensures cause { HasCause failed (W.faults world.old) (W.faults world.new) result }
@@ -166,7 +185,11 @@ pub fn reason<W: World>(
     let times = first_times(maker.alloc, target, ages)?;
     let why = by_times(mode, task, &times);
     if !mode.meta || why.is_some() {
-        return Ok(why);
+        return Ok(Found {
+            why,
+            times,
+            value: None,
+        });
     }
     by_meta(maker, world, node, &mode, task, times, newest)
 }

@@ -18,7 +18,7 @@ use Rattle.mk_decision.specs.Decisions.{Work}
 use Rattle.mk_trace.specs.Builds.{Build, Moment, Prints, IsBuild, first_build, rules_of, job_of, moment}
 use Rattle.mk_decision.specs.Makers.{jobs_of}
 use Rattle.mk_trace.specs.Calls.{AreLeaveItems, Called}
-use Rattle.mk_driver.specs.Halts.{of_halt}
+use Rattle.mk_child.specs.Halts.{of_halt}
 use Rattle.mk_trace.specs.Ends.{result_of, IsOver, StandsBy, is_cut}
 use Rattle.mk_trace.specs.Items.{reported_all, outputs_of}
 use Rattle.mk_trace.specs.Output.{output}
@@ -32,8 +32,8 @@ use Rattle.mk_trace.specs.declared.result.BuildResult.{BuildResult}
 use Rattle.mk_trace.specs.declared.result.BuildResult.TheVariants as ended
 use Rattle.mk_trace.specs.declared.result.Failure.{Failure}
 use Rattle.mk_trace.specs.declared.result.Failure.TheVariants.{JobFailed, Expand}
-use Rattle.mk_driver.specs.declared.halt.Halt.{Halt}
-use Rattle.mk_driver.specs.declared.halt.Halt.TheVariants as halts
+use Rattle.mk_child.specs.declared.halt.Halt.{Halt}
+use Rattle.mk_child.specs.declared.halt.Halt.TheVariants as halts
 use Rattle.mk_trace.proofs.ItemLemmas.{reported_all-append, failure-events, told-none, told-then, run-legal}
 use Rattle.mk_trace.proofs.MakeLemmas.{none-append, none-steps, so_far-weaken}
 use Rattle.mk_trace.proofs.QuietLemmas.{made-quiet, quiet-append, quiet-leaves, quiet-steps}

@@ -23,7 +23,7 @@ use Rattle.mk_world.specs.Sinks.{Begins}
 use Rattle.mk_driver.specs.Jobs.{AreApart}
 use Rattle.mk_driver.specs.Metas.{HasOpened, HeadWritten, IsUnopened, NoHead}
 use Rattle.mk_driver.specs.Progress.{AreUnknown, HaltedAt, IsGoing, IsLookedAt, IsBehind}
-use Rattle.mk_driver.specs.declared.halt.Halt.{Halt}
+use Rattle.mk_child.specs.declared.halt.Halt.{Halt}
 use Rattle.mk_driver.proofs.LineLemmas.{halted}
 use Rattle.mk_trace.specs.Growth.{Known, HasTasks, SoFar}
 use Rattle.mk_trace.specs.Steps.{GoesOn, PrintsOwn}

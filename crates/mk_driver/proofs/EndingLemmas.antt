@@ -37,7 +37,7 @@ use Rattle.mk_trace.specs.declared.event.Event.TheVariants as event
 use Rattle.mk_driver.specs.declared.job.Job.{Job}
 use Rattle.mk_trace.specs.declared.result.Failure.{Failure}
 use Rattle.mk_trace.specs.declared.result.Failure.TheVariants.{JobFailed}
-use Rattle.mk_driver.specs.declared.halt.Halt.{Halt}
+use Rattle.mk_child.specs.declared.halt.Halt.{Halt}
 use Rattle.mk_driver.proofs.EndLemmas.{IsDated, closed-plain, collected_behind, go_on-cut_whole, go_on-dates, go_on-removes, go_on-whole, whole_bytes, whole_path}
 use Rattle.mk_driver.proofs.LineLemmas.{halted, so_far-ends, so_far-starts, so_far-waits}
 use Rattle.mk_trace.proofs.MakeLemmas.{so_far-nothing, so_far-weaken, silent, so_far-called}

@@ -2,7 +2,6 @@ pub mod BuildLemmas
 pub mod DecideLemmas
 pub mod EndLemmas
 pub mod EndingLemmas
-pub mod EventLemmas
 pub mod JobLemmas
 pub mod LineLemmas
 pub mod MetaLemmas

@@ -19,7 +19,7 @@ use Rattle.mk_trace.specs.Items.{starts, passes, waits, ends}
 use Rattle.mk_driver.specs.Jobs.{AreApart, HasLine, HasToken}
 use Rattle.mk_trace.specs.Output.{Printed, echo, shown, last_behind}
 use Rattle.mk_driver.specs.Progress.{IsGoing, IsPoised, IsBehind, IsEnding, HaltedAt}
-use Rattle.mk_driver.specs.Halts.{is_cut_by}
+use Rattle.mk_child.specs.Halts.{is_cut_by}
 use Rattle.mk_trace.specs.Growth.{Known, SoFar, Standing}
 use Rattle.mk_trace.specs.Runs as run
 use Rattle.mk_driver.specs.Scenes.{Scene, IsOpenScene, BehindIn, HaltedIn}
@@ -29,8 +29,8 @@ use Rattle.mk_trace.specs.declared.event.Event.{Event}
 use Rattle.mk_trace.specs.declared.event.Event.TheVariants as event
 use Rattle.mk_driver.specs.declared.job.Job.{Job}
 use Rattle.mk_trace.specs.declared.result.Failure.{Failure}
-use Rattle.mk_driver.specs.declared.halt.Halt.{Halt}
-use Rattle.mk_driver.specs.declared.halt.Halt.TheVariants as halts
+use Rattle.mk_child.specs.declared.halt.Halt.{Halt}
+use Rattle.mk_child.specs.declared.halt.Halt.TheVariants as halts
 use Rattle.mk_driver.proofs.EndLemmas.{collected_behind, go_on-passes, go_on-ends}
 use Rattle.mk_trace.proofs.MakeLemmas.{silent, so_far-called, so_far-own}
 use Rattle.mk_driver.proofs.StepLemmas.{go_on-starts, go_on-waits, running-take}

@@ -1,4 +1,3 @@
-pub mod Halts
 pub mod Jobs
 pub mod Metas
 pub mod Progress

@@ -14,7 +14,7 @@ use Rattle.mk_trace.specs.Builds.{Build, Duty, free, remove, Moment, Own, rules_
 use Rattle.mk_trace.specs.Collected.{nothing_collected}
 use Rattle.mk_trace.specs.Ends.{StandsBy, is_cut}
 use Rattle.mk_trace.specs.Growth.{Known, SoFar, Standing}
-use Rattle.mk_driver.specs.Halts.{is_cut_by}
+use Rattle.mk_child.specs.Halts.{is_cut_by}
 use Rattle.mk_driver.specs.Jobs.{FitsTogether}
 use Rattle.mk_trace.specs.Runs as run
 use Rattle.mk_driver.specs.declared.course.Course.{Course}
@@ -24,7 +24,7 @@ use Rattle.mk_driver.specs.declared.job.Job.{Job}
 use Rattle.mk_trace.specs.declared.result.BuildResult.{BuildResult}
 use Rattle.mk_trace.specs.declared.result.Failure.{Failure}
 use Rattle.mk_trace.specs.declared.result.Failure.TheVariants as failing
-use Rattle.mk_driver.specs.declared.halt.Halt.{Halt}
+use Rattle.mk_child.specs.declared.halt.Halt.{Halt}
 
 -- what a node's job has where a child of it runs
 abbrev pub own_of : Job → Own

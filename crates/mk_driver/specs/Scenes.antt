@@ -10,7 +10,7 @@ use Rattle.mk_driver.specs.Progress.{BehindOn, HaltedAt, IsUnstopped}
 use Rattle.mk_driver.specs.declared.course.Course.{Course}
 use Rattle.mk_trace.specs.declared.collected.Collected.{Collected}
 use Rattle.mk_trace.specs.declared.event.Event.{Event}
-use Rattle.mk_driver.specs.declared.halt.Halt.TheVariants.{NoMemory}
+use Rattle.mk_child.specs.declared.halt.Halt.TheVariants.{NoMemory}
 
 -- what is built in which world, what the driver keeps beside its report, and what was printed
 pub record Scene : Type 0 where

@@ -6,16 +6,16 @@ ghost use Rattle.mk_trace.specs.Ends.{EndsBy, result_of};
 ghost use Rattle.mk_decision.specs.Makers.{work_of, work_on};
 ghost use Rattle.mk_driver.specs.Progress.{EndedAt, Fits, GoingAt, HaltedAt, IsFirstCourse, undecided};
 ghost use Rattle.mk_trace.specs.declared.result.BuildResult.TheVariants as ended;
-ghost use Rattle.mk_driver.specs.declared.halt.Halt.TheVariants as halts;
+ghost use Rattle.mk_child.specs.declared.halt.Halt.TheVariants as halts;
 ghost use Rattle.mk_sched.specs.Next.{next_of};
 ghost use Rattle.mk_sched.specs.declared.sched.Next.TheVariants as next;
 ghost use Rattle.mk_world.specs.Causes.{HasCause};
 
 use crate::course::Course;
 use crate::ending::take_in;
-use crate::halt::Halt;
 use crate::node::decide;
 use mk_bytes::NoMemory;
+use mk_child::Halt;
 use mk_decision::{Maker, jobs_in};
 use mk_flags::Flags;
 use mk_graph::Made;

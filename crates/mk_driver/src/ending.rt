@@ -1,12 +1,12 @@
 //! The ends of lines.
 ghost use Rattle.std.specs.Prelude.{◌≡◌, ◌<◌, ◌≤◌, ◌+◌, ◌-◌, ◌&&◌, ◌||◌, ℕ, nat_le, not, length, Option, List, Some, None, OnOk, IfOk, IfErr, true};
 ghost use Rattle.mk_trace.specs.Builds.{Moment, is_removed};
-ghost use Rattle.mk_driver.specs.Halts.{of_world};
+ghost use Rattle.mk_child.specs.Halts.{of_world};
 ghost use Rattle.mk_driver.specs.Jobs.{HasLine, HasToken, is_there, lines_left};
 ghost use Rattle.mk_decision.specs.Makers.{work_of};
 ghost use Rattle.mk_driver.specs.Progress.{EndingAt, Fits, FromAny, GoingAt, HaltedAt, undecided};
 ghost use Rattle.mk_trace.specs.Runs as run;
-ghost use Rattle.mk_driver.specs.declared.halt.Halt.TheVariants as halts;
+ghost use Rattle.mk_child.specs.declared.halt.Halt.TheVariants as halts;
 ghost use Rattle.mk_plan.specs.Deciding.{is_stopped};
 ghost use Rattle.mk_sched.specs.Next.{next_of};
 ghost use Rattle.mk_sched.specs.declared.sched.Next.TheVariants.{Wait as waits};
@@ -14,13 +14,12 @@ ghost use Rattle.mk_world.specs.Causes.{HasCause};
 ghost use Rattle.mk_world.specs.declared.fault.WorldFault.TheVariants.{Failed as world_failed};
 ghost use Rattle.mk_world.specs.declared.command.TaskLine.{TaskLine as Line};
 
-use crate::child::{print_end, wait_child};
 use crate::collected::keep_end;
 use crate::course::{Course, are_many};
-use crate::halt::{Halt, note_failure};
-use crate::job::{Job, line_at, line_fails, take_job};
+use crate::job::{Job, line_at, take_job};
 use crate::line::run_on;
 use crate::meta::finish_job;
+use mk_child::{Halt, line_fails, note_failure, print_end, wait_child};
 use mk_decision::Maker;
 use mk_graph::Attr;
 use mk_trace::{Event, Failure};

@@ -2,7 +2,7 @@
 ghost use Rattle.std.specs.Prelude.{◌≡◌, ◌<◌, ◌+◌, ◌^◌, [], ◌∷◌, ◌++◌, Some, false, length, nat_eq, OnOk, OnErr};
 ghost use Rattle.std.specs.List.{list_any};
 ghost use Rattle.mk_driver.specs.Jobs.{HasLine, IsJobTaken, tickets_of};
-ghost use Rattle.mk_trace.specs.Runs.{fails, line_of};
+ghost use Rattle.mk_trace.specs.Runs.{line_of};
 ghost use Rattle.mk_world.specs.declared.command.TaskLine.{TaskLine as Line};
 ghost use Rattle.mk_sched.specs.Counts.{times};
 
@@ -28,13 +28,6 @@ pub fn line_at(task: &Task, number: u32) -> &TaskLine
     ensures { line_of task.now.lines number ≡ Some result.now }
 {
     task.lines.get(number as usize - 1)
-}
-
-/// Whether a line with this status has failed: a line that is ignored does not.
-pub fn line_fails(line: &TaskLine, status: u8) -> bool
-    ensures { result ≡ fails (Some line.now) status }
-{
-    status != 0 && !line.ignore
 }
 
 /// Adds a job at the end.

@@ -6,11 +6,9 @@
 #![tactic(auto)]
 
 mod building;
-mod child;
 mod collected;
 mod course;
 mod ending;
-mod halt;
 mod job;
 mod line;
 mod meta;

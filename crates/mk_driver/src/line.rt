@@ -1,6 +1,6 @@
 //! The lines of a job: empty ones are passed over, and for others children are started.
 ghost use Rattle.std.specs.Prelude.{◌≡◌, ◌<◌, ◌≤◌, ◌+◌, ◌-◌, ◌^◌, ℕ, [], ◌∷◌, ◌++◌, Some, true, false, length, OnOk, OnErr, IfOk, IfErr};
-ghost use Rattle.mk_driver.specs.Halts.{of_world};
+ghost use Rattle.mk_child.specs.Halts.{of_world};
 ghost use Rattle.mk_driver.specs.Jobs.{HasLine, HasToken, lines_left};
 ghost use Rattle.mk_decision.specs.Makers.{work_of};
 ghost use Rattle.mk_driver.specs.Progress.{BehindAt, BehindOn, Fits, FromAny, GoingAt, HaltedAt, IsUnstopped, undecided};
@@ -12,11 +12,11 @@ ghost use Rattle.mk_world.specs.Causes.{HasCause};
 ghost use Rattle.mk_world.specs.declared.fault.WorldFault.TheVariants.{Failed as world_failed};
 ghost use Rattle.mk_world.specs.declared.command.TaskLine.{TaskLine as Line};
 
-use crate::child::{Place, command, start_child};
 use crate::course::Course;
 use crate::job::{Job, add_job, line_at, next_ticket};
 use crate::meta::finish_job;
 use mk_bytes::NoMemory;
+use mk_child::{Place, command, start_child};
 use mk_decision::Maker;
 use mk_trace::{Event, Events};
 use mk_world::{Kids, TaskLine, Time, World, WorldFault};

@@ -2,7 +2,7 @@
 //! file is written (make(1), "META MODE").
 ghost use Rattle.std.specs.Prelude.{◌≡◌, ◌<◌, ◌^◌, ℕ, List, length, map, true, IfOk, IfErr, OnOk, OnErr};
 ghost use Rattle.mk_decision.specs.Makers.{work_of};
-ghost use Rattle.mk_driver.specs.Halts.{of_world};
+ghost use Rattle.mk_child.specs.Halts.{of_world};
 ghost use Rattle.mk_driver.specs.Jobs.{HasToken};
 ghost use Rattle.mk_driver.specs.Metas.{HasClosed, HasOpened, IsUnclosed, IsUnopened, WholeWritten, WritesHead, WritesPartOfHead, WritesPartOfWhole, WritesWhole};
 ghost use Rattle.mk_driver.specs.Progress.{Fits, FromAny, GoingAt, HaltedAt, OverAt, undecided};

@@ -1,6 +1,6 @@
 //! Nodes: each is decided, and is kept, refused or made.
 ghost use Rattle.std.specs.Prelude.{◌≡◌, ◌<◌, ◌≤◌, ℕ, List, length, OnOk, IfErr};
-ghost use Rattle.mk_driver.specs.Halts.{of_world};
+ghost use Rattle.mk_child.specs.Halts.{of_world};
 ghost use Rattle.mk_decision.specs.Makers.{work_of};
 ghost use Rattle.mk_decision.specs.Decisions.{IsDecision};
 ghost use Rattle.mk_driver.specs.Progress.{Fits, FromAny, GoingAt, HaltedAt, SeenAt, undecided};
@@ -11,10 +11,10 @@ ghost use Rattle.mk_world.specs.Looks.{Seen};
 ghost use Rattle.mk_world.specs.declared.fault.WorldFault.TheVariants.{Failed as world_failed};
 
 use crate::course::Course;
-use crate::halt::note_failure;
 use crate::job::Job;
 use crate::line::run_on;
 use crate::meta::open_job;
+use mk_child::note_failure;
 use mk_decision::{Decision, Maker, decide_on};
 use mk_trace::{Event, Failure};
 use mk_world::{Kids, World, WorldFault};

@@ -1,3 +1,4 @@
+mod AsNewLemmas
 pub mod OodateLemmas
 pub mod AskingLemmas
 pub mod LookLemmas

@@ -1,3 +1,4 @@
+pub mod AsNew
 pub mod Asking
 pub mod AskingLaws
 pub mod Deciding

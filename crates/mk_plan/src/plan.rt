@@ -1,5 +1,6 @@
 ghost use Rattle.std.specs.Prelude.{◌≡◌, ◌<◌, ◌^◌, length, IsTrue};
 ghost use Rattle.mk_graph.specs.Marks.{has};
+ghost use Rattle.mk_plan.specs.AsNew.{as_new};
 ghost use Rattle.mk_plan.specs.Plans.{are_ordered, are_sourced, node_at};
 
 use mk_bytes::{Items, Text, Texts};
@@ -134,5 +135,15 @@ impl Plan {
         ensures { result ≡ has (node_at self.now n).marks attr }
     {
         self.nodes.get(n as usize).marks.has(attr)
+    }
+
+    /// Counts a node from now on as new for the nodes that are made from it, as a phony one does.
+    /// Takes no memory.
+    pub fn count_as_new(&mut self, n: u32)
+        requires { n < length self.old }
+        ensures { self.new ≡ as_new self.old n }
+    {
+        let node = self.nodes.get_mut(n as usize);
+        node.marks = node.marks.with(Attr::Phony);
     }
 }

@@ -74,6 +74,7 @@ order = record {
   sets = [];
   prints = [];
   env_first = false;
+  explain = false;
   generate = None;
   flags = record {
     jobs = 1;

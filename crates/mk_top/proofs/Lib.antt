@@ -1,5 +1,6 @@
-pub mod BuildingLemmas
-pub mod MessageLemmas
-pub mod MeaningLemmas
-pub mod PrintLemmas
-pub mod TrueRunLemmas
+pub mod CauseLemmas
+pub mod CleanLemmas
+pub mod InputLemmas
+pub mod InsideLemmas
+pub mod RunLemmas
+mod Rows

@@ -1,33 +1,46 @@
--- The counts of faults over a run.
-use Rattle.std.specs.Prelude.{◌≡◌, ◌⊎◌, ℕ, ◌<◌, ◌≤◌}
+-- The counts of faults over a run, with those of a generated world.
+use Rattle.std.specs.Prelude.{◌≡◌, ◌⊎◌, ℕ, ◌<◌, ◌≤◌, List, Option, Some, None, Result, Ok, Err}
+use Rattle.mk_cli.specs.declared.order.Order.{Order}
+use Rattle.mk_run.specs.Meaning.{asked}
+use Rattle.mk_run.specs.declared.report.End.{End}
+use Rattle.mk_run.specs.declared.report.End.TheVariants.{WorldFault, SinkFault}
 use Rattle.mk_world.specs.Causes.{Rose}
-use Rattle.mk_top.specs.declared.report.End.{End}
-use Rattle.mk_top.specs.declared.report.End.TheVariants.{WorldFault, SinkFault}
+use Rattle.mk_top.specs.Inside.{EndsInside}
 
--- The count of an object before the line of the end is written: its fault ends the run only where
--- the count rose or is at its end, and a rise is answered so.
-pub record EndCause (failed : End) (before after : ℕ) (end : End) : Type 0 where
-  pub kept : before ≤ after
-  pub answered : before < after → end ≡ failed
-  pub rose : end ≡ failed → Rose before after
+-- how many targets the words ask to generate, where they do
+abbrev pub generated_by : Result Order End → Option ℕ
+generated_by (Ok order) = order.generate
+generated_by (Err end) = None
 
--- the count of standard error's faults over the writing of the line of the end
-pub record LineCause (before after : ℕ) (went end : End) : Type 0 where
-  pub kept : before ≤ after
-  pub same : (end ≡ went) ⊎ ((end ≡ SinkFault) × Rose before after)
-  pub answered : before < after → end ≡ SinkFault
+abbrev pub generated : List ℕ → List (List ℕ) → Option ℕ
+generated cwd words = generated_by (asked cwd words)
 
--- The world's count of faults over a run: `WorldFault` comes only where it rose or is at its end,
--- and a rise is answered by it, or by a failed write behind it.
-pub record WorldCause (before after : ℕ) (end : End) : Type 0 where
+-- an end that comes from a generated world: from its count, or those of the sinks inside (RunsInside)
+abbrev pub ComesFromInside : Option ℕ → End → Type 0
+ComesFromInside None end = ⊥
+ComesFromInside (Some n) end = EndsInside n end
+
+-- The world's count of faults over a run: `WorldFault` comes only where it rose or is at its end, or from a
+-- generated world, and a rise is answered by it, or by a failed write behind it.
+pub record WorldCause (generated : Option ℕ) (before after : ℕ) (end : End) : Type 0 where
   pub kept : before ≤ after
-  pub rose : end ≡ WorldFault → Rose before after
+  pub rose : end ≡ WorldFault → Rose before after ⊎ ComesFromInside generated WorldFault
   pub answered : before < after → (end ≡ WorldFault) ⊎ (end ≡ SinkFault)
 
--- The sinks' counts: `SinkFault` comes only where one of them rose or is at its end, and a rise is
--- answered by it.
-pub record SinkCause (out_before out_after err_before err_after : ℕ) (end : End) : Type 0 where
-  pub kept_out : out_before ≤ out_after
-  pub kept_err : err_before ≤ err_after
-  pub rose : end ≡ SinkFault → Rose out_before out_after ⊎ Rose err_before err_after
-  pub answered : (out_before < out_after) ⊎ (err_before < err_after) → end ≡ SinkFault
+-- The sinks' counts: `SinkFault` comes only where one of them rose or is at its end, or from a sink inside,
+-- and a rise is answered by it.
+pub record SinkCause (generated : Option ℕ) (out_before out_after err_before err_after : ℕ) (end : End)
+    : Type 0
+  where
+    pub kept_out : out_before ≤ out_after
+    pub kept_err : err_before ≤ err_after
+    pub rose : end ≡ SinkFault
+        → (Rose out_before out_after ⊎ Rose err_before err_after)
+        ⊎ ComesFromInside generated SinkFault
+    pub answered : (out_before < out_after) ⊎ (err_before < err_after) → end ≡ SinkFault
+
+-- the count of standard output's faults over a run in a generated world
+pub record OutCause (n before after : ℕ) (end : End) : Type 0 where
+  pub kept : before ≤ after
+  pub rose : end ≡ SinkFault → Rose before after ⊎ EndsInside n SinkFault
+  pub answered : before < after → end ≡ SinkFault

@@ -1,8 +1,6 @@
-pub mod Building
 pub mod Causes
-pub mod Ends
-pub mod Meaning
-pub mod Messages
+pub mod Counts
+pub mod Generated
+pub mod Input
+pub mod Inside
 pub mod Runs
-pub mod TrueRuns
-pub mod Words

@@ -1,13 +1,10 @@
 //! The top call: all that the program does, but for the few lines that make the real world.
 #![tactic(auto)]
 
-mod building;
-mod message;
-mod print;
-mod report;
+mod counts;
+mod input;
+mod inside;
 mod running;
-mod words;
 
-pub use mk_trace::{Event, Events};
-pub use report::{End, Report};
+pub use mk_run::{End, Event, Events, Report};
 pub use running::run;

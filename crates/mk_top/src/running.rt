@@ -1,169 +1,99 @@
 //! A run: the words of the command line, a world and two sinks in; a report out.
-ghost use Rattle.std.specs.Prelude.{◌≡◌, [], IsTrue};
+ghost use Rattle.std.specs.Prelude.{◌≡◌, ◌⊎◌, [], IsTrue};
 ghost use Rattle.mk_bytes.specs.Paths.{is_clean_directory};
-ghost use Rattle.mk_plan.specs.Facts.{lists_of};
-ghost use Rattle.mk_top.specs.Building.{point};
-ghost use Rattle.mk_top.specs.Causes.{EndCause, LineCause, WorldCause, SinkCause};
-ghost use Rattle.mk_top.specs.Ends as ends;
-ghost use Rattle.mk_top.specs.Meaning as spec;
-ghost use Rattle.mk_top.specs.Runs as runs;
-ghost use Rattle.mk_top.specs.TrueRuns.{IsTrueRun};
-ghost use Rattle.mk_top.specs.declared.report.End.TheVariants.{
-  WorldFault as world_failed,
+ghost use Rattle.mk_run.specs.Building.{AreJobs, point};
+ghost use Rattle.mk_run.specs.Causes.{EndCause};
+ghost use Rattle.mk_run.specs.Ends as ends;
+ghost use Rattle.mk_run.specs.declared.report.End.TheVariants.{
+  NoMemory as no_memory,
   SinkFault as sink_failed,
 };
+ghost use Rattle.mk_world.specs.History.{files_of};
+ghost use Rattle.mk_world.specs.Sinks.{Gains};
+ghost use Rattle.mk_top.specs.Causes as causes;
+ghost use Rattle.mk_top.specs.Counts.{told as told_of};
+ghost use Rattle.mk_top.specs.Generated as generated;
+ghost use Rattle.mk_top.specs.Runs as runs;
 
-use crate::building::{Went, build_targets, is_plain, unbuilt};
-use crate::message::write_line;
-use crate::print::print_all;
-use crate::report::{End, Report};
-use crate::words::asked;
+use crate::counts::told;
+use crate::inside::{Twice, run_twice};
 use mk_bytes::Texts;
 use mk_cli::Order;
-use mk_graph::Made;
-use mk_plan::MadeFacts;
-use mk_reader::read;
+use mk_run::{End, Report, asked, close, run_order, unbuilt};
 use mk_scopes::Env;
-use mk_world::{Sink, World};
+use mk_world::{Sink, World, write_all};
 use std::alloc::Global;
 
-// The end of a run that went so far.
-fn end_of(went: Result<(), End>) -> End
-    ensures { result ≡ runs.end_of went }
+// Tells what two runs in a generated world have done.
+fn tell<S: Sink>(alloc: Global, n: u32, twice: &Twice, out: &mut S) -> End
+    ensures tells { ((result ≡ no_memory) × Gains (S.held out.old) (S.held out.new) [])
+        ⊎ generated.Prints (told_of n twice.now.first twice.now.second
+        (files_of twice.now.world.chronicle))
+        (record { before = S.held out.old; after = S.held out.new }) result }
+    ensures cause { EndCause sink_failed (S.faults out.old) (S.faults out.new) result }
 {
-    match went {
-        Ok(()) => End::Done,
+    let Ok(text) = told(alloc, n, &twice.first, &twice.second, &twice.world) else {
+        return End::NoMemory;
+    };
+    if write_all(out, &[text.bytes()]).is_err() {
+        return End::SinkFault;
+    }
+    End::Done
+}
+
+// Runs twice in a generated world, and tells what was done there.
+fn generate<S: Sink>(alloc: Global, n: u32, out: &mut S) -> End
+    ensures generates { generated.Generates n
+        (record { before = S.held out.old; after = S.held out.new }) result }
+    ensures cause { causes.OutCause n (S.faults out.old) (S.faults out.new) result }
+{
+    match run_twice(alloc, n) {
+        Ok(twice) => tell(alloc, n, &twice, out),
         Err(end) => end,
     }
 }
 
-// Prints what the words ask for. What conditions ask is asked of the makefiles and of the world.
-fn print_made<W: World, S: Sink>(
-    alloc: Global,
-    made: &Made,
-    order: &Order,
-    world: &mut W,
-    out: &mut S,
-) -> Went
-    requires idle { W.runs world.old [] }
-    ensures prints { runs.PrintsAll made.now.scopes
-        (lists_of made.now order.now.flags.requested) order.now.prints
-        (point (W.history world.old) (S.held out.old))
-        (point (W.history world.new) (S.held out.new)) result }
-    ensures world_cause { EndCause world_failed (W.faults world.old) (W.faults world.new)
-        result.end }
-    ensures sink_cause { EndCause sink_failed (S.faults out.old) (S.faults out.new) result.end }
-    ensures idle { W.runs world.new [] }
-{
-    let mut questions = Vec::new(alloc);
-    let requested = &order.flags.requested;
-    let mut facts = MadeFacts::new(made, requested, world, &mut questions);
-    let went = print_all(alloc, &made.scopes, &order.prints, &mut facts, out);
-    unbuilt(alloc, end_of(went))
-}
-
-// Does with the makefiles what the words ask for: prints, where there are some, and else a build.
-fn by_mode<W: World, S: Sink>(
-    alloc: Global,
-    made: &Made,
-    order: &Order,
-    world: &mut W,
-    out: &mut S,
-) -> Went
-    requires idle { W.runs world.old [] }
-    ensures goes { runs.Goes W.meaning (spec.by_mode made.now order.now order.now.prints)
-        (point (W.history world.old) (S.held out.old))
-        (point (W.history world.new) (S.held out.new)) result }
-    ensures world_cause { EndCause world_failed (W.faults world.old) (W.faults world.new)
-        result.end }
-    ensures sink_cause { EndCause sink_failed (S.faults out.old) (S.faults out.new) result.end }
-    ensures idle { W.runs world.new [] }
-{
-    if !order.prints.is_empty() {
-        return print_made(alloc, made, order, world, out);
-    }
-    if !is_plain(&order.flags) {
-        return unbuilt(alloc, End::Usage(0));
-    }
-    build_targets(alloc, made, &order.flags, world, out)
-}
-
-// What a run does whose words ask for this: it reads, and then prints or builds.
+// What a run does whose words ask for this.
 fn follow<W: World, S: Sink>(
     alloc: Global,
+    words: &Texts,
     order: &Order,
     env: &Env,
     world: &mut W,
     out: &mut S,
     err: &mut S,
-) -> Went
+) -> Report
     requires directory { IsTrue (is_clean_directory env.now.cwd) }
+    requires jobs { AreJobs order.now.flags.jobs }
     requires idle { W.runs world.old [] }
-    ensures goes { runs.Followed W.meaning env.now order.now
+    ensures does { runs.Does W.meaning words.now env.now order.now order.now.generate
         (point (W.history world.old) (S.held out.old))
         (point (W.history world.new) (S.held out.new))
         (record { before = S.held err.old; after = S.held err.new }) result }
-    ensures world_cause { EndCause world_failed (W.faults world.old) (W.faults world.new)
-        result.end }
-    ensures sink_cause { SinkCause (S.faults out.old) (S.faults out.new) (S.faults err.old)
-        (S.faults err.new) result.end }
+    ensures status { result.status ≡ ends.status_of result.end }
+    ensures world_fault { causes.WorldCause order.now.generate (W.faults world.old)
+        (W.faults world.new) result.end }
+    ensures sink_fault { causes.SinkCause order.now.generate (S.faults out.old) (S.faults out.new)
+        (S.faults err.old) (S.faults err.new) result.end }
     ensures idle { W.runs world.new [] }
 {
-    match read(alloc, world, err, order, env) {
-        Ok(made) => by_mode(alloc, &made, order, world, out),
-        Err(fault) => unbuilt(alloc, End::from(fault)),
+    match order.generate {
+        Some(n) => {
+            let end = generate(alloc, n, out);
+            close(words, unbuilt(alloc, end), err)
+        }
+        None => run_order(alloc, words, order, env, world, out, err),
     }
-}
-
-// All of a run but the line of its end.
-fn carry_out<W: World, S: Sink>(
-    alloc: Global,
-    words: &Texts,
-    env: &Env,
-    world: &mut W,
-    out: &mut S,
-    err: &mut S,
-) -> Went
-    requires directory { IsTrue (is_clean_directory env.now.cwd) }
-    requires idle { W.runs world.old [] }
-    ensures carried { runs.Carried W.meaning words.now env.now
-        (point (W.history world.old) (S.held out.old))
-        (point (W.history world.new) (S.held out.new))
-        (record { before = S.held err.old; after = S.held err.new }) result }
-    ensures world_cause { EndCause world_failed (W.faults world.old) (W.faults world.new)
-        result.end }
-    ensures sink_cause { SinkCause (S.faults out.old) (S.faults out.new) (S.faults err.old)
-        (S.faults err.new) result.end }
-    ensures idle { W.runs world.new [] }
-{
-    match asked(alloc, words, env.cwd.bytes()) {
-        Ok(order) => follow(alloc, &order, env, world, out, err),
-        Err(end) => unbuilt(alloc, end),
-    }
-}
-
-// Writes the line of an end, and gives the end of the run.
-fn finish<S: Sink>(words: &Texts, went: End, err: &mut S) -> End
-    ensures ends { runs.Closed words.now went
-        (record { before = S.held err.old; after = S.held err.new }) result }
-    ensures cause { LineCause (S.faults err.old) (S.faults err.new) went result }
-{
-    if write_line(err, words, &went).is_err() {
-        return End::SinkFault;
-    }
-    went
 }
 
 /// Does all that the program does. The words are those of the command line without the program's
 /// name; the environment's directory is absolute and clean.
 ///
-/// It reads the words, then the makefiles, whose messages it writes on `err`, and then prints on `out`
-/// what the words ask for, each print on its line as soon as it is evaluated. Where they ask for no
-/// print it makes a plan of the targets and builds it, with so many jobs, by times and, in meta mode, by
-/// meta files. Every end but `Done` and `SinkFault` has its line on `err`, which is written last.
-///
-/// Where meta files told what happened before the run, they do so at every moment of it, as far as the
-/// commands of `!=` change no file and jobs keep apart.
+/// It reads the words, then the makefiles, whose messages it writes on `err`, and does with them what the
+/// words ask for: it prints, tells why targets are out of date, asks whether they are, or builds them
+/// (mk_run). With `--generate N` it reads no makefile: it runs twice in a world in memory with N generated
+/// targets, of which a source is changed in between, and tells on `out` what was done there. Every end but
+/// `Done`, `NotUpToDate` and `SinkFault` has its line on `err`, which is written last.
 pub fn run<W: World, S: Sink>(
     alloc: Global,
     words: &Texts,
@@ -174,26 +104,23 @@ pub fn run<W: World, S: Sink>(
 ) -> Report
     requires directory { IsTrue (is_clean_directory env.now.cwd) }
     requires idle { W.runs world.old [] }
-    ensures ran { IsTrueRun W.meaning words.now env.now
+    ensures ran { runs.IsRun W.meaning words.now env.now
         (point (W.history world.old) (S.held out.old))
         (point (W.history world.new) (S.held out.new))
         (record { before = S.held err.old; after = S.held err.new }) result }
     ensures status { result.status ≡ ends.status_of result.end }
 
     // A fault of the outside comes only where a count rose, and a rise is always answered.
-    ensures world_fault { WorldCause (W.faults world.old) (W.faults world.new) result.end }
-    ensures sink_fault { SinkCause (S.faults out.old) (S.faults out.new) (S.faults err.old)
-        (S.faults err.new) result.end }
+    ensures world_fault { causes.WorldCause (causes.generated env.now.cwd words.now)
+        (W.faults world.old) (W.faults world.new) result.end }
+    ensures sink_fault { causes.SinkCause (causes.generated env.now.cwd words.now)
+        (S.faults out.old) (S.faults out.new) (S.faults err.old) (S.faults err.new) result.end }
 
     // No child is left.
     ensures idle { W.runs world.new [] }
 {
-    let went = carry_out(alloc, words, env, world, out, err);
-    let end = finish(words, went.end, err);
-    Report {
-        status: end.status(),
-        end,
-        plan: went.plan,
-        events: went.events,
+    match asked(alloc, words, env.cwd.bytes()) {
+        Ok(order) => follow(alloc, words, &order, env, world, out, err),
+        Err(end) => close(words, unbuilt(alloc, end), err),
     }
 }

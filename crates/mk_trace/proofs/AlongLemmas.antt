@@ -94,7 +94,7 @@ cut-items (item ∷ items) (event ∷ front) back same =
               ∙ ap (λ l. event ∷ l) rest.happened_is);
         }
 
-questions-children : (state : Stand) (events : List Happening) → AllByRecursion IsQuestion events
+pub questions-children : (state : Stand) (events : List Happening) → AllByRecursion IsQuestion events
     → (stand_after state events).children ≡ state.children
 questions-children state [] are = refl
 questions-children state (world.Look path ∷ events) are =
@@ -113,7 +113,7 @@ questions-children state (world.Left ticket owner ∷ events) are = absurd are.0
 abbrev history_of : List File → List Happening → History
 history_of base events = record { base = base; events = events }
 
-same-history : (one other : History) → one.base ≡ other.base → one.events ≡ other.events → one ≡ other
+pub same-history : (one other : History) → one.base ≡ other.base → one.events ≡ other.events → one ≡ other
 same-history one other base events =
     ap (λ b. history_of b one.events) base ∙ ap (λ e. history_of other.base e) events
 

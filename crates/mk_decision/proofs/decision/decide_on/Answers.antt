@@ -1,36 +1,12 @@
-use Rattle.std.proofs.Common.{◌≡◌, ◌++◌, [], inl, arith}
-use Rattle.std.proofs.lemmas.Grind.{common_steps}
-use Rattle.mk_world.proofs.SinkLemmas.{OnErr-from}
-use Rattle.mk_plan.specs.Plans.{node_at}
-use Rattle.mk_decision.specs.Sights.{seen_of}
-use Rattle.mk_decision.proofs.LookLemmas.{looks-none, looks-then}
-use Rattle.mk_decision.proofs.PieceLemmas.{on_err, if_ok}
-use Rattle.mk_decision.proofs.SightLemmas.{some-behind}
+use Rattle.mk_decision.specs.Makers.{work_of}
+use Rattle.mk_decision.proofs.DecisionLemmas.{judged-decided}
 use Rattle.mk_decision.proofs.decision.decide_on.Goals as goal
-
-pub returns-then-is_empty-clause-decided : goal.returns-then-is_empty-clause-decided
-returns-then-is_empty-clause-decided g c =
-    let nothing : (node_at c.args.maker.now.plan.now c.args.node).commands ≡ [] =
-    grind (arith, common_steps) in
-    ([], looks-none g.W.World.meaning _, ([], inl nothing))
-
-pub returns-in_err-times-clause-halted : goal.returns-in_err-times-clause-halted
-returns-in_err-times-clause-halted g c =
-    OnErr-from c.from_residual.result c.in_err-times.ensures.some
 
 pub returns-clause-decided : goal.returns-clause-decided
 returns-clause-decided g c =
-    let times = c.in_ok-times.times in
-    let sighted = seen_of c.args.maker.now.plan.now c.args.node times.target times.sources in
-    if_ok c.decision_by.result (λ decision decided. (
-      sighted ++ decided.0,
-      looks-then g.W.World.meaning _ _ _ sighted decided.0 c.in_ok-times.ensures.seen
-          decided.1,
-      decided.2,
-    )) c.decision_by.ensures.decided
-
-pub returns-clause-halted : goal.returns-clause-halted
-returns-clause-halted g c =
-    on_err c.decision_by.result
-    (some-behind g.W.World.meaning _ _ _ _ c.in_ok-times.ensures.seen)
-    c.decision_by.ensures.halted
+    let judged = c.in_ok-judgement.ensures.judged in (
+      judged.0,
+      judged.1,
+      rw c.decision_by.ensures (judged-decided (work_of c.args.maker.now) c.args.node judged.0
+          c.in_ok-judgement.judgement judged.2),
+    )

@@ -1,7 +1,7 @@
 use Rattle.std.proofs.Common.{◌≡◌, ◌∙◌, true, false, sym}
 use Rattle.std.proofs.lemmas.Result.{err_from_is_err_and}
 use Rattle.mk_trace.specs.Builds.{is_removed}
-use Rattle.mk_driver.specs.Halts.{of_world}
+use Rattle.mk_child.specs.Halts.{of_world}
 use Rattle.mk_decision.specs.Makers.{work_of}
 use Rattle.mk_driver.proofs.EndingLemmas.{going-failed_at, going-removed, halted-removing}
 use Rattle.mk_driver.proofs.JobLemmas.{fits-failed}

@@ -5,7 +5,7 @@ use Rattle.mk_decision.specs.Makers.{work_of}
 use Rattle.mk_trace.specs.Builds.{moment}
 use Rattle.mk_trace.specs.declared.event.Event.TheVariants as event
 use Rattle.mk_driver.proofs.EndingLemmas.{halted-waiting, so_far-taken, wait-facts, within-plan}
-use Rattle.mk_driver.proofs.EventLemmas.{set-last}
+use Rattle.mk_child.proofs.EventLemmas.{set-last}
 use Rattle.mk_driver.proofs.LineLemmas.{found, halted}
 use Rattle.mk_trace.proofs.MakeLemmas.{so_far-weaken}
 use Rattle.mk_driver.proofs.JobLemmas.{fits-taken, left-taken, some-taken}

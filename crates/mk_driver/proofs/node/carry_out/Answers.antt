@@ -4,7 +4,7 @@ use Rattle.mk_sched.proofs.DecideLemmas.{decided}
 use Rattle.mk_world.specs.declared.command.TaskLine.{TaskLine}
 use Rattle.mk_decision.specs.Decisions.{IsKept}
 use Rattle.mk_trace.specs.Builds.{rules_of, moment}
-use Rattle.mk_driver.specs.Halts.{of_world}
+use Rattle.mk_child.specs.Halts.{of_world}
 use Rattle.mk_decision.specs.Makers.{work_of}
 use Rattle.mk_driver.specs.Progress.{undecided}
 use Rattle.mk_sched.specs.Schedule.{Schedule}

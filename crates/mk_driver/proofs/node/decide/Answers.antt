@@ -1,7 +1,7 @@
 use Rattle.std.proofs.lemmas.Result.{err_from_is_err_and}
 use Rattle.mk_sched.proofs.DecideLemmas.{decided}
 use Rattle.mk_trace.specs.Builds.{rules_of}
-use Rattle.mk_driver.specs.Halts.{of_world}
+use Rattle.mk_child.specs.Halts.{of_world}
 use Rattle.mk_decision.specs.Makers.{work_of}
 use Rattle.mk_driver.proofs.DecideLemmas.{so_far-looks}
 use Rattle.mk_driver.proofs.EndingLemmas.{within-plan}

@@ -1,0 +1,23 @@
+use Rattle.std.proofs.Common.{rules, ◌∙◌, ◌++◌, map, ap, sym, subst}
+use Rattle.mk_expand.specs.Facts.{AnsweredBy}
+use Rattle.mk_plan.specs.Asking.{answers_by, as_asked}
+use Rattle.mk_plan.proofs.AskingLemmas.{answered-all}
+use Rattle.mk_world.specs.Looks.{answered}
+use Rattle.mk_decision.proofs.DecisionLemmas.{asked-behind}
+use Rattle.mk_decision.proofs.judgement.task_in.Goals as goal
+
+pub returns-clause-task : goal.returns-clause-task
+returns-clause-task g c =
+    let beside = c.task.ensures.facts.led.2 in
+    let looked = answered beside.questions in
+    let none = c.new-facts.ensures.asked ∙ c.new-asked.ensures.items in
+    let are = beside.added ∙ ap (λ l. l ++ map as_asked looked) none in
+    let all = subst (AnsweredBy (answers_by looked)) (sym are) (answered-all looked) in
+    let means = c.task.ensures.task (answers_by looked) all in
+    let behind = asked-behind _ c.task.result _ (answers_by looked) all c.task.ensures.questions in
+    record {
+      questions = beside.questions;
+      told = let told = beside.told in search rules;
+      task = rw (are, none, c.new-facts.ensures.made, c.new-facts.ensures.requested) at means;
+      faulty = rw (are, none, c.new-facts.ensures.made, c.new-facts.ensures.requested) at behind;
+    }

@@ -1,0 +1,6 @@
+pub mod EndLemmas
+pub mod GrowLemmas
+pub mod LineLemmas
+pub mod LooksLemmas
+pub mod NodeLemmas
+pub mod TruthLemmas

@@ -1,0 +1,5 @@
+pub mod DryRuns
+pub mod Items
+pub mod Progress
+pub mod Runs
+pub mod TrueRuns

@@ -1,0 +1,5 @@
+mod FileLemmas
+mod LawLemmas
+mod NameLemmas
+mod Rows
+mod TurnLemmas
