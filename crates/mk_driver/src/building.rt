@@ -210,8 +210,9 @@ fn no_memory(alloc: Global) -> BuildEnd
 /// the other; each item has its reason. Standard output gains what the events print. Where meta files told
 /// what happened before the build, they do so at every moment of it, as far as jobs have kept apart. And
 /// where all is made in meta mode, and what jobs read and change is declared, each made file has the bytes
-/// that a clean build of the same plan and tasks gives it, one job after the other. `World` and `Sink` come
-/// only where that object's count of faults rose.
+/// that a clean build of the same plan and tasks gives it, one job after the other, and each meta file that
+/// stands then tells what happened, as jobs have kept apart. `World` and `Sink` come only where that
+/// object's count of faults rose.
 pub fn build<W: World, S: Sink>(
     alloc: Global,
     plan: &Plan,

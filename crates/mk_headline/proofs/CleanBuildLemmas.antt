@@ -1,5 +1,5 @@
 -- Builds whose contract says that they leave what the clean build leaves.
-use Rattle.std.proofs.Common.{◌≡◌, ℕ, ◌<◌, ◌≤◌, true, false, if◌then◌else◌, refl, arith}
+use Rattle.std.proofs.Common.{◌≡◌, ℕ, ◌<◌, ◌≤◌, false, arith}
 use Rattle.std.proofs.lemmas.Bool.{cond_both}
 use Rattle.mk_decision.specs.Decisions.{Work}
 use Rattle.mk_decision.specs.Makers.{jobs_of}

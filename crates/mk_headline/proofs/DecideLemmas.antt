@@ -1,5 +1,5 @@
 -- A node that is being decided: what its looks saw so far.
-use Rattle.std.proofs.Common.{◌≡◌, ◌≢◌, ◌∙◌, ◌⊎◌, ℕ, codes, zero, suc, ◌+◌, ◌<◌, ◌==◌, ◌&&◌, ◌||◌, nat_le, List, [], ◌∷◌, ◌++◌, length, set, slice_get, Option, Some, None, Bool, true, false, if◌then◌else◌}
+use Rattle.std.proofs.Common.{◌≡◌, ◌≢◌, ◌∙◌, ◌⊎◌, ℕ, codes, zero, suc, ◌<◌, ◌==◌, ◌&&◌, ◌||◌, nat_le, List, [], ◌∷◌, ◌++◌, length, set, slice_get, Option, Some, None, Bool, true, false, if◌then◌else◌}
 use Rattle.std.proofs.Common.{inl, inr, refl, sym, ap, subst, arith, append_assoc, eq-eqb, ne_eqb}
 use Rattle.std.proofs.lemmas.Bool.{cases_eq, false≢true, false_from_ne_true}
 use Rattle.std.proofs.lemmas.List.{append-nil, append_cancel_right}
@@ -52,7 +52,7 @@ use Rattle.mk_world.specs.declared.step.Deed.{Deed}
 
 -- lists
 
-contains-any : (paths : List (List ℕ)) (path : List ℕ) → Contains paths path
+pub contains-any : (paths : List (List ℕ)) (path : List ℕ) → Contains paths path
     → list_any (λ one. bytes_eq one path) paths ≡ true
 contains-any [] path has = absurd (omega (arith, has.1))
 contains-any (one ∷ paths) path (zero, less, is) = rw ((bytes_eq-Decides one path).1 is) refl
@@ -77,7 +77,7 @@ not-nil : (deeds : List Deed) (deed : Deed) → deeds ++ deed ∷ [] ≡ [] → 
 not-nil [] deed is = absurd cc
 not-nil (one ∷ deeds) deed is = absurd cc
 
-set-back : (nodes : List NodeState) (m n : ℕ) (stands : NodeState) → (stands ≡ Undecided → ⊥)
+pub set-back : (nodes : List NodeState) (m n : ℕ) (stands : NodeState) → (stands ≡ Undecided → ⊥)
     → slice_get (set nodes m stands) n ≡ Some Undecided → (n ≢ m) × (slice_get nodes n ≡ Some Undecided)
 set-back nodes m n stands decided is = elim (cases_eq n m) [
   | inl same ↦
@@ -86,14 +86,14 @@ set-back nodes m n stands decided is = elim (cases_eq n m) [
   | inr other ↦ (other, sym (slice-other nodes m n stands other) ∙ is)
 ]
 
-ended-back : (state : run.State) (m number n : ℕ) (failed stops : Bool)
+pub ended-back : (state : run.State) (m number n : ℕ) (failed stops : Bool)
     → slice_get (ended_run state m number failed stops).nodes n ≡ Some Undecided
     → slice_get state.nodes n ≡ Some Undecided
 ended-back state m number n true stops is = (set-back state.nodes m n Failed (λ same. absurd cc) is).1
 ended-back state m number n false true is = (set-back state.nodes m n Settled (λ same. absurd cc) is).1
 ended-back state m number n false false is = is
 
-opening-begins : (m n : ℕ) (b : Bool) → (if b then begin m else free) ≡ begin n → n ≡ m
+pub opening-begins : (m n : ℕ) (b : Bool) → (if b then begin m else free) ≡ begin n → n ≡ m
 opening-begins m n true is = cc
 opening-begins m n false is = absurd cc
 
@@ -134,14 +134,14 @@ module _ (meaning : Meaning) (work : Work) (tasks : run.Tasks) (entry : Stand)
   IsGood = Good meaning work tasks entry idle well
 
   -- a step of a build is one of the clean build
-  record CleanStep (j : ℕ) (deed : Deed) : Type 0 where
-    one : CleanJob
-    among : IsAmong one (clean_build meaning plan (contents entry.files))
-    node_is : one.node ≡ j
-    changes_it : (path : List ℕ) → is_changed (deed ∷ []) path ≡ true
+  pub record CleanStep (j : ℕ) (deed : Deed) : Type 0 where
+    pub one : CleanJob
+    pub among : IsAmong one (clean_build meaning plan (contents entry.files))
+    pub node_is : one.node ≡ j
+    pub changes_it : (path : List ℕ) → is_changed (deed ∷ []) path ≡ true
         → is_changed (deeds_of one) path ≡ true
 
-  clean-step : (done : List Item) (build : Build) (stand : Stand) (turns : List Turn) (clean : turn.Build)
+  pub clean-step : (done : List Item) (build : Build) (stand : Stand) (turns : List Turn) (clean : turn.Build)
       (ticket owner time : ℕ) (deed : Deed) → IsGood done build stand turns clean
       → (now : Turning meaning work tasks build stand clean (steps ticket owner deed time))
       → CleanStep now.turned.0 deed
@@ -374,7 +374,7 @@ module _ (meaning : Meaning) (work : Work) (tasks : run.Tasks) (entry : Stand)
       (sym (ap (λ (b : Build). b.run) past.at) ∙ run-events work tasks (first_build work) done)
       ∙ (long-run (rules_of work) tasks (reported_all done) ∙ length-before work.plan)
 
-  within-plan : (done : List Item) (build : Build) (stand : Stand)
+  pub within-plan : (done : List Item) (build : Build) (stand : Stand)
       → Past meaning work tasks entry idle done build stand → (n : ℕ) → {stands : NodeState}
       → slice_get build.run.nodes n ≡ Some stands → n < length work.plan
   within-plan done build stand past n {stands} is =

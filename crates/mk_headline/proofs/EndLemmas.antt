@@ -8,6 +8,7 @@ use Rattle.mk_clean.specs.Same.{HasCleanFiles}
 use Rattle.mk_decision.specs.Decisions.{Work}
 use Rattle.mk_decision.specs.Makers.{jobs_of}
 use Rattle.mk_graph.specs.Walks.{is_among}
+use Rattle.mk_headline.proofs.ApartLemmas.{keep_apart}
 use Rattle.mk_headline.proofs.FullLemmas.{makes-first, full_turns}
 use Rattle.mk_headline.proofs.KeepLemmas.{fits-parts}
 use Rattle.mk_headline.proofs.PastLemmas.{settled-at}
@@ -25,6 +26,7 @@ use Rattle.mk_trace.proofs.MakeLemmas.{after-steps, none-append, none-steps}
 use Rattle.mk_trace.proofs.RunLemmas.{over_settled}
 use Rattle.mk_trace.proofs.TogetherLemmas.{children_belong}
 use Rattle.mk_trace.proofs.TrueChildren.{child_in-contains}
+use Rattle.mk_trace.proofs.TrueLemmas.{meta_files_true}
 use Rattle.mk_trace.specs.Builds.{Build, Makes, event_of, first_build, build_after_all, rules_of}
 use Rattle.mk_trace.specs.Calls.{AreLeaveItems, AreStepItems, GivesUpLast, NoneLeft}
 use Rattle.mk_trace.specs.Ends.{IsOver}
@@ -156,10 +158,14 @@ ends_clean meaning work tasks items old new ready makes happens last room over =
     built.settled_are one.node
     (all-settled work tasks items ready.well_made makes room over one.node
     (job-has work one.node (clean-node meaning plan plan.order (cleared plan store) one among)).0)) in
+    let apart = keep_apart meaning work tasks items old new ready makes happens none over.failed in
     record {
       files = subst (HasCleanFiles meaning plan store) built.files clean;
       built = built;
       steps_are = steps_clean meaning plan store ready.declared distinct built.turns built.may;
+      apart = apart;
+      truth = meta_files_true meaning work tasks items old new ready.lawful ready.idle ready.truth makes happens
+          last apart;
     }
 
 told_clean : (meaning : Meaning) (work : Work) (tasks : run.Tasks) (items : List Item)

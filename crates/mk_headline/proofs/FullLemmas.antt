@@ -180,7 +180,7 @@ module _ (meaning : Meaning) (work : Work) (tasks : run.Tasks) (old : History)
       × Extra (done ++ item ∷ []) (build_after work tasks build item) (stand_after stand (happened item))
       (after_turns plan clean now.now)
 
-  full-step : Steps meaning work tasks entry idle well whole Extra
+  pub full-step : Steps meaning work tasks entry idle well whole Extra
   full-step done rest build stand turns clean (looks n seen) is good extra makes may fits none sound =
       let next = look-next meaning work tasks entry idle well declared mode.no_meta_names done build stand
       turns clean n seen good extra.0 makes fits in (

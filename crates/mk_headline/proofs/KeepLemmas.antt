@@ -50,7 +50,7 @@ use Rattle.mk_oodate.specs.declared.reason.Why.TheVariants as why
 use Rattle.mk_plan.specs.Plans.{node_at}
 use Rattle.mk_plan.specs.Tasks.{lines_from, locals_of, manner_of, task_with}
 use Rattle.mk_plan.specs.declared.plan.PlanNode.{PlanNode}
-use Rattle.mk_trace.specs.Items.{Item, looks, happened, happened_all, path_of, IsSeenIn, FitsAll}
+use Rattle.mk_trace.specs.Items.{Item, happened, happened_all, path_of, IsSeenIn, FitsAll}
 use Rattle.mk_world.proofs.CallLemmas.{after_all-append, MayAll-parts}
 use Rattle.mk_world.specs.Calls.{when_of}
 use Rattle.mk_world.specs.Deeds.{Store}

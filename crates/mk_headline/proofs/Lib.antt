@@ -1,3 +1,4 @@
+pub mod ApartLemmas
 pub mod CleanBuildLemmas
 pub mod DecideLemmas
 pub mod EndLemmas
@@ -7,6 +8,7 @@ pub mod GoodLemmas
 pub mod KeepLemmas
 pub mod LookLemmas
 pub mod LoopLemmas
+pub mod OwnerLemmas
 pub mod PastLemmas
 pub mod PlanLemmas
 pub mod StageLemmas

@@ -13,6 +13,7 @@ use Rattle.mk_trace.specs.Ends.{IsOver}
 use Rattle.mk_decision.specs.Makers.{jobs_of}
 use Rattle.mk_trace.specs.Items.{Item, looks, keeps, refuses, starts, passes, waits, steps, ends, changes, leaves, Happened}
 use Rattle.mk_trace.specs.Runs.{Tasks}
+use Rattle.mk_trace.specs.TrueBuilds.{IsApart}
 use Rattle.mk_world.specs.History.{files_of, state_of}
 use Rattle.mk_world.specs.Lawful.{IsLawful}
 use Rattle.mk_world.specs.Talks.{Meaning}
@@ -86,8 +87,18 @@ pub record IsReady (meaning : Meaning) (work : Work) (tasks : Tasks) (old : Hist
   pub declared : IsDeclared (clean_plan work tasks)
       (clean_build meaning (clean_plan work tasks) (files_of old))
 
+-- In a build in which nothing has failed so far, jobs have kept apart.
+abbrev pub BuildsKeepApart : Type 0
+BuildsKeepApart =
+    (meaning : Meaning) (work : Work) (tasks : Tasks) (items : List Item) (old new : History)
+    → IsReady meaning work tasks old → Makes work tasks (first_build work) items
+    → Happened meaning items old new → NoneLeft items
+    → (build_after_all work tasks (first_build work) items).failure ≡ None
+    → IsApart work tasks items
+
 -- A build leaves what the clean build leaves: that goes well, each file that its nodes make has the bytes
--- that it gives it, and each step of the build is a step of the same node in it.
+-- that it gives it, and each step of the build is a step of the same node in it. Its jobs have kept apart,
+-- and so each meta file that stands behind it tells what happened.
 pub record IsClean (meaning : Meaning) (work : Work) (tasks : Tasks) (items : List Item)
     (old new : History) : Type 0
   where
@@ -95,6 +106,8 @@ pub record IsClean (meaning : Meaning) (work : Work) (tasks : Tasks) (items : Li
     pub built : IsBuildOfTurns meaning work tasks items old new
     pub steps_are : DoesCleanSteps (clean_build meaning (clean_plan work tasks) (files_of old)) built.turns
         (turn.after_turns (clean_plan work tasks) (turn.first_build (files_of old)) built.turns)
+    pub apart : IsApart work tasks items
+    pub truth : IsTrueHistory meaning.next new
 
 -- Where a build is over and nothing failed, it leaves what the clean build leaves.
 abbrev pub BuildsAreClean : Type 0

@@ -5,4 +5,7 @@
 
 mod law;
 
-pub use law::{builds_are_clean, builds_are_turns, done_builds_are_clean, first_builds_are_turns};
+pub use law::{
+    builds_are_clean, builds_are_turns, builds_keep_apart, done_builds_are_clean,
+    first_builds_are_turns,
+};
