@@ -1,31 +1,31 @@
 -- Whole dry runs.
-use Rattle.std.proofs.Common.{◌≡◌, ◌∙◌, ℕ, zero, suc, ◌+◌, ◌<◌, ◌≤◌, List, [], ◌∷◌, ◌++◌, length, map, set, not, ◌&&◌, ◌⊎◌, Option, Some, None, Bool, true, false, unwrap_or}
+use Rattle.std.proofs.Common.{◌≡◌, ◌∙◌, ℕ, suc, ◌+◌, ◌<◌, ◌≤◌, List, [], ◌∷◌, ◌++◌, length, map, set, not, ◌&&◌, ◌⊎◌, Option, Some, None, Bool, true, false, unwrap_or}
 use Rattle.std.proofs.Common.{refl, sym, ap, subst, arith}
-use Rattle.std.proofs.lemmas.List.{append-nil, set-set}
+use Rattle.std.proofs.lemmas.List.{append-nil, length-set, set-set}
 use Rattle.std.proofs.Math.Seq.{map-set_same}
 use Rattle.mk_child.specs.Halts.{of_halt}
 use Rattle.mk_child.specs.declared.halt.Halt.{Halt}
 use Rattle.mk_child.specs.declared.halt.Halt.TheVariants as halts
-use Rattle.mk_decision.specs.Decisions.{Work}
+use Rattle.mk_decision.specs.Decisions.{IsBegun, Work}
+use Rattle.mk_decision.specs.Looks.{LooksAt}
 use Rattle.mk_decision.specs.Makers.{work_on}
+use Rattle.mk_world.specs.Looks.{Seen}
 use Rattle.mk_flags.specs.declared.Flags.{Flags}
 use Rattle.mk_graph.specs.declared.Made.{Made}
 use Rattle.mk_plan.specs.AsNew.{as_new, phony}
-use Rattle.mk_plan.specs.Deciding.{Rules, all_settled, is_stopped, may_decide, open_jobs}
-use Rattle.mk_graph.specs.Walks.{preds_of}
+use Rattle.mk_plan.specs.Deciding.{Rules, is_stopped, may_decide, open_jobs}
 use Rattle.mk_plan.specs.Plans.{no_node, node_at}
 use Rattle.mk_plan.specs.declared.plan.NodeState.{NodeState}
 use Rattle.mk_plan.specs.declared.plan.NodeState.TheVariants.{Undecided, Open}
 use Rattle.mk_plan.specs.declared.plan.PlanNode.{PlanNode}
 use Rattle.mk_sched.specs.Schedule.{none_decided, predecessors}
-use Rattle.mk_trace.specs.Builds.{Build, Moment, Prints, event_of, first_build, moment}
+use Rattle.mk_trace.specs.Builds.{Moment, Prints, moment}
 use Rattle.mk_trace.specs.Calls.{AreLeaveItems, AreStepItems, Called}
 use Rattle.mk_trace.specs.Ends.{is_cut, result_of}
 use Rattle.mk_trace.specs.Growth.{Known}
 use Rattle.mk_trace.specs.Items as build
 use Rattle.mk_trace.specs.Items.{Item, Happened}
 use Rattle.mk_trace.specs.Runs as run
-use Rattle.mk_trace.specs.declared.event.Event.{Event}
 use Rattle.mk_trace.specs.declared.result.BuildResult.{BuildResult}
 use Rattle.mk_trace.specs.declared.result.BuildResult.TheVariants as ended
 use Rattle.mk_trace.specs.declared.result.Failure.{Failure}
@@ -40,74 +40,17 @@ use Rattle.mk_world.specs.Talks.{Meaning}
 use Rattle.mk_world.specs.Told.{Told}
 use Rattle.mk_world.specs.declared.history.History.{History}
 use Rattle.mk_dry.specs.DryRuns.{IsDryRun, IsOver, StandsBy}
-use Rattle.mk_dry.specs.Items.{DryItem, does, shows, announces, dry_tasks, in_build, in_build_all, printed_all, reported, reported_all}
-use Rattle.mk_dry.specs.Progress.{AreUnknownFrom, EndedAt, GoingAt, HaltedAt, HasCome, IsAt, IsFirstCourse, IsGoneThrough, IsOpenScene, OverAt, SoFar, is_ready, is_there, work_in}
-use Rattle.mk_dry.specs.Runs.{Dry, Makes, dry_after, dry_after_all, failed_after, first_dry, rules_of, with_shown}
+use Rattle.mk_dry.specs.Items.{DryItem, does, dry_tasks, in_build_all, printed_all, reported_all}
+use Rattle.mk_dry.proofs.ReportLemmas.{announced-all, as-build-all, failure-all, legal-all, legal-by, run-all}
+use Rattle.mk_dry.specs.Parts.{AreLinesOf, GoingFrom, IsDue, Origin, Point, StandsIn, point}
+use Rattle.mk_dry.specs.Reports.{AreAnnounced, IsRunBy, as_build}
+use Rattle.mk_dry.specs.Progress.{AreUnknownFrom, EndedAt, GoingAt, HaltedAt, HasCome, IsAt, IsBehind, IsFirstCourse, IsGoneThrough, IsOpenScene, OverAt, Scene, SeenAt, SoFar, is_ready, is_there, work_in}
+use Rattle.mk_dry.specs.Runs.{Dry, Makes, dry_after_all, first_dry, rules_of, with_shown}
 use Rattle.mk_dry.specs.declared.course.Course.{Course}
 use Rattle.mk_dry.proofs.GrowLemmas.{Makes-append, after-steps, dry_after_all-append, in_build-does, in_build_all-append, makes-steps, printed-steps, printed_all-append, reported-steps, reported_all-append, so_far-weaken}
 use Rattle.mk_dry.proofs.NodeLemmas.{gone-decided, gone-first, may-decide, none-may-decide, opened}
-use Rattle.mk_dry.proofs.LooksLemmas.{scene_of, task-now, unknown-behind, with_task}
+use Rattle.mk_dry.proofs.LooksLemmas.{scene_of, so_far-begun, so_far-looks, task-now, unknown-behind, with_task}
 use Rattle.mk_world.specs.declared.command.TaskLine.{TaskLine}
-
--- a dry run is a cut run, and its first failure is that of its report
-
-after_all-append : (rules : Rules) (tasks : run.Tasks) (state : run.State) (events more : List Event)
-    → run.after_all rules tasks state (events ++ more)
-    ≡ run.after_all rules tasks (run.after_all rules tasks state events) more
-after_all-append rules tasks state [] more = refl
-after_all-append rules tasks state (event ∷ events) more =
-    after_all-append rules tasks (run.after rules tasks state event) events more
-
-MayAll-append : (rules : Rules) (tasks : run.Tasks) (state : run.State) (events more : List Event)
-    → run.MayAll rules tasks state events
-    → run.MayAll rules tasks (run.after_all rules tasks state events) more
-    → run.MayAll rules tasks state (events ++ more)
-MayAll-append rules tasks state [] more may then_may = then_may
-MayAll-append rules tasks state (event ∷ events) more may then_may =
-    (may.0, MayAll-append rules tasks (run.after rules tasks state event) events more may.1 then_may)
-
-legal-all : (rules : Rules) (tasks : run.Tasks) (dry : Dry) (items : List DryItem)
-    → Makes rules tasks dry items
-    → run.MayAll rules (dry_tasks tasks) dry.run (build.reported_all (in_build_all items))
-legal-all rules tasks dry [] makes = tt
-legal-all rules tasks dry (item ∷ items) makes =
-    subst (run.MayAll rules (dry_tasks tasks) dry.run)
-    (sym (trace.reported_all-append (in_build item) (in_build_all items)))
-    (MayAll-append rules (dry_tasks tasks) dry.run (build.reported_all (in_build item))
-    (build.reported_all (in_build_all items)) makes.0
-    (legal-all rules tasks (dry_after rules tasks dry item) items makes.2))
-
-or_next-then : (first second third : Option Event)
-    → run.or_next (run.or_next first second) third ≡ run.or_next first (run.or_next second third)
-or_next-then None second third = refl
-or_next-then (Some event) second third = refl
-
-none-next : (event : Option Event) → run.or_next event None ≡ event
-none-next None = refl
-none-next (Some event) = refl
-
-item-failure : (work : Work) (tasks : run.Tasks) (failure : Option Failure) (item : DryItem)
-    → event_of (failed_after tasks failure item)
-    ≡ run.or_next (event_of failure) (run.first_failure (dry_tasks tasks) (reported item))
-item-failure work tasks failure (does item) =
-    let from : Build = record (first_build work) { failure = failure } in
-    trace.failure-events work (dry_tasks tasks) from (item ∷ [])
-    ∙ ap (λ l. run.or_next (event_of failure) (run.first_failure (dry_tasks tasks) l))
-    (append-nil (build.reported item))
-item-failure work tasks failure (shows node number) = sym (none-next (event_of failure))
-item-failure work tasks failure (announces node number) = sym (none-next (event_of failure))
-
-failure-all : (rules : Rules) (work : Work) (tasks : run.Tasks) (dry : Dry) (items : List DryItem)
-    → event_of (dry_after_all rules tasks dry items).failure
-    ≡ run.or_next (event_of dry.failure) (run.first_failure (dry_tasks tasks) (reported_all items))
-failure-all rules work tasks dry [] = sym (none-next (event_of dry.failure))
-failure-all rules work tasks dry (item ∷ items) =
-    let rest = run.first_failure (dry_tasks tasks) (reported_all items) in
-    failure-all rules work tasks (dry_after rules tasks dry item) items
-    ∙ (ap (λ e. run.or_next e rest) (item-failure work tasks dry.failure item)
-    ∙ (or_next-then (event_of dry.failure) (run.first_failure (dry_tasks tasks) (reported item)) rest
-    ∙ ap (run.or_next (event_of dry.failure))
-    (sym (trace.first_failure-append (dry_tasks tasks) (reported item) (reported_all items)))))
 
 -- children that are given up
 
@@ -204,6 +147,7 @@ ended-run meaning work result first now next at call events out idle still =
     let makes : Makes (rules_of work) tasks (first_dry work) items =
     Makes-append (rules_of work) tasks (first_dry work) so.items quiet made.makes
     (are.makes (rules_of work) tasks dry) in
+    let stands = subst (StandsBy (rules_of work) result) (sym after) made.stands in
     let printed_is : printed_all tasks items ≡ printed_all tasks so.items =
     printed_all-append tasks so.items quiet
     ∙ rw (are.printed tasks) (append-nil (printed_all tasks so.items)) in
@@ -211,13 +155,21 @@ ended-run meaning work result first now next at call events out idle still =
       tasks = tasks;
       items = items;
       reported = reported_is;
-      legal = legal-all (rules_of work) tasks (first_dry work) items makes;
+      legal = subst (IsRunBy result (rules_of work) (dry_tasks tasks))
+          (sym (ap (as_build tasks) reported_is
+          ∙ as-build-all (rules_of work) tasks (first_dry work) items makes))
+          (legal-by (rules_of work) (dry_tasks tasks) result
+          (dry_after_all (rules_of work) tasks (first_dry work) items) (build.reported_all (in_build_all items))
+          (legal-all (rules_of work) tasks (first_dry work) items makes)
+          (run-all (rules_of work) tasks (first_dry work) items) stands);
+      announced = subst (AreAnnounced tasks None) (sym reported_is)
+          (announced-all (rules_of work) tasks (first_dry work) None items tt makes);
       makes = makes;
       told = told;
       settled = told-settled meaning (in_build_all items) first.history next.history told idle still;
       printed = subst (Prints (is_cut result) first next) (sym printed_is)
           (prints-out (is_cut result) first now next (printed_all tasks so.items) out made.printed);
-      stands = subst (StandsBy (rules_of work) result) (sym after) made.stands;
+      stands = stands;
       failure = ap (run.first_failure (dry_tasks tasks)) reported_is
           ∙ sym (failure-all (rules_of work) work tasks (first_dry work) items);
     }
@@ -382,6 +334,10 @@ rules-new plan new made flags n is =
     let before : predecessors new ≡ predecessors plan = ap predecessors is ∙ predecessors-new plan n in
     ap (λ (b : List (List ℕ)). record { before = b; jobs = 1; keep_going = flags.keep_going }) before
 
+-- and so does the number of nodes
+pub same-length : (plan new : List PlanNode) (n : ℕ) → new ≡ as_new plan n → length new ≡ length plan
+same-length plan new n is = ap length is ∙ length-set plan n (phony (node_at plan n))
+
 -- a node was shown, and counts as new
 pub shown-after : (meaning : Meaning) (start : Work) (first : Moment) (plan new : List PlanNode)
     (made : Made) (flags : Flags) (known : Known) (nodes : List NodeState) (n : ℕ)
@@ -405,16 +361,62 @@ shown-after meaning start first plan new made flags known nodes n lines stands f
           (IsAt l [] (work_on (as_new plan n) made flags) failure)) (set-set nodes n Open stands) so),
     )
 
--- a node was decided, and its state is kept
-pub going-kept : (meaning : Meaning) (start : Work) (plan : List PlanNode) (made : Made) (flags : Flags)
-    (nodes now : List NodeState) (known : Known) (n : ℕ) (stands : NodeState) (failure : Option Failure)
-    (first at : Moment) → now ≡ set nodes n stands
-    → SoFar meaning start false first at known
-    (IsAt (set nodes n stands) [] (work_on plan made flags) failure)
-    → SoFar meaning start false first at known (IsAt now [] (work_on plan made flags) failure)
-going-kept meaning start plan made flags nodes now known n stands failure first at is so =
-    subst (λ l. SoFar meaning start false first at known (IsAt l [] (work_on plan made flags) failure))
-    (sym is) so
+-- the node that is due may be decided
+pub due-may : (start : Work) (made : Made) (flags : Flags) (course : Course) (n : ℕ)
+    → rules_of start ≡ rules_of (work_in course made flags) → IsDue made flags course n
+    → may_decide (rules_of start) course.nodes.items ≡ Some n
+due-may start made flags course n same due =
+    let next = due.next in
+    may-begin start (rules_of (work_in course made flags)) course.nodes.items course.failure n same next.gone
+    (within-nodes course.plan made flags course.nodes.items course.failure n n next.gone next.within) due.ready
+    next.going
+
+-- looks at the node that is due
+pub looked-from : (meaning : Meaning) (made : Made) (flags : Flags) (n : ℕ) (course : Course)
+    (out : Option (List ℕ)) (a b : Option History) (seen : List Seen) → IsDue made flags course n
+    → LooksAt meaning a b seen → (from : Origin) → GoingFrom meaning made flags n (point a out course) from
+    → SeenAt meaning from.start made flags b course n seen from.first out
+looked-from meaning made flags n course out a b seen due looked from at = (
+  at.0,
+  at.1,
+  at.2,
+  so_far-looks meaning from.start (work_in course made flags) at.1 course.nodes.items course.failure n
+      from.first out course.events a b seen looked (due-may from.start made flags course n at.0 due) at.3,
+)
+
+-- the scene of a node
+abbrev pub scene_from : Made → Flags → ℕ → List TaskLine → Known → Point → Origin → Scene
+scene_from made flags n lines known now from =
+    scene_of from.start from.first known now.course.nodes.items (work_in now.course made flags)
+    now.course.failure n lines
+
+-- the lines of the node that is due
+pub begun-from : (meaning : Meaning) (made : Made) (flags : Flags) (n : ℕ) (lines : List TaskLine)
+    (now : Point) (seen : List Seen) → IsDue made flags now.course n
+    → IsBegun (work_in now.course made flags) n seen lines → 0 < length lines → (from : Origin)
+    → (at : SeenAt meaning from.start made flags now.history now.course n seen from.first now.out)
+    → AreLinesOf made.scopes n lines now.course.failure (scene_from made flags n lines at.1 now from)
+    × StandsIn meaning (moment now.history now.out now.course.events)
+    (IsBehind (scene_from made flags n lines at.1 now from) 0)
+    (scene_from made flags n lines at.1 now from)
+begun-from meaning made flags n lines now seen due begun some from at =
+    let course = now.course in
+    let nodes = course.nodes.items in
+    let work = work_in course made flags in
+    let next = due.next in (
+      record {
+        is_open = open-scene from.start from.first at.1 nodes work course.failure n lines (rules_of work) at.0
+            next.gone
+            (within-nodes course.plan made flags nodes course.failure n n next.gone next.within) next.going;
+        node_is = refl;
+        lines_are = refl;
+        variables_are = refl;
+        failure_is = refl;
+      },
+      so_far-begun meaning from.start work at.1 nodes course.failure n lines seen from.first
+          (moment now.history now.out course.events) (due-may from.start made flags course n at.0 due)
+          (at.2 n (omega arith)) some begun at.3,
+    )
 
 -- the node that was decided is gone through
 pub gone-made : (rules new_rules : Rules) (nodes kept : List NodeState) (old new : Option Failure) (n : ℕ)
@@ -425,23 +427,6 @@ gone-made rules new_rules nodes kept old new n stands gone within come same same
     subst (λ r. IsGoneThrough r (set kept n stands) new (n + 1)) (sym same)
     (subst (λ l. IsGoneThrough rules (set l n stands) new (n + 1)) (sym same_nodes)
     (gone-decided rules nodes old new n stands gone within come))
-
--- a node is ready where all that it waits for is settled
-pub ready-by : (plan : List PlanNode) (made : Made) (flags : Flags) (nodes : List NodeState)
-    (failure : Option Failure) (n : ℕ) (before : List ℕ) (settled : Bool)
-    → IsGoneThrough (rules_of (work_on plan made flags)) nodes failure n → n < length plan
-    → before ≡ (node_at plan n).before → settled ≡ all_settled nodes before
-    → is_ready (rules_of (work_on plan made flags)) nodes n ≡ settled
-ready-by plan made flags nodes failure n before settled gone within before_is settled_is =
-    let lt = within-nodes plan made flags nodes failure n n gone within in
-    let was = gone.fresh n (omega arith) lt in
-    rw (was, preds-at plan n, ← before_is) (sym settled_is)
-  where
-    preds-at : (plan : List PlanNode) (n : ℕ)
-        → preds_of (predecessors plan) n ≡ (node_at plan n).before
-    preds-at [] n = refl
-    preds-at (node ∷ plan) zero = refl
-    preds-at (node ∷ plan) (suc n) = preds-at plan n
 
 -- there are no more nodes than the plan has
 pub all-nodes : (plan : List PlanNode) (made : Made) (flags : Flags) (nodes : List NodeState)

@@ -1,17 +1,19 @@
 -- The lines of a node in a dry run.
-use Rattle.std.proofs.Common.{◌≡◌, ◌∙◌, ◌⊎◌, ℕ, suc, ◌+◌, ◌-◌, ◌<◌, ◌≤◌, ◌==◌, ◌&&◌, not, nat_le, List, [], ◌∷◌, ◌++◌, length, map, set, slice_get, Option, Some, None, Bool, true, false, if◌then◌else◌}
+use Rattle.std.proofs.Common.{◌≡◌, ◌∙◌, ◌⊎◌, ℕ, suc, ◌+◌, ◌-◌, ◌<◌, ◌≤◌, ◌==◌, ◌&&◌, not, nat_le, List, [], ◌∷◌, ◌++◌, length, map, set, slice_get, Option, Some, None, Result, Ok, Err, Bool, true, false, if◌then◌else◌}
 use Rattle.std.proofs.Common.{inl, inr, refl, sym, ap, subst, append_assoc, arith}
 use Rattle.std.proofs.lemmas.Bool.Decides.{nat_tests}
 use Rattle.std.proofs.lemmas.Grind.{common_steps}
 use Rattle.std.proofs.lemmas.List.{append-nil}
 use Rattle.std.proofs.lemmas.Option.{slice_get-map}
+use Rattle.mk_child.specs.declared.child.Place.{Place}
 use Rattle.mk_child.specs.declared.halt.Halt.{Halt}
 use Rattle.mk_child.specs.declared.halt.Halt.TheVariants as halts
 use Rattle.mk_decision.specs.Decisions.{IsBegun}
 use Rattle.mk_plan.specs.Deciding.{Rules, first_ready, is_stopped, may_decide, open_jobs}
 use Rattle.mk_plan.specs.declared.plan.NodeState.{NodeState}
 use Rattle.mk_plan.specs.declared.plan.NodeState.TheVariants.{Open, Settled, Failed}
-use Rattle.mk_trace.specs.Builds.{Prints, IsCommandOf, command_of, moment, or_next}
+use Rattle.mk_scopes.specs.Scopes.{Variables}
+use Rattle.mk_trace.specs.Builds.{Moment, Prints, IsCommandOf, command_of, moment, or_next}
 use Rattle.mk_trace.specs.Calls.{Called, EndItem, NoItem, StartItem}
 use Rattle.mk_trace.specs.Growth.{HasTasks}
 use Rattle.mk_trace.specs.Items.{starts, waits, ends}
@@ -28,6 +30,7 @@ use Rattle.mk_world.specs.declared.command.TaskLine.{TaskLine}
 use Rattle.mk_world.specs.declared.history.History.{History}
 use Rattle.mk_world.specs.declared.step.Ended.{Ended}
 use Rattle.mk_dry.specs.Items.{does, shows, announces, dry_line, dry_tasks, is_started, shown_text}
+use Rattle.mk_dry.specs.Parts.{AreLinesOf, IsLineOf, Leads, StandsIn}
 use Rattle.mk_dry.specs.Progress.{HaltedIn, InScene, IsAnnounced, IsAt, IsBehind, IsEnded, IsOpenScene, IsPoised, IsRunning, Scene, SoFar}
 use Rattle.mk_dry.specs.Runs.{Dry, rules_of, with_shown, dry_after}
 use Rattle.mk_dry.proofs.GrowLemmas.{GoesOn, halted, so_far-called, so_far-nothing, so_far-own, so_far-weaken, unprinted}
@@ -521,44 +524,45 @@ in-unwaited meaning scene halt number ticket history then_history out events now
     refl) call told refl)
 
 -- the line of a node was started
-pub line-started : (meaning : Meaning) (scene : Scene) (n number : ℕ) (one : TaskLine) (cmd : Cmd)
+pub line-started : (meaning : Meaning) (scene : Scene) (place : Place) (one : TaskLine) (cmd : Cmd)
     (cwd : List ℕ) (history then_history : Option History) (out : Option (List ℕ))
-    (events now : List Event)
-    → IsOpenScene scene → scene.node ≡ n → run.line_of scene.lines number ≡ Some one
-    → is_started one ≡ true → cwd ≡ scene.work.variables.cwd
+    (events now : List Event) (variables : Variables) → IsLineOf variables place one scene
+    → is_started one ≡ true → cwd ≡ variables.cwd
     → cmd ≡ record { text = one.text; cwd = cwd; exports = [] }
-    → InScene meaning scene (IsAnnounced scene number) history out events
-    → Called meaning history then_history (StartItem n number 1 0 cmd)
-    → now ≡ events ++ event.Start n number ∷ []
-    → InScene meaning scene (IsRunning scene number 1 run.anything) then_history out now
-line-started meaning scene n number one cmd cwd history then_history out events now open_scene node line
-    started directory command so call told =
-    in-starts meaning scene number 1 0 one cmd history then_history out events now open_scene line started
-    (command ∙ ap (λ (d : List ℕ). record { text = one.text; cwd = d; exports = [] }) directory) refl so
-    (subst (λ k. Called meaning history then_history (StartItem k number 1 0 cmd)) (sym node) call)
-    (told ∙ ap (λ k. events ++ event.Start k number ∷ []) (sym node))
+    → InScene meaning scene (IsAnnounced scene place.number) history out events
+    → Called meaning history then_history (StartItem place.node place.number 1 0 cmd)
+    → now ≡ events ++ event.Start place.node place.number ∷ []
+    → InScene meaning scene (IsRunning scene place.number 1 run.anything) then_history out now
+line-started meaning scene place one cmd cwd history then_history out events now variables at started
+    directory command so call told =
+    let number = place.number in
+    let here : cwd ≡ scene.work.variables.cwd = directory ∙ ap (λ (v : Variables). v.cwd) (sym at.variables_are) in
+    in-starts meaning scene number 1 0 one cmd history then_history out events now at.is_open at.line_is
+    started (command ∙ ap (λ (d : List ℕ). record { text = one.text; cwd = d; exports = [] }) here) refl so
+    (subst (λ k. Called meaning history then_history (StartItem k number 1 0 cmd)) (sym at.node_is) call)
+    (told ∙ ap (λ k. events ++ event.Start k number ∷ []) (sym at.node_is))
 
 -- its child was taken in, and what it printed was written, whole or in part
-pub line-ended : (meaning : Meaning) (scene : Scene) (cut : Bool) (n number : ℕ) (one : TaskLine)
+pub line-ended : (meaning : Meaning) (scene : Scene) (cut : Bool) (place : Place) (one : TaskLine)
     (ended : Ended) (history then_history : Option History) (out next : Option (List ℕ))
-    (events now : List Event)
-    → IsOpenScene scene → scene.node ≡ n → 0 < number → run.line_of scene.lines number ≡ Some one
+    (events now : List Event) (variables : Variables) → IsLineOf variables place one scene
     → ended.ticket.0 ≡ 1
-    → InScene meaning scene (IsRunning scene number 1 run.anything) history out events
-    → Called meaning history then_history (EndItem n number ended)
-    → now ≡ events ++ event.Wait ∷ event.End n number ended.status ∷ []
+    → InScene meaning scene (IsRunning scene place.number 1 run.anything) history out events
+    → Called meaning history then_history (EndItem place.node place.number ended)
+    → now ≡ events ++ event.Wait ∷ event.End place.node place.number ended.status ∷ []
     → Prints cut (moment history out (events ++ event.Wait ∷ [])) (moment then_history next now)
     ended.output
     → SoFar meaning scene.start cut scene.first (moment then_history next now) scene.known
-    (IsEnded scene number ended.status (run.fails (Some one) ended.status))
-line-ended meaning scene cut n number one ended history then_history out next events now open_scene node
-    some line same so call told prints =
+    (IsEnded scene place.number ended.status (run.fails (Some one) ended.status))
+line-ended meaning scene cut place one ended history then_history out next events now variables at same so
+    call told prints =
+    let number = place.number in
     let waited = events ++ event.Wait ∷ [] in
-    in-ends meaning scene cut number 1 one ended history then_history out next waited now open_scene some
-    line same (in-waits meaning scene number 1 history out events waited open_scene so refl)
-    (subst (λ k. Called meaning history then_history (EndItem k number ended)) (sym node) call)
-    (told ∙ (sym (append_assoc events (event.Wait ∷ []) (event.End n number ended.status ∷ []))
-    ∙ ap (λ k. waited ++ event.End k number ended.status ∷ []) (sym node)))
+    in-ends meaning scene cut number 1 one ended history then_history out next waited now at.is_open
+    at.counted at.line_is same (in-waits meaning scene number 1 history out events waited at.is_open so refl)
+    (subst (λ k. Called meaning history then_history (EndItem k number ended)) (sym at.node_is) call)
+    (told ∙ (sym (append_assoc events (event.Wait ∷ []) (event.End place.node number ended.status ∷ []))
+    ∙ ap (λ k. waited ++ event.End k number ended.status ∷ []) (sym at.node_is)))
     prints
 
 -- one ticket was taken out of one
@@ -583,18 +587,6 @@ line-next meaning scene done history out events more so =
     scene.known (IsBehind scene done) (IsPoised scene (done + 1)) so (λ tasks has. has)
     (λ tasks dry has is. is.0 more)
 
--- behind all lines, the node is settled
-pub lines-over : (meaning : Meaning) (scene : Scene) (done : ℕ) (history : Option History)
-    (out : Option (List ℕ)) (events : List Event) → length scene.lines ≤ done
-    → InScene meaning scene (IsBehind scene done) history out events
-    → InScene meaning scene (IsAt (set scene.opened scene.node Settled) [] scene.work scene.failure)
-    history out events
-lines-over meaning scene done history out events none so =
-    so_far-weaken meaning scene.start false scene.first (moment history out events) scene.known
-    scene.known (IsBehind scene done)
-    (IsAt (set scene.opened scene.node Settled) [] scene.work scene.failure) so (λ tasks has. has)
-    (λ tasks dry has is. is.1 none)
-
 -- the line behind so many
 pub line-at : (lines given : List TaskLine) (done : ℕ) (one : TaskLine) → lines ≡ given
     → slice_get given done ≡ Some one → run.line_of lines (done + 1) ≡ Some one
@@ -603,3 +595,48 @@ line-at lines given done one same is =
   where
     back : (n : ℕ) → n + 1 - 1 ≡ n
     back n = omega arith
+
+-- the next line of a node
+pub line-of : (meaning : Meaning) (variables : Variables) (node : ℕ) (lines : List TaskLine)
+    (failure : Option Failure) (done : ℕ) (line : TaskLine) (scene : Scene) (now : Moment)
+    → AreLinesOf variables node lines failure scene → done < length lines → slice_get lines done ≡ Some line
+    → StandsIn meaning now (IsBehind scene done) scene
+    → IsLineOf variables (record { node = node; number = done + 1 }) line scene
+    × StandsIn meaning now (IsPoised scene (done + 1)) scene
+line-of meaning variables node lines failure done line scene now at more is so = (
+  record {
+    is_open = at.is_open;
+    node_is = at.node_is;
+    variables_are = at.variables_are;
+    counted = omega arith;
+    line_is = line-at scene.lines lines done line at.lines_are is;
+  },
+  line-next meaning scene done now.history now.out now.events (rw at.lines_are more) so,
+)
+
+-- a part that went well, or was ended
+pub went-well : {S A : Type 0} {Before : S → Type 0} {Behind : A → S → Type 0} {Ended : Halt → S → Type 0}
+    {result : Result A Halt} (given : A) → result ≡ Ok given
+    → ((scene : S) → Before scene → Behind given scene) → Leads Before Behind Ended result
+went-well given is goes = rw is (record { goes = goes; ends = tt })
+
+pub was-ended : {S A : Type 0} {Before : S → Type 0} {Behind : A → S → Type 0} {Ended : Halt → S → Type 0}
+    {result : Result A Halt} (halt : Halt) → result ≡ Err halt
+    → ((scene : S) → Before scene → Ended halt scene) → Leads Before Behind Ended result
+was-ended halt is ended = rw is (record { goes = tt; ends = ended })
+
+-- what a part leads to, where what was so before it follows from something else, and something else follows
+-- from what it leads to
+pub leads-to : {S R A : Type 0} {Before : S → Type 0} {First : R → Type 0} {Behind : A → S → Type 0}
+    {Last : A → R → Type 0} {Ended : Halt → S → Type 0} {Stopped : Halt → R → Type 0} (result : Result A Halt)
+    → ((one : R) → First one → (scene : S) × Before scene × ((given : A) → Behind given scene → Last given one)
+    × ((halt : Halt) → Ended halt scene → Stopped halt one))
+    → Leads Before Behind Ended result → Leads First Last Stopped result
+leads-to (Ok given) before leads = record {
+  goes = λ one is. let at = before one is in at.2 given (leads.goes at.0 at.1);
+  ends = tt;
+}
+leads-to (Err halt) before leads = record {
+  goes = tt;
+  ends = λ one is. let at = before one is in at.3 halt (leads.ends at.0 at.1);
+}

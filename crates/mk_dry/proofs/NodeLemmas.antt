@@ -254,27 +254,6 @@ gone-decided rules nodes old new node state gone lt come =
         let lower = between one node less other in
         ready-before rules nodes node one state gone.ordered lower ∙ gone.behind one lower
 
--- it was passed over
-pub gone-passed : (rules : Rules) (nodes : List NodeState) (failure : Option Failure) (node : ℕ)
-    → IsGoneThrough rules nodes failure node → is_ready rules nodes node ≡ false
-    → IsGoneThrough rules nodes failure (node + 1)
-gone-passed rules nodes failure node gone unready = record {
-  long = gone.long;
-  one_job = gone.one_job;
-  ordered = gone.ordered;
-  none_open = gone.none_open;
-  fresh = λ one from within. gone.fresh one (omega (arith, from)) within;
-  behind = λ one less. at one less (cases_eq one node);
-  failed = gone.failed;
-}
-  where
-    between : (a n : ℕ) → a < n + 1 → a ≢ n → a < n
-    between a n less other = grind (arith, nat_tests, common_steps)
-
-    at : (one : ℕ) → one < node + 1 → (one ≡ node) ⊎ (one ≢ node) → is_ready rules nodes one ≡ false
-    at one less (inl same) = subst (λ k. is_ready rules nodes k ≡ false) (sym same) unready
-    at one less (inr other) = gone.behind one (between one node less other)
-
 -- what holds while a node is open
 pub record IsOpened (rules : Rules) (nodes : List NodeState) (node : ℕ) : Type 0 where
   pub open_now : slice_get (set nodes node Open) node ≡ Some Open

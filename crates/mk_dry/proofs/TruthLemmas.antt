@@ -10,7 +10,7 @@ use Rattle.mk_trace.proofs.QuestionLemmas.{questions-keep-truth}
 use Rattle.mk_trace.proofs.TrueBuildLemmas.{Longer, parts}
 use Rattle.mk_trace.proofs.TrueChildren.{step-leaves}
 use Rattle.mk_trace.proofs.TrueTexts.{AreTrue, true-same}
-use Rattle.mk_trace.specs.Items.{Item, looks, keeps, refuses, starts, passes, waits, steps, ends, changes, leaves, Happened, happened_all, path_of}
+use Rattle.mk_trace.specs.Items.{looks, keeps, refuses, starts, passes, waits, steps, ends, changes, leaves, Happened, happened_all, path_of}
 use Rattle.mk_trace.specs.Runs.{Tasks}
 use Rattle.mk_trace.specs.TrueBuilds.{IsQuestion, LeavesFiles, longer}
 use Rattle.mk_plan.specs.Deciding.{Rules}

@@ -1,9 +1,10 @@
 //! The lines of a node: each is shown, and those that always run are started.
-ghost use Rattle.std.specs.Prelude.{◌≡◌, ◌<◌, ◌^◌, ◌+◌, [], Some, false, true, length, set, IfOk, IfErr, OnOk, OnErr};
+ghost use Rattle.std.specs.Prelude.{◌≡◌, Some, true, IfOk, OnOk, OnErr};
 ghost use Rattle.mk_child.specs.declared.halt.Halt.TheVariants as halts;
 ghost use Rattle.mk_dry.specs.Items as spec;
-ghost use Rattle.mk_dry.specs.Progress.{HaltedIn, HasCome, InScene, IsAnnounced, IsAt, IsBehind, IsEnded, IsOpenScene, IsPoised, Scene};
-ghost use Rattle.mk_trace.specs.Runs.{fails, line_of};
+ghost use Rattle.mk_dry.specs.Parts.{EndsLine, EndsLines, IsAlone};
+ghost use Rattle.mk_dry.specs.Progress.{HasCome, IsAnnounced, IsPoised};
+ghost use Rattle.mk_trace.specs.Builds.{moment};
 ghost use Rattle.mk_world.specs.Causes.{HasCause};
 ghost use Rattle.mk_world.specs.Sinks.{Gains, GainsPart};
 ghost use Rattle.mk_world.specs.declared.fault.SinkFault.TheVariants.{Failed as sink_failed};
@@ -50,26 +51,12 @@ fn run_line<W: World, S: Sink>(
     place: Place,
     line: &TaskLine,
 ) -> Result<u8, Halt>
-    requires exact { W.runs world.old kids.old.tickets }
-    requires none { kids.old.tickets ≡ [] }
-    requires room { 0 < kids.old.room }
+    requires alone { IsAlone (W.runs world.old) kids.old.tickets kids.old.room }
     requires starts { spec.is_started line.now ≡ true }
-    ensures goes { IfOk result (λ status. (scene : Scene) → IsOpenScene scene
-        → scene.node ≡ place.node → scene.work.variables ≡ made.now.scopes → 0 < place.number
-        → line_of scene.lines place.number ≡ Some line.now
-        → InScene W.meaning scene (IsAnnounced scene place.number) (W.history world.old)
-        (S.held out.old) events.old
-        → InScene W.meaning scene
-        (IsEnded scene place.number status (fails (Some line.now) status)) (W.history world.new)
-        (S.held out.new) events.new) }
-    ensures halted { IfErr result (λ halt. (scene : Scene) → IsOpenScene scene
-        → scene.node ≡ place.node → scene.work.variables ≡ made.now.scopes → 0 < place.number
-        → line_of scene.lines place.number ≡ Some line.now
-        → InScene W.meaning scene (IsAnnounced scene place.number) (W.history world.old)
-        (S.held out.old) events.old
-        → HaltedIn W.meaning scene halt (W.history world.new) (S.held out.new) events.new) }
-    ensures none { IfOk result (λ status. kids.new.tickets ≡ []) }
-    ensures same_room { kids.new.room ≡ kids.old.room }
+    ensures goes { EndsLine W.meaning made.now.scopes place line.now IsAnnounced
+        (moment (W.history world.old) (S.held out.old) events.old)
+        (moment (W.history world.new) (S.held out.new) events.new) result }
+    ensures alone { IfOk result (λ status. IsAlone (W.runs world.new) kids.new.tickets kids.new.room) }
     ensures world_cause { HasCause halts.World (W.faults world.old) (W.faults world.new) result }
     ensures sink_cause { HasCause halts.Sink (S.faults out.old) (S.faults out.new) result }
     ensures children { W.runs world.new kids.new.tickets }
@@ -93,25 +80,11 @@ fn show_line<W: World, S: Sink>(
     place: Place,
     line: &TaskLine,
 ) -> Result<u8, Halt>
-    requires exact { W.runs world.old kids.old.tickets }
-    requires none { kids.old.tickets ≡ [] }
-    requires room { 0 < kids.old.room }
-    ensures goes { IfOk result (λ status. (scene : Scene) → IsOpenScene scene
-        → scene.node ≡ place.node → scene.work.variables ≡ made.now.scopes → 0 < place.number
-        → line_of scene.lines place.number ≡ Some line.now
-        → InScene W.meaning scene (IsPoised scene place.number) (W.history world.old)
-        (S.held out.old) events.old
-        → InScene W.meaning scene
-        (IsEnded scene place.number status (fails (Some line.now) status)) (W.history world.new)
-        (S.held out.new) events.new) }
-    ensures halted { IfErr result (λ halt. (scene : Scene) → IsOpenScene scene
-        → scene.node ≡ place.node → scene.work.variables ≡ made.now.scopes → 0 < place.number
-        → line_of scene.lines place.number ≡ Some line.now
-        → InScene W.meaning scene (IsPoised scene place.number) (W.history world.old)
-        (S.held out.old) events.old
-        → HaltedIn W.meaning scene halt (W.history world.new) (S.held out.new) events.new) }
-    ensures none { IfOk result (λ status. kids.new.tickets ≡ []) }
-    ensures same_room { kids.new.room ≡ kids.old.room }
+    requires alone { IsAlone (W.runs world.old) kids.old.tickets kids.old.room }
+    ensures goes { EndsLine W.meaning made.now.scopes place line.now IsPoised
+        (moment (W.history world.old) (S.held out.old) events.old)
+        (moment (W.history world.new) (S.held out.new) events.new) result }
+    ensures alone { IfOk result (λ status. IsAlone (W.runs world.new) kids.new.tickets kids.new.room) }
     ensures world_cause { HasCause halts.World (W.faults world.old) (W.faults world.new) result }
     ensures sink_cause { HasCause halts.Sink (S.faults out.old) (S.faults out.new) result }
     ensures children { W.runs world.new kids.new.tickets }
@@ -136,23 +109,12 @@ pub fn show_lines<W: World, S: Sink>(
     node: u32,
     task: &Task,
 ) -> Result<NodeState, Halt>
-    requires exact { W.runs world.old kids.old.tickets }
-    requires none { kids.old.tickets ≡ [] }
-    requires room { 0 < kids.old.room }
-    ensures goes { IfOk result (λ stands. (scene : Scene) → IsOpenScene scene
-        → scene.node ≡ node → scene.lines ≡ task.now.lines
-        → scene.work.variables ≡ made.now.scopes → scene.failure ≡ failure.old
-        → InScene W.meaning scene (IsBehind scene 0) (W.history world.old) (S.held out.old) events.old
-        → InScene W.meaning scene (IsAt (set scene.opened node stands) [] scene.work failure.new)
-        (W.history world.new) (S.held out.new) events.new) }
-    ensures halted { IfErr result (λ halt. (scene : Scene) → IsOpenScene scene
-        → scene.node ≡ node → scene.lines ≡ task.now.lines
-        → scene.work.variables ≡ made.now.scopes → scene.failure ≡ failure.old
-        → InScene W.meaning scene (IsBehind scene 0) (W.history world.old) (S.held out.old) events.old
-        → HaltedIn W.meaning scene halt (W.history world.new) (S.held out.new) events.new) }
+    requires alone { IsAlone (W.runs world.old) kids.old.tickets kids.old.room }
+    ensures goes { EndsLines W.meaning made.now.scopes node task.now.lines failure.old failure.new
+        (moment (W.history world.old) (S.held out.old) events.old)
+        (moment (W.history world.new) (S.held out.new) events.new) result }
     ensures stands { IfOk result (λ stands. HasCome stands failure.old failure.new) }
-    ensures none { IfOk result (λ stands. kids.new.tickets ≡ []) }
-    ensures same_room { kids.new.room ≡ kids.old.room }
+    ensures alone { IfOk result (λ stands. IsAlone (W.runs world.new) kids.new.tickets kids.new.room) }
     ensures world_cause { HasCause halts.World (W.faults world.old) (W.faults world.new) result }
     ensures sink_cause { HasCause halts.Sink (S.faults out.old) (S.faults out.new) result }
     ensures children { W.runs world.new kids.new.tickets }

@@ -1,12 +1,11 @@
 //! A whole dry run.
-ghost use Rattle.std.specs.Prelude.{◌≡◌, ◌<◌, ◌≤◌, [], length, None, IfErr, IfOk, OnOk};
+ghost use Rattle.std.specs.Prelude.{◌≡◌, [], IfOk};
 ghost use Rattle.mk_child.specs.declared.halt.Halt.TheVariants as halts;
-ghost use Rattle.mk_decision.specs.Decisions.{Work};
 ghost use Rattle.mk_decision.specs.Makers.{work_on};
 ghost use Rattle.mk_dry.specs.DryRuns.{IsDryRun};
-ghost use Rattle.mk_dry.specs.Progress.{EndedAt, GoingAt, HaltedAt, IsFirstCourse, IsGoneThrough, OverAt, work_in};
-ghost use Rattle.mk_dry.specs.Runs.{rules_of};
-ghost use Rattle.mk_trace.specs.Builds.{Moment, moment};
+ghost use Rattle.mk_dry.specs.Parts.{GoingFrom, IsAlone, IsGoneTo, Origin, PassesAll, point};
+ghost use Rattle.mk_dry.specs.Progress.{EndedAt, IsFirstCourse};
+ghost use Rattle.mk_trace.specs.Builds.{moment};
 ghost use Rattle.mk_trace.specs.Ends.{EndsBy, result_of};
 ghost use Rattle.mk_trace.specs.declared.result.BuildResult.TheVariants as ended;
 ghost use Rattle.mk_world.specs.Causes.{HasCause};
@@ -32,20 +31,11 @@ fn pass_all<W: World, S: Sink>(
     kids: &mut Kids<W::Kid>,
     course: &mut Course,
 ) -> Result<(), Halt>
-    requires exact { W.runs world.old kids.old.tickets }
-    requires none { kids.old.tickets ≡ [] }
-    requires room { 0 < kids.old.room }
-    requires gone { IsGoneThrough (rules_of (work_in course.old made.now flags.now))
-        course.old.nodes.items course.old.failure 0 }
-    ensures over { OnOk result ((start : Work) (first : Moment)
-        → GoingAt W.meaning start made.now flags.now (W.history world.old) course.old 0 first
-        (S.held out.old)
-        → OverAt W.meaning start (W.history world.new) course.new first (S.held out.new)) }
-    ensures halted { IfErr result (λ halt. (start : Work) (first : Moment)
-        → GoingAt W.meaning start made.now flags.now (W.history world.old) course.old 0 first
-        (S.held out.old)
-        → HaltedAt W.meaning start halt first
-        (moment (W.history world.new) (S.held out.new) course.new.events)) }
+    requires alone { IsAlone (W.runs world.old) kids.old.tickets kids.old.room }
+    requires gone { IsGoneTo made.now flags.now course.old 0 }
+    ensures goes { PassesAll W.meaning made.now flags.now
+        (point (W.history world.old) (S.held out.old) course.old)
+        (point (W.history world.new) (S.held out.new) course.new) result }
     ensures world_cause { HasCause halts.World (W.faults world.old) (W.faults world.new) result }
     ensures sink_cause { HasCause halts.Sink (S.faults out.old) (S.faults out.new) result }
     ensures children { W.runs world.new kids.new.tickets }
@@ -78,15 +68,11 @@ fn run_to_end<W: World, S: Sink>(
     kids: &mut Kids<W::Kid>,
     course: &mut Course,
 ) -> BuildResult
-    requires exact { W.runs world.old kids.old.tickets }
-    requires none { kids.old.tickets ≡ [] }
-    requires room { 0 < kids.old.room }
-    requires gone { IsGoneThrough (rules_of (work_in course.old made.now flags.now))
-        course.old.nodes.items course.old.failure 0 }
-    ensures ended { (start : Work) (first : Moment)
-        → GoingAt W.meaning start made.now flags.now (W.history world.old) course.old 0 first
-        (S.held out.old)
-        → EndedAt W.meaning start result first
+    requires alone { IsAlone (W.runs world.old) kids.old.tickets kids.old.room }
+    requires gone { IsGoneTo made.now flags.now course.old 0 }
+    ensures ended { (from : Origin) → GoingFrom W.meaning made.now flags.now 0
+        (point (W.history world.old) (S.held out.old) course.old) from
+        → EndedAt W.meaning from.start result from.first
         (moment (W.history world.new) (S.held out.new) course.new.events) }
     ensures world_cause { EndsBy ended.World (W.faults world.old) (W.faults world.new) result }
     ensures sink_cause { EndsBy ended.Sink (S.faults out.old) (S.faults out.new) result }

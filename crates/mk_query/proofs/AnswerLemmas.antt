@@ -1,12 +1,14 @@
 -- Nodes that are kept, one after the other, and how a query ends behind them.
-use Rattle.std.proofs.Common.{◌≡◌, ℕ, ◌+◌, ◌<◌, List, [], ◌∷◌, ◌++◌, length, Option, Result, Ok, Err, IfOk, IfErr}
+use Rattle.std.proofs.Common.{◌≡◌, ℕ, ◌+◌, ◌<◌, ◌≤◌, List, [], ◌∷◌, ◌++◌, length, map, Option, Result, Ok, Err, IfOk, IfErr}
 use Rattle.std.proofs.Common.{refl, sym, ◌∙◌, ap, subst, append_assoc, arith}
 use Rattle.std.proofs.lemmas.List.{append-nil}
 use Rattle.mk_decision.proofs.LookLemmas.{looks-none, looks-then}
-use Rattle.mk_decision.specs.Decisions.{Work, IsKept}
+use Rattle.mk_decision.specs.Decisions.{HasTask, IsBegun, IsKept, Sight, Work, newer_of, setting_by}
 use Rattle.mk_decision.specs.Looks.{LooksAt}
 use Rattle.mk_decision.specs.Sights.{SawSome}
-use Rattle.mk_query.specs.Answers.{Answer, Answered, AreKept, StandsBy, all_seen, answer_of, kept_events, last_events, of_world}
+use Rattle.mk_plan.proofs.TaskLemmas.{task_of-length}
+use Rattle.mk_plan.specs.Asking.{as_asked}
+use Rattle.mk_query.specs.Answers.{Answered, AreKept, IsOutOfDate, StandsBy, all_seen, answer_of, kept_events, last_events, of_world}
 use Rattle.mk_query.specs.Causes.{EndsBy}
 use Rattle.mk_world.specs.Causes.{HasCause}
 use Rattle.mk_query.specs.declared.result.QueryResult.{QueryResult}
@@ -15,6 +17,7 @@ use Rattle.mk_trace.specs.declared.event.Event.{Event}
 use Rattle.mk_trace.specs.declared.event.Event.TheVariants.{Kept}
 use Rattle.mk_world.specs.Looks.{Seen}
 use Rattle.mk_world.specs.Talks.{Meaning}
+use Rattle.mk_world.specs.declared.command.Task.{Task}
 use Rattle.mk_world.specs.declared.command.TaskLine.{TaskLine}
 use Rattle.mk_world.specs.declared.fault.WorldFault.{WorldFault}
 use Rattle.mk_world.specs.declared.fault.WorldFault.TheVariants as world
@@ -85,16 +88,31 @@ kept-more meaning work a b c place events seen lines so_far looked is =
           ∙ sym (events-then 0 so_far.kept seen));
     }
 
+-- a node that is to be made has commands
+pub out-of-date : (work : Work) (n : ℕ) (seen first : List Seen) (task : Task) → n < length work.plan
+    → IsBegun work n seen task.lines → 0 < length task.lines → (sight : Sight work n first)
+    → HasTask work n sight.target sight.sources sight.asked task → IsOutOfDate work n seen
+out-of-date work n seen first task within begun some sight has =
+    let newer = newer_of work n sight.target sight.sources in
+    record {
+      within = within;
+      commands = subst (λ k. 0 < k) (task_of-length (setting_by work sight.asked) work.suffixes work.plan n
+          newer work.mode work.flags [] (map as_asked sight.asked) task has) some;
+      lines = task.lines;
+      begun = begun;
+    }
+
 -- an answer behind what was kept
 pub answered-by : (meaning : Meaning) (work : Work) (a b c : Option History) (place : ℕ)
-    (events : List Event) (seen : List Seen) (result : QueryResult)
+    (events : List Event) (seen : List Seen) (result : QueryResult) → place ≤ length work.plan
     → KeptSoFar meaning work a b place events → LooksAt meaning b c seen
     → StandsBy work place seen result
     → Answered meaning work a c result (events ++ last_events result)
-answered-by meaning work a b c place events seen result so_far looked stands = (
+answered-by meaning work a b c place events seen result within so_far looked stands = (
   record {
     kept = so_far.kept;
     last = seen;
+    within = subst (λ n. n ≤ length work.plan) (sym so_far.count) within;
     are_kept = so_far.are_kept;
     stands = subst (λ n. StandsBy work n seen result) (sym so_far.count) stands;
     events_are = ap (λ l. l ++ last_events result) so_far.told;
@@ -105,20 +123,21 @@ answered-by meaning work a b c place events seen result so_far looked stands = (
 -- an answer that adds no event
 pub answered-silent : (meaning : Meaning) (work : Work) (a b c : Option History) (place : ℕ)
     (events : List Event) (seen : List Seen) (result : QueryResult) → last_events result ≡ []
-    → KeptSoFar meaning work a b place events → LooksAt meaning b c seen
+    → place ≤ length work.plan → KeptSoFar meaning work a b place events → LooksAt meaning b c seen
     → StandsBy work place seen result → Answered meaning work a c result events
-answered-silent meaning work a b c place events seen result none so_far looked stands =
+answered-silent meaning work a b c place events seen result none within so_far looked stands =
     subst (Answered meaning work a c result) (ap (λ l. events ++ l) none ∙ append-nil events)
-    (answered-by meaning work a b c place events seen result so_far looked stands)
+    (answered-by meaning work a b c place events seen result within so_far looked stands)
 
 -- a fault of the world, or want of memory, behind what was kept
 pub answered-fault : (meaning : Meaning) (work : Work) (a b c : Option History) (place : ℕ)
-    (events : List Event) (fault : WorldFault) → KeptSoFar meaning work a b place events
+    (events : List Event) (fault : WorldFault) → place ≤ length work.plan
+    → KeptSoFar meaning work a b place events
     → SawSome meaning b c → Answered meaning work a c (of_world fault) events
-answered-fault meaning work a b c place events world.Failed so_far some =
-    answered-silent meaning work a b c place events some.seen World refl so_far some.looked tt
-answered-fault meaning work a b c place events world.NoMemory so_far some =
-    answered-silent meaning work a b c place events some.seen NoMemory refl so_far some.looked tt
+answered-fault meaning work a b c place events world.Failed within so_far some =
+    answered-silent meaning work a b c place events some.seen World refl within so_far some.looked tt
+answered-fault meaning work a b c place events world.NoMemory within so_far some =
+    answered-silent meaning work a b c place events some.seen NoMemory refl within so_far some.looked tt
 
 -- whatever the fault is
 pub if_err-all : {T E : Type 0} {P : E → Type 0} (result : Result T E) → ((fault : E) → P fault)

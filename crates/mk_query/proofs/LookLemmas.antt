@@ -1,12 +1,11 @@
 -- Looks where no child runs are all at one map of files.
-use Rattle.std.proofs.Common.{◌≡◌, ℕ, List, [], ◌∷◌, ◌++◌, map, Option, Some, None}
+use Rattle.std.proofs.Common.{◌≡◌, List, [], ◌∷◌, ◌++◌, map, Option, Some, None}
 use Rattle.std.proofs.Common.{refl, sym, ◌∙◌, ap, subst, append_assoc}
 use Rattle.std.proofs.lemmas.List.{append-nil}
 use Rattle.std.specs.List.{AllByRecursion}
 use Rattle.mk_decision.specs.Looks.{LooksAt}
 use Rattle.mk_query.specs.Looks.{Saw, look_of}
-use Rattle.mk_trace.specs.Items.{IsSeenIn, path_of}
-use Rattle.mk_world.specs.Calls.{AddsEvents}
+use Rattle.mk_trace.specs.Items.{IsSeenIn}
 use Rattle.mk_world.specs.History.{State, after_all, first_state, state_of, tickets_of}
 use Rattle.mk_world.specs.Looks.{LooksAll, OwnLook, Seen, answered, dated, read}
 use Rattle.mk_world.specs.Talks.{Meaning}

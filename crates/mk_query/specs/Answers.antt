@@ -1,7 +1,8 @@
 -- What a query answers.
-use Rattle.std.specs.Prelude.{◌≡◌, ℕ, ◌<◌, ◌+◌, List, [], ◌∷◌, ◌++◌, length, Option, Result, Ok, Err}
+use Rattle.std.specs.Prelude.{◌≡◌, ℕ, ◌<◌, ◌≤◌, ◌+◌, List, [], ◌∷◌, ◌++◌, length, Option, Result, Ok, Err}
 use Rattle.mk_decision.specs.Decisions.{Work, IsBegun, IsKept, IsRefused}
 use Rattle.mk_decision.specs.Looks.{LooksAt}
+use Rattle.mk_plan.specs.Plans.{node_at}
 use Rattle.mk_query.specs.Looks.{Saw}
 use Rattle.mk_query.specs.declared.result.QueryResult.{QueryResult}
 use Rattle.mk_query.specs.declared.result.QueryResult.TheVariants.{UpToDate, OutOfDate, Expand, World, NoMemory}
@@ -49,22 +50,28 @@ last_events (OutOfDate node) = []
 last_events World = []
 last_events NoMemory = []
 
+-- a node of the plan has commands, and is out of date by what was seen of it
+pub record IsOutOfDate (work : Work) (node : ℕ) (seen : List Seen) : Type 0 where
+  pub within : node < length work.plan
+  pub commands : 0 < length (node_at work.plan node).commands
+  pub lines : List TaskLine
+  pub begun : IsBegun work node seen lines
+
 -- How a query ends behind so many nodes that are kept: there is no more node, or the next one, by what was
 -- seen of it, is out of date or is refused.
 abbrev pub StandsBy : Work → ℕ → List Seen → QueryResult → Type 0
 StandsBy work place seen UpToDate = (place ≡ length work.plan) × (seen ≡ [])
-StandsBy work place seen (OutOfDate node) =
-    (node ≡ place) × (place < length work.plan)
-    × ((lines : List TaskLine) × IsBegun work place seen lines)
+StandsBy work place seen (OutOfDate node) = (node ≡ place) × IsOutOfDate work place seen
 StandsBy work place seen (Expand node number what) =
     (node ≡ place) × (place < length work.plan) × IsRefused work place seen number what
 StandsBy work place seen World = Unit {0}
 StandsBy work place seen NoMemory = Unit {0}
 
--- An answer, where these nodes are kept, and this was seen behind them.
+-- An answer, where these nodes of the plan are kept, and this was seen behind them.
 pub record Answer (work : Work) (result : QueryResult) (events : List Event) : Type 0 where
   pub kept : List (List Seen)
   pub last : List Seen
+  pub within : length kept ≤ length work.plan
   pub are_kept : AreKept work 0 kept
   pub stands : StandsBy work (length kept) last result
   pub events_are : events ≡ kept_events 0 kept ++ last_events result

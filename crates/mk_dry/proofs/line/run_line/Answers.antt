@@ -1,96 +1,94 @@
-use Rattle.std.proofs.Common.{◌∙◌, true, false, refl, sym, ap, subst}
+use Rattle.std.proofs.Common.{◌∙◌, true, false, refl, subst}
 use Rattle.std.proofs.lemmas.List.{append-nil}
 use Rattle.mk_world.specs.Sinks.{Gains, GainsPart}
 use Rattle.std.proofs.lemmas.Result.{err_from_is_err_and}
 use Rattle.mk_child.proofs.EventLemmas.{set-last}
 use Rattle.mk_dry.proofs.GrowLemmas.{halted, so_far-nothing, so_far-weaken}
-use Rattle.mk_dry.proofs.LineLemmas.{in-unwaited, line-ended, line-started, taken-one}
+use Rattle.mk_dry.proofs.LineLemmas.{in-unwaited, line-ended, line-started, taken-one, was-ended}
 use Rattle.mk_trace.specs.Builds.{moment}
 use Rattle.mk_trace.specs.declared.event.Event.TheVariants as event
 use Rattle.mk_dry.proofs.line.run_line.Goals as goal
 
-pub returns-in_err-cmd-clause-halted : goal.returns-in_err-cmd-clause-halted
-returns-in_err-cmd-clause-halted g c =
+pub returns-in_err-cmd-clause-goes : goal.returns-in_err-cmd-clause-goes
+returns-in_err-cmd-clause-goes g c =
     let p = err_from_is_err_and c.from_residual.result c.from_residual.ensures.1 in
-    rw p.1 (λ scene open_scene node variables some line so.
-    halted g.W.World.meaning scene.start p.0 scene.first _ scene.known _ so)
+    was-ended p.0 p.1 (λ scene at. halted g.W.World.meaning scene.start p.0 scene.first _ scene.known _ at.1)
 
-pub returns-in_err-start_child-clause-halted : goal.returns-in_err-start_child-clause-halted
-returns-in_err-start_child-clause-halted g c =
+pub returns-in_err-start_child-clause-goes : goal.returns-in_err-start_child-clause-goes
+returns-in_err-start_child-clause-goes g c =
     let p = err_from_is_err_and c.from_residual-in_err-start_child.result
     c.from_residual-in_err-start_child.ensures.1 in
-    rw p.1 (λ scene open_scene node variables some line so.
+    was-ended p.0 p.1 (λ scene at.
     halted g.W.World.meaning scene.start p.0 scene.first _ scene.known _
     (so_far-nothing g.W.World.meaning scene.start scene.first
     (moment (g.W.World.history c.args.world.now) (g.S.Sink.held c.args.out.now) c.args.events.now)
     (moment (g.W.World.history c.start_child.new.world) (g.S.Sink.held c.args.out.now)
-    c.start_child.new.events) scene.known _ so c.in_err-start_child.ensures.refused
+    c.start_child.new.events) scene.known _ at.1 c.in_err-start_child.ensures.refused
     c.in_err-start_child.ensures.untold refl))
 
-pub returns-in_err-ended-clause-halted : goal.returns-in_err-ended-clause-halted
-returns-in_err-ended-clause-halted g c =
+pub returns-in_err-ended-clause-goes : goal.returns-in_err-ended-clause-goes
+returns-in_err-ended-clause-goes g c =
     let p = err_from_is_err_and c.from_residual-in_err-ended.result
     c.from_residual-in_err-ended.ensures.1 in
-    rw p.1 (λ scene open_scene node variables some line so.
+    was-ended p.0 p.1 (λ scene at.
     in-unwaited g.W.World.meaning scene p.0 c.args.place.number 1
     (g.W.World.history c.start_child.new.world) (g.W.World.history c.wait_child.new.world)
-    (g.S.Sink.held c.args.out.now) c.start_child.new.events c.wait_child.new.events open_scene
-    (line-started g.W.World.meaning scene c.args.place.node c.args.place.number c.args.line.now
-    c.in_ok-cmd.cmd c.cwd.result.now (g.W.World.history c.args.world.now)
-    (g.W.World.history c.start_child.new.world) (g.S.Sink.held c.args.out.now) c.args.events.now
-    c.start_child.new.events open_scene node line c.requires.starts
-    (c.cwd.ensures.value ∙ ap (λ v. v.cwd) (sym variables)) c.in_ok-cmd.ensures so
-    c.in_ok-start_child.ensures.done c.in_ok-start_child.ensures.told)
+    (g.S.Sink.held c.args.out.now) c.start_child.new.events c.wait_child.new.events at.0.is_open
+    (line-started g.W.World.meaning scene c.args.place c.args.line.now c.in_ok-cmd.cmd c.cwd.result.now
+    (g.W.World.history c.args.world.now) (g.W.World.history c.start_child.new.world)
+    (g.S.Sink.held c.args.out.now) c.args.events.now c.start_child.new.events c.args.made.now.scopes at.0
+    c.requires.starts c.cwd.ensures.value c.in_ok-cmd.ensures at.1 c.in_ok-start_child.ensures.done
+    c.in_ok-start_child.ensures.told)
     c.in_err-ended.ensures.refused c.in_err-ended.ensures.untold)
 
-pub returns-in_err-write_all-clause-halted : goal.returns-in_err-write_all-clause-halted
-returns-in_err-write_all-clause-halted g c =
+pub returns-in_err-write_all-clause-goes : goal.returns-in_err-write_all-clause-goes
+returns-in_err-write_all-clause-goes g c =
     let p = err_from_is_err_and c.from_residual-in_err-write_all.result
     c.from_residual-in_err-write_all.ensures.1 in
     let ended = c.in_ok-ended.ended in
-    let ticket = taken-one ended.ticket.0 1 _ _ (c.in_ok-start_child.ensures.held ∙ rw c.requires.none refl)
+    let ticket = taken-one ended.ticket.0 1 _ _ (c.in_ok-start_child.ensures.held ∙ rw c.requires.alone.none refl)
     c.in_ok-ended.ensures.taken in
     let told = c.set_last.ensures ∙ rw c.in_ok-ended.ensures.told
     (set-last c.start_child.new.events event.Wait (event.End 0 0 0)
     (event.End c.args.place.node c.args.place.number ended.status)) in
-    rw (p.1, p.2) (λ scene open_scene node variables some line so. (
+    was-ended p.0 p.1 (rw p.2 (λ scene at. (
       scene.known,
       so_far-weaken g.W.World.meaning scene.start true scene.first _ scene.known scene.known _ _
-          (line-ended g.W.World.meaning scene true c.args.place.node c.args.place.number c.args.line.now
+          (line-ended g.W.World.meaning scene true c.args.place c.args.line.now
           ended (g.W.World.history c.start_child.new.world) (g.W.World.history c.wait_child.new.world)
           (g.S.Sink.held c.args.out.now) (g.S.Sink.held c.write_all.new.sink) c.start_child.new.events
-          c.set_last.new.self open_scene node some line ticket.0
-          (line-started g.W.World.meaning scene c.args.place.node c.args.place.number c.args.line.now
-          c.in_ok-cmd.cmd c.cwd.result.now (g.W.World.history c.args.world.now)
-          (g.W.World.history c.start_child.new.world) (g.S.Sink.held c.args.out.now) c.args.events.now
-          c.start_child.new.events open_scene node line c.requires.starts
-          (c.cwd.ensures.value ∙ ap (λ v. v.cwd) (sym variables)) c.in_ok-cmd.ensures so
-          c.in_ok-start_child.ensures.done c.in_ok-start_child.ensures.told)
+          c.set_last.new.self c.args.made.now.scopes at.0 ticket.0
+          (line-started g.W.World.meaning scene c.args.place c.args.line.now c.in_ok-cmd.cmd c.cwd.result.now
+          (g.W.World.history c.args.world.now) (g.W.World.history c.start_child.new.world)
+          (g.S.Sink.held c.args.out.now) c.args.events.now c.start_child.new.events c.args.made.now.scopes at.0
+          c.requires.starts c.cwd.ensures.value c.in_ok-cmd.ensures at.1 c.in_ok-start_child.ensures.done
+          c.in_ok-start_child.ensures.told)
           (c.in_ok-ended.ensures.done c.args.place.node c.args.place.number) told
           (subst (GainsPart (g.S.Sink.held c.args.out.now) (g.S.Sink.held c.write_all.new.sink))
           (append-nil c.bytes.result.now ∙ c.bytes.ensures.value) c.in_err-write_all.ensures.cut))
           (λ tasks has. has) (λ tasks dry has is. tt),
-    ))
+    )))
 
 pub returns-clause-goes : goal.returns-clause-goes
 returns-clause-goes g c =
     let ended = c.in_ok-ended.ended in
-    let ticket = taken-one ended.ticket.0 1 _ _ (c.in_ok-start_child.ensures.held ∙ rw c.requires.none refl)
+    let ticket = taken-one ended.ticket.0 1 _ _ (c.in_ok-start_child.ensures.held ∙ rw c.requires.alone.none refl)
     c.in_ok-ended.ensures.taken in
     let told = c.set_last.ensures ∙ rw c.in_ok-ended.ensures.told
     (set-last c.start_child.new.events event.Wait (event.End 0 0 0)
     (event.End c.args.place.node c.args.place.number ended.status)) in
-    λ scene open_scene node variables some line so.
-    line-ended g.W.World.meaning scene false c.args.place.node c.args.place.number c.args.line.now
-    ended (g.W.World.history c.start_child.new.world) (g.W.World.history c.wait_child.new.world)
-    (g.S.Sink.held c.args.out.now) (g.S.Sink.held c.write_all.new.sink) c.start_child.new.events
-    c.set_last.new.self open_scene node some line ticket.0
-    (line-started g.W.World.meaning scene c.args.place.node c.args.place.number c.args.line.now
-    c.in_ok-cmd.cmd c.cwd.result.now (g.W.World.history c.args.world.now)
-    (g.W.World.history c.start_child.new.world) (g.S.Sink.held c.args.out.now) c.args.events.now
-    c.start_child.new.events open_scene node line c.requires.starts
-    (c.cwd.ensures.value ∙ ap (λ v. v.cwd) (sym variables)) c.in_ok-cmd.ensures so
-    c.in_ok-start_child.ensures.done c.in_ok-start_child.ensures.told)
-    (c.in_ok-ended.ensures.done c.args.place.node c.args.place.number) told
-    (subst (Gains (g.S.Sink.held c.args.out.now) (g.S.Sink.held c.write_all.new.sink))
-    (append-nil c.bytes.result.now ∙ c.bytes.ensures.value) c.in_ok-write_all.ensures.done)
+    record {
+      goes = λ scene at. line-ended g.W.World.meaning scene false c.args.place c.args.line.now
+          ended (g.W.World.history c.start_child.new.world) (g.W.World.history c.wait_child.new.world)
+          (g.S.Sink.held c.args.out.now) (g.S.Sink.held c.write_all.new.sink) c.start_child.new.events
+          c.set_last.new.self c.args.made.now.scopes at.0 ticket.0
+          (line-started g.W.World.meaning scene c.args.place c.args.line.now c.in_ok-cmd.cmd c.cwd.result.now
+          (g.W.World.history c.args.world.now) (g.W.World.history c.start_child.new.world)
+          (g.S.Sink.held c.args.out.now) c.args.events.now c.start_child.new.events c.args.made.now.scopes at.0
+          c.requires.starts c.cwd.ensures.value c.in_ok-cmd.ensures at.1 c.in_ok-start_child.ensures.done
+          c.in_ok-start_child.ensures.told)
+          (c.in_ok-ended.ensures.done c.args.place.node c.args.place.number) told
+          (subst (Gains (g.S.Sink.held c.args.out.now) (g.S.Sink.held c.write_all.new.sink))
+          (append-nil c.bytes.result.now ∙ c.bytes.ensures.value) c.in_ok-write_all.ensures.done);
+      ends = tt;
+    }

@@ -51,7 +51,7 @@ returns-clause-ran g c =
     let still : IsIdle (g.W.World.history c.abandon.new.self) =
     λ h is. g.met.W.World.told_children c.abandon.new.self h [] c.abandon.ensures.children is in
     ended-run g.W.World.meaning work c.run_to_end-result.result first now next
-    (c.run_to_end-result.ensures.ended work first (going-first g.W.World.meaning c.args.plan
+    (c.run_to_end-result.ensures.ended (record { start = work; first = first }) (going-first g.W.World.meaning c.args.plan
     c.args.made.now c.args.flags.now history c.in-Ok-new_course.course out
     c.in-Ok-new_course.ensures))
     (called-left g.W.World.meaning _ _ c.abandon.ensures.done) c.events_of.ensures refl idle still

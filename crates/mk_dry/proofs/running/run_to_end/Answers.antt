@@ -7,13 +7,13 @@ use Rattle.mk_dry.proofs.running.run_to_end.Goals as goal
 pub returns-in-Ok-clause-ended : goal.returns-in-Ok-clause-ended
 returns-in-Ok-clause-ended g c =
     let is = c.ended_by.ensures ∙ ap result_of c.take.ensures.value in
-    λ start first at.
-    rw is (ended-over g.W.World.meaning start c.pass_all.new.course
-    (g.W.World.history c.pass_all.new.world) first (g.S.Sink.held c.pass_all.new.out)
-    (c.in-Ok.ensures.over start first at))
+    λ from at.
+    rw is (ended-over g.W.World.meaning from.start c.pass_all.new.course
+    (g.W.World.history c.pass_all.new.world) from.first (g.S.Sink.held c.pass_all.new.out)
+    (c.in-Ok.ensures.goes.goes from at))
 
 pub returns-in-Err-clause-ended : goal.returns-in-Err-clause-ended
-returns-in-Err-clause-ended g c = λ start first at.
-    rw c.from.ensures (ended-halted g.W.World.meaning start c.in-Err.halt first
+returns-in-Err-clause-ended g c = λ from at.
+    rw c.from.ensures (ended-halted g.W.World.meaning from.start c.in-Err.halt from.first
     (moment (g.W.World.history c.pass_all.new.world) (g.S.Sink.held c.pass_all.new.out)
-    c.pass_all.new.course.events) (c.in-Err.ensures.halted start first at))
+    c.pass_all.new.course.events) (c.in-Err.ensures.goes.ends from at))
