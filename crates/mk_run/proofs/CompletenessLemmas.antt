@@ -1,5 +1,5 @@
 -- Runs in which nothing is wrong end well.
-use Rattle.std.proofs.Common.{◌≡◌, ◌∙◌, ◌⊎◌, ℕ, List, [], Option, Some, None, Result, Ok, Err}
+use Rattle.std.proofs.Common.{◌≡◌, ◌∙◌, ◌⊎◌, ℕ, List, Option, Some, None, Result, Ok, Err}
 use Rattle.std.proofs.Common.{inl, inr, refl, sym, ap, subst}
 use Rattle.mk_cli.specs.declared.order.Order.{Order}
 use Rattle.mk_decision.specs.Decisions.{Work}
@@ -25,14 +25,14 @@ use Rattle.mk_world.specs.Talks.{Meaning}
 use Rattle.mk_run.specs.Building as building
 use Rattle.mk_run.specs.Building.{Point, point, unbuilt}
 use Rattle.mk_run.specs.Completeness.{Completes, EndsWell, IsAnswerable, IsExplainable, IsFaultless, IsHindered, IsUnrefused}
-use Rattle.mk_run.specs.Ends.{IsOutside, of_build, of_explain, of_plan, of_query}
+use Rattle.mk_run.specs.Ends.{IsOutside, of_explain, of_plan}
 use Rattle.mk_run.specs.Explaining as explaining
 use Rattle.mk_run.specs.Meaning.{Meant, Outcome, only, prints, explains, queries, shows, builds, by_reading}
 use Rattle.mk_run.specs.Querying as querying
 use Rattle.mk_run.specs.Runs.{Closed, Goes, Held, IsOrderRun, Printed, Stands}
 use Rattle.mk_run.specs.declared.building.Went.{Went}
 use Rattle.mk_run.specs.declared.report.End.{End}
-use Rattle.mk_run.specs.declared.report.End.TheVariants.{Done, NotUpToDate, WorldFault, SinkFault, NoMemory}
+use Rattle.mk_run.specs.declared.report.End.TheVariants.{Done, NotUpToDate, NoMemory}
 use Rattle.mk_run.specs.declared.report.Report.{Report}
 
 outside-hinders : (end : End) → IsOutside end → IsHindered end

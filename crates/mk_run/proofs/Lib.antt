@@ -1,4 +1,5 @@
 pub mod BuildingLemmas
+pub mod CleanRunLemmas
 pub mod CompletenessLemmas
 pub mod MessageLemmas
 pub mod MeaningLemmas

@@ -1,5 +1,5 @@
 -- Runs whose meta files tell what happened.
-use Rattle.std.proofs.Common.{◌≡◌, ◌∙◌, ◌⊎◌, ℕ, List, [], ◌∷◌, ◌++◌, map, Option, Some, None}
+use Rattle.std.proofs.Common.{◌≡◌, ◌∙◌, ℕ, List, [], ◌∷◌, ◌++◌, map, Option, Some, None}
 use Rattle.std.proofs.Common.{inl, inr, refl, sym, ap, subst, append_assoc}
 use Rattle.std.proofs.lemmas.List.{append-nil}
 use Rattle.std.specs.List.{AllByRecursion}
@@ -14,22 +14,25 @@ use Rattle.mk_scopes.specs.declared.scopes.Env.{Env}
 use Rattle.mk_trace.proofs.AlongLemmas.{OnlyAsked, all-append, asked-none, asked-true, built-true}
 use Rattle.mk_trace.specs.TrueBuilds.{IsQuestion}
 use Rattle.mk_world.proofs.CallLemmas.{MayAll-append, after_all-append}
-use Rattle.mk_world.specs.History.{State as Stand, MayAll, after_all, first_state, state_of}
-use Rattle.mk_world.specs.Looks.{Dated, DatesAll, DatesOnce, OnLooks, OnlyLooks, Seen}
-use Rattle.mk_world.specs.Runs.{Looked, Ran, RanAtMost, Same}
+use Rattle.mk_world.specs.History.{State as Stand, MayAll, after_all, files_of, first_state, state_of}
+use Rattle.mk_world.specs.Looks.{Dated, DatesAll, OnlyLooks, Seen}
+use Rattle.mk_world.specs.Runs.{Same}
 use Rattle.mk_world.specs.Talks.{Meaning}
 use Rattle.mk_world.specs.Told.{Told}
 use Rattle.mk_world.specs.declared.history.Happening.{Happening}
 use Rattle.mk_world.specs.declared.history.Happening.TheVariants.{Look, Ask}
 use Rattle.mk_world.specs.declared.history.History.{History}
+use Rattle.mk_run.proofs.CleanRunLemmas.{clean-run, done-before, done-build}
 use Rattle.mk_run.proofs.CompletenessLemmas.{completes}
-use Rattle.mk_run.specs.Building.{Builds, Point, point}
+use Rattle.mk_run.specs.Building.{Point, point}
 use Rattle.mk_run.specs.Explaining.{Explanation}
 use Rattle.mk_run.specs.Meaning.{Meant, only, prints, explains, queries, shows, builds, by_reading}
 use Rattle.mk_run.specs.Querying.{Queries}
 use Rattle.mk_run.specs.Runs.{Followed, Goes, Held, IsOrderRun}
-use Rattle.mk_run.specs.TrueRuns.{Built, IsTrueOrderRun, StaysTrue, build, build_of, built_in, dry}
+use Rattle.mk_run.specs.TrueRuns.{Built, IsTrueOrderRun, LeavesClean, StaysTrue, build, build_of, built_in, dry}
 use Rattle.mk_run.specs.declared.building.Went.{Went}
+use Rattle.mk_run.specs.declared.report.End.{End}
+use Rattle.mk_run.specs.declared.report.End.TheVariants.{Done}
 use Rattle.mk_run.specs.declared.report.Report.{Report}
 
 -- what only asks
@@ -272,6 +275,36 @@ goes-true meaning (builds made flags) old read first last went new asked at is (
         lawful idle truth so_far later events leave
         (λ done rest are now_is. apart planned_then done rest here are now_is)
 
+-- what follows the reading leaves what the clean build leaves
+goes-clean : (meaning : Meaning) (env : Env) (order : Order) (meant : Meant) (end : End) (old read : History)
+    (first last : Point) (went : Went) (new : History) → OnlyAsked meaning old read → first.history ≡ Some read
+    → last.history ≡ Some new → (end ≡ Done → went.end ≡ Done) → (goes : Goes meaning meant first last went)
+    → LeavesClean meaning env order (built_in meaning meant first last went goes) end old new
+goes-clean meaning env order (only outcome) end old read first last went new asked at is well goes = tt
+goes-clean meaning env order (prints variables lists all) end old read first last went new asked at is well goes = tt
+goes-clean meaning env order (explains made flags) end old read first last went new asked at is well goes = tt
+goes-clean meaning env order (queries made flags) end old read first last went new asked at is well goes = tt
+goes-clean meaning env order (shows made flags) end old read first last went new asked at is well (inl unplanned) = tt
+goes-clean meaning env order (shows made flags) end old read first last went new asked at is well (inr shown) = tt
+goes-clean meaning env order (builds made flags) end old read first last went new asked at is well (inl unplanned) = tt
+goes-clean meaning env order (builds made flags) end old read first last went new asked at is well (inr built) =
+    planned built.planned_at refl
+  where
+    planned : (point_at : Option History) → built.planned_at ≡ point_at
+        → LeavesClean meaning env order
+        (Some (build built.planned_at (work_on built.nodes made flags) built.built.true_build.build.tasks
+        built.built.true_build.build.items)) end old new
+    planned None here = absurd (told-before _ here is built.built.true_build.build.told)
+    planned (Some planned_then) here =
+        λ done clean ready.
+        let looked = told-at _ at here built.planned in
+        clean-run meaning env order made flags built.nodes built.built.true_build.build.tasks
+        built.built.true_build.build.items built.planned_at old planned_then new clean (files_of read) here
+        (asked-then meaning old read planned_then asked (looks-ask meaning read planned_then looked.0))
+        looked.1 built.names_differ
+        (told-at _ here is (built.built.clean (done-build built.nodes built.result went.end (well done) built.end)))
+        ready
+
 -- what tells behind a part of a run told before it
 goes-told : (meaning : Meaning) (meant : Meant) (first last : Point) (went : Went) (new : History)
     → first.history ≡ None → last.history ≡ Some new → Goes meaning meant first last went → ⊥
@@ -325,6 +358,26 @@ follows-true meaning env order first last err went old new at is does = read doe
         new (questions-ask meaning does.reads.questions old read_then (told-at (AreAsked meaning does.reads.questions) at here does.reads.asked)) here
         is does.goes
 
+follows-clean : (meaning : Meaning) (env : Env) (order : Order) (first last : Point) (err : Held)
+    (went : Went) (end : End) (old new : History) → first.history ≡ Some old → last.history ≡ Some new
+    → (end ≡ Done → went.end ≡ Done) → (does : Followed meaning env order first last err went)
+    → LeavesClean meaning env order
+    (built_in meaning (by_reading order does.read) (point does.read_at first.out) last went does.goes) end old new
+follows-clean meaning env order first last err went end old new at is well does = read does.read_at refl
+  where
+    read : (read_at : Option History) → does.read_at ≡ read_at
+        → LeavesClean meaning env order
+        (built_in meaning (by_reading order does.read) (point does.read_at first.out) last went does.goes) end old
+        new
+    read None here =
+        absurd (goes-told meaning (by_reading order does.read) (point does.read_at first.out) last went new here
+        is does.goes)
+    read (Some read_then) here =
+        goes-clean meaning env order (by_reading order does.read) end old read_then
+        (point does.read_at first.out) last went new
+        (questions-ask meaning does.reads.questions old read_then
+        (told-at (AreAsked meaning does.reads.questions) at here does.reads.asked)) here is well does.goes
+
 -- every run is one
 pub true-run : {meaning : Meaning} {words : List (List ℕ)} {env : Env} {order : Order} {first last : Point}
     {err : Held} {report : Report} → IsOrderRun meaning words env order first last err report
@@ -332,6 +385,7 @@ pub true-run : {meaning : Meaning} {words : List (List ℕ)} {env : Env} {order 
 true-run {meaning} {words} {env} {order} {first} {last} {err} {report} run = record {
   run = run;
   meta_files = told first.history last.history refl refl;
+  clean = cleaned first.history last.history refl refl;
   complete = completes run;
 }
   where
@@ -344,3 +398,14 @@ true-run {meaning} {words} {env} {order} {first} {last} {err} {report} run = rec
     told (Some old) (Some new) at is =
         follows-true meaning env order first last
         (record { before = err.before; after = run.err_at }) run.went old new at is run.followed
+
+    cleaned : (before after : Option History) → first.history ≡ before → last.history ≡ after
+        → Told before after (LeavesClean meaning env order (build_of run) report.end)
+    cleaned before None at is = tt
+    cleaned None (Some new) at is =
+        absurd (follows-told meaning env order first last
+        (record { before = err.before; after = run.err_at }) run.went new at is run.followed)
+    cleaned (Some old) (Some new) at is =
+        follows-clean meaning env order first last
+        (record { before = err.before; after = run.err_at }) run.went report.end old new at is
+        (done-before words run.went.end report.end _ run.closed) run.followed

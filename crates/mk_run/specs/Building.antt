@@ -7,11 +7,13 @@ use Rattle.mk_decision.specs.Makers.{work_on}
 use Rattle.mk_trace.specs.declared.result.BuildResult.{BuildResult}
 use Rattle.mk_trace.specs.declared.result.BuildResult.TheVariants as build
 use Rattle.mk_flags.specs.declared.Flags.{Flags}
+use Rattle.mk_graph.specs.Nodes as graph
 use Rattle.mk_graph.specs.declared.Made.{Made}
 use Rattle.mk_plan.specs.Plans.{planned}
 use Rattle.mk_plan.specs.Refusals.{IsRefusedBy}
 use Rattle.mk_plan.specs.declared.fault.PlanFault.{PlanFault}
 use Rattle.mk_plan.specs.declared.plan.PlanNode.{PlanNode}
+use Rattle.mk_pool.specs.Pool.{AreDistinct}
 use Rattle.mk_run.specs.Ends.{of_plan, of_build}
 use Rattle.mk_run.specs.declared.building.Went.{Went}
 use Rattle.mk_run.specs.declared.report.End.{End}
@@ -74,6 +76,8 @@ pub record IsBuilt (meaning : Meaning) (made : Made) (flags : Flags) (first last
     pub planned : OnLooks first.history planned_at
         (λ files. planned files made flags.requested flags.query ≡ Ok nodes)
     pub plan : went.plan ≡ names_of nodes
+    -- no two nodes of the graph have one name
+    pub names_differ : AreDistinct (graph.names_of made.graph)
     pub result : BuildResult
     pub built : IsCleanBuild meaning (work_on nodes made flags) result
         (moment planned_at first.out []) (moment last.history last.out went.events)

@@ -14,7 +14,6 @@ use Rattle.mk_plan.specs.declared.fault.PlanFault.{PlanFault}
 use Rattle.mk_plan.specs.declared.fault.PlanFault.TheVariants as plan
 use Rattle.mk_query.specs.declared.result.QueryResult.{QueryResult}
 use Rattle.mk_query.specs.declared.result.QueryResult.TheVariants as query
-use Rattle.mk_reader.specs.declared.fault.ReadFault.{ReadFault}
 use Rattle.mk_scopes.specs.declared.scopes.Env.{Env}
 use Rattle.mk_trace.specs.Runs.{first_failure}
 use Rattle.mk_world.specs.Talks.{Meaning}

@@ -4,7 +4,6 @@ use Rattle.mk_decision.specs.Decisions.{Work}
 use Rattle.mk_decision.specs.Makers.{work_on}
 use Rattle.mk_explain.specs.Turns.{IsExplained, IsStoppedBy, SawFiles}
 use Rattle.mk_explain.specs.declared.fault.ExplainFault.{ExplainFault}
-use Rattle.mk_explain.specs.declared.fault.ExplainFault.TheVariants as explain
 use Rattle.mk_explain.specs.declared.reason.Reason.{Reason}
 use Rattle.mk_flags.specs.declared.Flags.{Flags}
 use Rattle.mk_graph.specs.declared.Made.{Made}

@@ -1,5 +1,6 @@
 pub mod Building
 pub mod Causes
+pub mod CleanRuns
 pub mod Completeness
 pub mod Ends
 pub mod Explaining

@@ -1,5 +1,5 @@
 -- What a run means: what it prints and how it ends, or what it builds.
-use Rattle.std.specs.Prelude.{ℕ, ◌+◌, false, List, [], ◌∷◌, Option, Some, None, Result, Ok, Err}
+use Rattle.std.specs.Prelude.{ℕ, ◌+◌, false, List, [], ◌∷◌, Result, Ok, Err}
 use Rattle.std.specs.Prelude.{unwrap_or, if◌then◌else◌}
 use Rattle.mk_cli.specs.Words as cli
 use Rattle.mk_cli.specs.declared.order.Order.{Order}

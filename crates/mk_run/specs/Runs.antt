@@ -1,7 +1,6 @@
 -- How a run ends, what its sinks gain, and the causes of its faults.
 use Rattle.std.specs.Prelude.{◌≡◌, ◌⊎◌, ℕ, List, [], ◌∷◌, ◌++◌, Option}
 use Rattle.std.specs.Prelude.{Result, Ok, Err}
-use Rattle.mk_bytes.specs.Agrees.{Agrees}
 use Rattle.mk_bytes.specs.Bytes.{newline}
 use Rattle.mk_cli.specs.declared.order.Order.{Order}
 use Rattle.mk_cli.specs.declared.order.Print.{Print}
@@ -25,13 +24,13 @@ use Rattle.mk_world.specs.declared.history.History.{History}
 use Rattle.mk_run.specs.Building.{Point, point, Builds, unbuilt}
 use Rattle.mk_run.specs.Ends.{IsOutside}
 use Rattle.mk_run.specs.Explaining.{Explanation}
-use Rattle.mk_run.specs.Meaning.{Outcome, Meant, only, prints, explains, queries, shows, builds, printed as all_printed, by_reading, ended}
+use Rattle.mk_run.specs.Meaning.{Outcome, Meant, only, prints, explains, queries, shows, builds, printed as all_printed, by_reading}
 use Rattle.mk_run.specs.Messages.{line_of}
 use Rattle.mk_run.specs.Querying.{Queries}
 use Rattle.mk_run.specs.Showing.{Shows}
 use Rattle.mk_run.specs.declared.building.Went.{Went}
 use Rattle.mk_run.specs.declared.report.End.{End}
-use Rattle.mk_run.specs.declared.report.End.TheVariants.{Done, SinkFault, NoMemory}
+use Rattle.mk_run.specs.declared.report.End.TheVariants.{Done, SinkFault}
 use Rattle.mk_run.specs.declared.report.Report.{Report}
 
 -- lines, each with its newline

@@ -1,5 +1,5 @@
--- That the meta files which a run leaves tell what happened.
-use Rattle.std.specs.Prelude.{◌≡◌, ◌⊎◌, ℕ, List, [], ◌++◌, Option, Some, None}
+-- That the meta files which a run leaves tell what happened, and that a build leaves what the clean build leaves.
+use Rattle.std.specs.Prelude.{◌≡◌, ℕ, List, [], ◌++◌, Option, Some, None}
 use Rattle.std.proofs.Common.{inl, inr}
 use Rattle.std.specs.List.{AllByRecursion}
 use Rattle.mk_cli.specs.declared.order.Order.{Order}
@@ -11,17 +11,20 @@ use Rattle.mk_scopes.specs.declared.scopes.Env.{Env}
 use Rattle.mk_trace.specs.Items.{Item}
 use Rattle.mk_trace.specs.Runs.{Tasks}
 use Rattle.mk_trace.specs.TrueBuilds.{IsApart, LeavesFiles, behind, longer}
-use Rattle.mk_world.specs.History.{state_of}
+use Rattle.mk_world.specs.History.{files_of, state_of}
 use Rattle.mk_world.specs.Lawful.{IsLawful}
 use Rattle.mk_world.specs.Talks.{Meaning}
 use Rattle.mk_world.specs.Told.{Told}
 use Rattle.mk_world.specs.declared.history.Happening.{Happening}
 use Rattle.mk_world.specs.declared.history.History.{History}
 use Rattle.mk_run.specs.Building.{Point, point}
+use Rattle.mk_run.specs.CleanRuns.{IsReadyRun, LeavesCleanFiles, bare}
 use Rattle.mk_run.specs.Completeness.{Completes}
 use Rattle.mk_run.specs.Meaning.{Meant, only, prints, explains, queries, shows, builds, by_reading}
 use Rattle.mk_run.specs.Runs.{Goes, Held, IsOrderRun}
 use Rattle.mk_run.specs.declared.building.Went.{Went}
+use Rattle.mk_run.specs.declared.report.End.{End}
+use Rattle.mk_run.specs.declared.report.End.TheVariants.{Done}
 use Rattle.mk_run.specs.declared.report.Report.{Report}
 
 -- what a run built or showed: what the history held when its plan was made, and what a build did
@@ -71,11 +74,22 @@ StaysTrue meaning built old new =
     → AllByRecursion LeavesFiles so_far → KeptApart built (longer old so_far)
     → IsTrueHistory meaning.next (longer old so_far)
 
+-- Where a run has built and all is made, and it was ready for that, it leaves what the clean build of what its words
+-- ask for leaves: the one that reads and plans anew.
+abbrev pub LeavesClean : Meaning → Env → Order → Option Built → End → History → History → Type 0
+LeavesClean meaning env order None end old new = Unit {0}
+LeavesClean meaning env order (Some (dry planned_at)) end old new = Unit {0}
+LeavesClean meaning env order (Some (build planned_at work tasks items)) end old new =
+    end ≡ Done → (clean : Work) → IsReadyRun meaning env order planned_at work tasks old clean
+    → LeavesCleanFiles meaning work tasks items old new clean (bare work.plan (files_of old))
+
 -- A run, whose meta files tell what happened where those before it did: whatever it is that was built,
--- printed or refused, and however the run ended. Where nothing is wrong it ends well.
+-- printed or refused, and however the run ended. Where it has built all, it leaves what the clean build leaves, and
+-- where nothing is wrong it ends well.
 pub record IsTrueOrderRun (meaning : Meaning) (words : List (List ℕ)) (env : Env) (order : Order)
     (first last : Point) (err : Held) (report : Report) : Type 0
   where
     pub run : IsOrderRun meaning words env order first last err report
     pub meta_files : Told first.history last.history (StaysTrue meaning (build_of run))
+    pub clean : Told first.history last.history (LeavesClean meaning env order (build_of run) report.end)
     pub complete : Completes run

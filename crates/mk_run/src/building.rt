@@ -1,7 +1,9 @@
 //! Builds of the targets that are asked for.
 ghost use Rattle.std.specs.Prelude.{◌≡◌, List, [], Option, Ok, IfOk};
 ghost use Rattle.mk_world.specs.Looks.{OnLooks};
+ghost use Rattle.mk_graph.specs.Nodes.{names_of as graph_names};
 ghost use Rattle.mk_plan.specs.Plans.{node_at, planned};
+ghost use Rattle.mk_pool.specs.Pool.{AreDistinct};
 ghost use Rattle.mk_plan.specs.declared.plan.PlanNode.{PlanNode};
 ghost use Rattle.mk_run.specs.Building as spec;
 ghost use Rattle.mk_run.specs.Causes as runs;
@@ -84,6 +86,13 @@ pub fn end_by(alloc: Global, names: &Texts, ended: BuildResult) -> End
     }
 }
 
+// No two nodes of a graph have one name. Does nothing.
+fn names_differ(made: &Made)
+    ensures { AreDistinct (graph_names made.now.graph) }
+{
+    let _nodes = made.graph.len();
+}
+
 // Builds a plan.
 fn build_plan<W: World, S: Sink>(
     alloc: Global,
@@ -108,6 +117,7 @@ fn build_plan<W: World, S: Sink>(
     let Ok(names) = names_of(alloc, plan) else {
         return unbuilt(alloc, End::NoMemory);
     };
+    names_differ(made);
     let built = build(alloc, plan, made, flags, world, out);
     Went {
         end: end_by(alloc, &names, built.result),

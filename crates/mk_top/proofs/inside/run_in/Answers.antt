@@ -1,7 +1,14 @@
 use Rattle.std.proofs.lemmas.Result.{err_from_is_err_and}
 use Rattle.mk_top.specs.Inside as spec
-use Rattle.mk_top.proofs.InsideLemmas.{between-stops, second-stops}
+use Rattle.mk_top.proofs.InsideLemmas.{between-stops, first-stops, second-stops}
 use Rattle.mk_top.proofs.inside.run_in.Goals as goal
+
+pub returns-in_err-first-clause-ended : goal.returns-in_err-first-clause-ended
+returns-in_err-first-clause-ended c =
+    let exit = err_from_is_err_and c.from_residual.result c.from_residual.ensures.1 in
+    rw (exit.1, exit.2)
+    (first-stops c.args.n c.args.world c.make_all.new.world c.in_err-first.field-0.0 c.requires.new
+    c.in_err-first.ensures.stops)
 
 pub returns-in_err-second-clause-ended : goal.returns-in_err-second-clause-ended
 returns-in_err-second-clause-ended c =

@@ -1,0 +1,18 @@
+//! What runs of the makefile leave.
+ghost use Rattle.mk_example.specs.Copies.{CopiesAreRight, EditedWorldsAreReady, NewWorldsAreReady};
+
+/// Each run of the makefile that ends with all made leaves in its target the bytes of its source, and the makefile and the
+/// source as they were: by the contract of `run` and no other.
+pub fn copies_are_right()
+    ensures { CopiesAreRight }
+{}
+
+/// A new world in memory that holds the makefile and its source is ready for such a run.
+pub fn new_worlds_are_ready()
+    ensures { NewWorldsAreReady }
+{}
+
+/// Where the source is changed behind a run, the world is ready for the next one.
+pub fn edited_worlds_are_ready()
+    ensures { EditedWorldsAreReady }
+{}

@@ -1,0 +1,9 @@
+//! A makefile of one target in the world in memory, for which all that is asked of a run is shown: so what a run of it
+//! leaves follows from the contract of the top call alone, whatever was edited and built before.
+//!
+//! No code stands here but the laws, each the contract of a function.
+#![tactic(auto)]
+
+mod law;
+
+pub use law::{copies_are_right, edited_worlds_are_ready, new_worlds_are_ready};
