@@ -136,6 +136,49 @@ count 'nothing is left to do behind many jobs' "$(build -j 64)$(printed '')"
 echo 3 >h
 count 'each of them is made again' "$(build -j 64)$([ "$(grep -c 3 all)" = 256 ] || echo 'all is not whole')"
 
+# Many jobs, and few processes and open files: what cannot be started then is a fault of the outside or fails, which
+# is told in a last line, and the next run makes what is left. Root has no such limit, so it becomes nobody.
+nobody=
+[ "$(id -u)" != 0 ] || nobody='setpriv --reuid=65534 --regid=65534 --clear-groups'
+mkdir "$room/few" && cd "$room/few" || exit 1
+cat >makefile <<'END'
+.MAKE.MODE=meta curdirOk=yes missing-meta=yes
+PARTS=${:U:range=256:S/^/p/}
+all: ${PARTS}
+.for p in ${PARTS}
+$p:
+	@sleep 0.2; echo $p >$p
+.endfor
+END
+cp "$program" bmake
+chmod 711 "$room"
+chmod 777 . "$TMPDIR"
+few() {
+    # The word is split where it is used.
+    # shellcheck disable=SC2086
+    $nobody bash -c "ulimit -u $1; ulimit -n 64; exec ./bmake -j 256" >out 2>err </dev/null
+    case $? in
+        0) ;;
+        1 | 3) tail -n 1 err | grep -q '^bmake: ' || printf 'no last line: %s; ' "$(head -c 200 err)" ;;
+        *) printf 'status %s: %s; ' $? "$(head -c 200 err)" ;;
+    esac
+}
+rest() {
+    # shellcheck disable=SC2086
+    $nobody ./bmake -j 8 >out 2>err </dev/null || printf 'status %s: %s; ' $? "$(head -c 200 err)"
+    for part in $(seq 256); do [ "$(cat "p$part")" = "p$part" ] || printf 'p%s is not whole; ' "$part"; done
+    [ -z "$(ls "$TMPDIR")" ] || printf 'left behind: %s; ' "$(ls "$TMPDIR")"
+}
+if $nobody ./bmake --version >/dev/null 2>&1; then
+    for limit in 1000 300 60; do
+        count "256 jobs, $limit processes and 64 open files" "$(few "$limit")"
+        count "the run behind 256 jobs with $limit processes" "$(rest)"
+        rm -f p*
+    done
+else
+    echo 'skipped: few processes and open files (nobody may not run the program here)'
+fi
+
 # Runs that are killed with all their children, after an edit: the next run makes what a clean build
 # makes, and then there is nothing left to do.
 mkdir "$room/killed" && cd "$room/killed" || exit 1

@@ -5,7 +5,7 @@ use crate::fault::Trouble;
 use std::alloc::Global;
 
 /// A line with a directive, with what stands behind it on the line and in its body.
-#[derive(Debug, Drop)]
+#[derive(Drop)]
 pub struct Item<'t> {
     pub line: u32,
     pub directive: Directive,
@@ -14,14 +14,14 @@ pub struct Item<'t> {
 }
 
 /// A run or a change of a file, with what is wanted of it.
-#[derive(Debug, Drop)]
+#[derive(Drop)]
 pub struct Step<'t> {
     pub item: Item<'t>,
     pub wants: Vec<Item<'t>>,
 }
 
 /// A case: its head, what stands before its steps, and these.
-#[derive(Debug, Drop)]
+#[derive(Drop)]
 pub struct Case<'t> {
     pub head: Item<'t>,
     pub setup: Vec<Item<'t>>,

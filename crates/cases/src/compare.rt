@@ -3,20 +3,27 @@ use crate::case::{Item, Step, find};
 use crate::directive::Directive;
 use crate::fault::Trouble;
 use crate::found::{Found, Turn};
+use crate::idle::IdleWorld;
 use crate::kinds::{Counted, Counts, kind_named};
 use crate::shown::{end_text, events_text, plan_text};
 use itoa::Buffer;
 use mk_bytes::NoMemory;
-use mk_memworld::{CallKind, MemSink, MemWorld};
+use mk_memworld::{CallKind, MemSink};
 use mk_top::Report;
 use std::alloc::Global;
+
+/// Standard output and standard error of a run.
+#[derive(Drop)]
+pub struct Sinks {
+    pub out: MemSink,
+    pub err: MemSink,
+}
 
 /// What a run came to.
 #[derive(Drop)]
 pub struct Ran {
     pub report: Report,
-    pub out: MemSink,
-    pub err: MemSink,
+    pub sinks: Sinks,
     /// The calls of the world before it and after it.
     pub before: Counts,
     pub after: Counts,
@@ -84,16 +91,10 @@ fn compare_after(
     found: &mut Found,
     item: &Item,
     turn: Turn,
-    world: &MemWorld,
+    world: &IdleWorld,
 ) -> Result<(), NoMemory> {
     match world.file(item.rest.as_bytes()) {
-        Some(text) => found.compare(
-            item.directive,
-            item.line,
-            turn,
-            item.body.as_slice(),
-            text.bytes(),
-        ),
+        Some(got) => found.compare(item.directive, item.line, turn, item.body.as_slice(), got),
         None => found.compare(item.directive, item.line, turn, b"a file", b"no file"),
     }
 }
@@ -102,7 +103,7 @@ fn compare_missing(
     found: &mut Found,
     item: &Item,
     turn: Turn,
-    world: &MemWorld,
+    world: &IdleWorld,
 ) -> Result<(), NoMemory> {
     match world.file(item.rest.as_bytes()) {
         Some(_) => found.compare(item.directive, item.line, turn, b"no file", b"a file"),
@@ -110,12 +111,12 @@ fn compare_missing(
     }
 }
 
-// How many calls of a kind a run made.
-fn made(ran: &Ran, kind: Counted) -> u64 {
+/// How many calls of a kind a run made.
+pub fn made(ran: &Ran, kind: Counted) -> u64 {
     match kind {
         Counted::Call(call) => ran.after.get(call).saturating_sub(ran.before.get(call)),
-        Counted::Out => ran.out.calls(CallKind::Write),
-        Counted::Err => ran.err.calls(CallKind::Write),
+        Counted::Out => ran.sinks.out.calls(CallKind::Write),
+        Counted::Err => ran.sinks.err.calls(CallKind::Write),
     }
 }
 
@@ -169,7 +170,7 @@ fn compare_left(
     found: &mut Found,
     step: &Step,
     turn: Turn,
-    world: &MemWorld,
+    world: &IdleWorld,
 ) -> Result<(), NoMemory> {
     for item in step.wants.as_slice() {
         match item.directive {
@@ -208,14 +209,14 @@ pub fn compare(
     step: &Step,
     turn: Turn,
     ran: &Ran,
-    world: &MemWorld,
+    world: &IdleWorld,
 ) -> Result<(), Trouble> {
     compare_status(found, step, turn, &ran.report)?;
     compare_left(found, step, turn, world)?;
     if turn.seed == 0 {
         compare_end(alloc, found, step, turn, &ran.report)?;
-        compare_sink(found, step, turn, Directive::Out, &ran.out)?;
-        compare_sink(found, step, turn, Directive::Err, &ran.err)?;
+        compare_sink(found, step, turn, Directive::Out, &ran.sinks.out)?;
+        compare_sink(found, step, turn, Directive::Err, &ran.sinks.err)?;
         compare_done(alloc, found, step, turn, ran)?;
     }
     Ok(())

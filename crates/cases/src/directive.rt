@@ -1,7 +1,7 @@
 //! The words with which lines of a case begin.
 
 /// What a line of a case says.
-#[derive(Clone, Copy, Debug, PartialEq, Eq)]
+#[derive(Clone, Copy, PartialEq, Eq)]
 pub enum Directive {
     Case,
     File,
@@ -10,6 +10,8 @@ pub enum Directive {
     Schedule,
     Schedules,
     Fail,
+    Made,
+    Refused,
     Run,
     Edit,
     Remove,
@@ -25,7 +27,7 @@ pub enum Directive {
 }
 
 /// Where a line may stand in a case.
-#[derive(Clone, Copy, Debug, PartialEq, Eq)]
+#[derive(Clone, Copy, PartialEq, Eq)]
 pub enum Place {
     /// At its beginning.
     Head,
@@ -37,7 +39,7 @@ pub enum Place {
     Want,
 }
 
-const NAMES: [(Directive, &str, Place); 19] = [
+const NAMES: [(Directive, &str, Place); 21] = [
     (Directive::Case, "case", Place::Head),
     (Directive::File, "file", Place::Setup),
     (Directive::Environment, "environment", Place::Setup),
@@ -45,6 +47,8 @@ const NAMES: [(Directive, &str, Place); 19] = [
     (Directive::Schedule, "schedule", Place::Setup),
     (Directive::Schedules, "schedules", Place::Setup),
     (Directive::Fail, "fail", Place::Setup),
+    (Directive::Made, "made", Place::Setup),
+    (Directive::Refused, "refused", Place::Setup),
     (Directive::Run, "run", Place::Step),
     (Directive::Edit, "edit", Place::Step),
     (Directive::Remove, "remove", Place::Step),
@@ -61,7 +65,8 @@ const NAMES: [(Directive, &str, Place); 19] = [
 
 /// The directive of a name.
 pub fn named(word: &str) -> Option<Directive> {
-    for (directive, name, _) in NAMES {
+    for row in &NAMES {
+        let (directive, name, _) = *row;
         if name == word {
             return Some(directive);
         }
@@ -72,7 +77,8 @@ pub fn named(word: &str) -> Option<Directive> {
 impl Directive {
     /// Its name.
     pub fn name(self) -> &'static str {
-        for (directive, name, _) in NAMES {
+        for row in &NAMES {
+            let (directive, name, _) = *row;
             if directive == self {
                 return name;
             }
@@ -82,7 +88,8 @@ impl Directive {
 
     /// Where it may stand.
     pub fn place(self) -> Place {
-        for (directive, _, place) in NAMES {
+        for row in &NAMES {
+            let (directive, _, place) = *row;
             if directive == self {
                 return place;
             }

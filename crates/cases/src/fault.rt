@@ -3,7 +3,7 @@ use mk_bytes::NoMemory;
 use std::alloc::{AllocError, AllocFailed};
 
 /// Why cases are not run.
-#[derive(Clone, Copy, Debug, PartialEq, Eq)]
+#[derive(Clone, Copy, PartialEq, Eq)]
 pub enum Trouble {
     /// The line with this number is not as the format has it.
     Bad(u32),

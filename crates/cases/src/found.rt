@@ -4,7 +4,7 @@ use mk_bytes::{NoMemory, Text};
 use std::alloc::Global;
 
 /// A run of a case, counted from 1, under a generated schedule, or under the case's own, which is 0.
-#[derive(Clone, Copy, Debug)]
+#[derive(Clone, Copy)]
 pub struct Turn {
     pub run: u32,
     pub seed: u32,

@@ -2,32 +2,48 @@
 use crate::case::{Case, Item};
 use crate::directive::Directive;
 use crate::fault::Trouble;
-use mk_bytes::Items;
+use mk_bytes::{Items, NoMemory};
 use mk_memworld::{CallKind, Fail, Fails, MemWorld};
 use std::alloc::Global;
 
 /// What is counted: calls of the world, or writes to one of the sinks.
-#[derive(Clone, Copy, Debug, PartialEq, Eq)]
+#[derive(Clone, Copy, PartialEq, Eq)]
 pub enum Counted {
     Call(CallKind),
     Out,
     Err,
 }
 
+/// All that is counted, by its names.
+pub const KINDS: [(&str, Counted); 10] = [
+    ("read", Counted::Call(CallKind::Read)),
+    ("time", Counted::Call(CallKind::Time)),
+    ("stamp", Counted::Call(CallKind::Stamp)),
+    ("put", Counted::Call(CallKind::Put)),
+    ("remove", Counted::Call(CallKind::Remove)),
+    ("ask", Counted::Call(CallKind::Ask)),
+    ("start", Counted::Call(CallKind::Start)),
+    ("wait", Counted::Call(CallKind::WaitAny)),
+    ("out", Counted::Out),
+    ("err", Counted::Err),
+];
+
 /// What a name counts.
 pub fn kind_named(name: &str) -> Option<Counted> {
-    match name {
-        "read" => Some(Counted::Call(CallKind::Read)),
-        "time" => Some(Counted::Call(CallKind::Time)),
-        "stamp" => Some(Counted::Call(CallKind::Stamp)),
-        "put" => Some(Counted::Call(CallKind::Put)),
-        "remove" => Some(Counted::Call(CallKind::Remove)),
-        "ask" => Some(Counted::Call(CallKind::Ask)),
-        "start" => Some(Counted::Call(CallKind::Start)),
-        "wait" => Some(Counted::Call(CallKind::WaitAny)),
-        "out" => Some(Counted::Out),
-        "err" => Some(Counted::Err),
-        _ => None,
+    for row in &KINDS {
+        let (one, kind) = *row;
+        if one == name {
+            return Some(kind);
+        }
+    }
+    None
+}
+
+// The call that fails where one of these does.
+fn call_of(kind: Counted) -> CallKind {
+    match kind {
+        Counted::Call(call) => call,
+        Counted::Out | Counted::Err => CallKind::Write,
     }
 }
 
@@ -44,10 +60,7 @@ fn fail(call: CallKind, nth: &str, left: Option<&str>) -> Option<Fail> {
 fn failing(rest: &str) -> Option<(Counted, Fail)> {
     let (name, numbers) = rest.split_once(' ')?;
     let kind = kind_named(name)?;
-    let call = match kind {
-        Counted::Call(call) => call,
-        Counted::Out | Counted::Err => CallKind::Write,
-    };
+    let call = call_of(kind);
     let fail = match numbers.split_once(' ') {
         Some((nth, left)) => fail(call, nth, Some(left))?,
         None => fail(call, numbers, None)?,
@@ -56,7 +69,7 @@ fn failing(rest: &str) -> Option<(Counted, Fail)> {
 }
 
 /// Where calls fail: in the world, or in one of the sinks.
-#[derive(Clone, Copy, Debug, PartialEq, Eq)]
+#[derive(Clone, Copy, PartialEq, Eq)]
 pub enum Where {
     World,
     Out,
@@ -92,8 +105,24 @@ pub fn fails_of(alloc: Global, case: &Case, place: Where) -> Result<Fails, Troub
     Ok(fails)
 }
 
+/// One call that fails, where it is one of this place: the nth of its kind, behind which so many bytes stand.
+pub fn one_fail(
+    alloc: Global,
+    kind: Counted,
+    nth: u32,
+    left: Option<usize>,
+    place: Where,
+) -> Result<Fails, NoMemory> {
+    let mut fails = Items::new(alloc, 0)?;
+    if is_there(kind, place) {
+        let call = call_of(kind);
+        fails.push(Fail { call, nth, left })?;
+    }
+    Ok(fails)
+}
+
 /// How many calls of each kind were made.
-#[derive(Clone, Copy, Debug)]
+#[derive(Clone, Copy)]
 pub struct Counts {
     read: u64,
     time: u64,

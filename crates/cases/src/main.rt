@@ -2,13 +2,17 @@
 //! a case wants is printed, and then how many cases pass and how many do not (docs/CASES.md).
 #![tactic(auto)]
 
+mod before;
 mod body;
 mod case;
+mod clean;
 mod compare;
 mod directive;
 mod fault;
 mod found;
+mod idle;
 mod kinds;
+mod refused;
 mod running;
 mod setup;
 mod shown;

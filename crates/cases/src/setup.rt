@@ -1,14 +1,16 @@
 //! Where the runs of a case stand: their world, their environment and their schedule.
-ghost use Rattle.std.specs.Prelude.{◌≡◌, [], IsTrue, IfOk};
+ghost use Rattle.std.specs.Prelude.{IsTrue, IfOk};
 ghost use Rattle.mk_bytes.specs.Paths.{is_clean_directory as is_clean};
-ghost use Rattle.mk_world.specs.History.{state_of, tickets_of};
+ghost use Rattle.mk_memworld.specs.Base.{are_clean as can_stand};
 
 use crate::case::{Case, Item, find};
+use crate::compare::{Ran, Sinks};
 use crate::directive::Directive;
 use crate::fault::Trouble;
+use crate::idle::IdleWorld;
 use crate::kinds::{Where, fails_of};
-use mk_bytes::{Items, NoMemory, Pair, Pairs, Text, is_clean_directory};
-use mk_memworld::{MemWorld, Turns, are_clean};
+use mk_bytes::{Items, NoMemory, Pair, Pairs, Text, Texts, is_clean_directory};
+use mk_memworld::{Fails, MemSink, MemWorld, Turns, are_clean};
 use mk_scopes::Env;
 use std::alloc::Global;
 
@@ -37,7 +39,8 @@ fn files_of(alloc: Global, case: &Case) -> Result<Pairs, NoMemory> {
 
 fn default_variables(alloc: Global) -> Result<Pairs, NoMemory> {
     let mut variables = Items::new(alloc, 0)?;
-    for (name, value) in ENVIRONMENT {
+    for row in &ENVIRONMENT {
+        let (name, value) = *row;
         variables.push(pair(alloc, name, value.as_bytes())?)?;
     }
     Ok(variables)
@@ -136,15 +139,70 @@ pub fn generated(alloc: Global, seed: u32) -> Result<Turns, NoMemory> {
     Ok(turns)
 }
 
-/// The world of a case, under a schedule.
-pub fn world_of(alloc: Global, case: &Case, schedule: Turns) -> Result<MemWorld, Trouble>
-    ensures { IfOk result (λ world. tickets_of (state_of world.chronicle).children ≡ []) }
+fn new_world(
+    alloc: Global,
+    cwd: Text,
+    files: Pairs,
+    schedule: Turns,
+    fails: Fails,
+) -> Result<IdleWorld, NoMemory>
+    requires directory { IsTrue (is_clean cwd) }
+    requires clean { IsTrue (can_stand cwd files) }
 {
+    let world = MemWorld::new(alloc, cwd, files, schedule, fails)?;
+    Ok(IdleWorld::of(world))
+}
+
+/// The world of a case, under a schedule, in which these calls fail.
+pub fn world_with(
+    alloc: Global,
+    case: &Case,
+    schedule: Turns,
+    fails: Fails,
+) -> Result<IdleWorld, Trouble> {
     let cwd = directory_of(alloc, case)?;
     let files = files_of(alloc, case)?;
-    let fails = fails_of(alloc, case, Where::World)?;
     if !is_clean_directory(cwd.bytes()) || !are_clean(alloc, &cwd, &files)? {
         return Err(Trouble::Bad(case.head.line));
     }
-    Ok(MemWorld::new(alloc, cwd, files, schedule, fails)?)
+    Ok(new_world(alloc, cwd, files, schedule, fails)?)
+}
+
+/// The world of a case, under a schedule.
+pub fn world_of(alloc: Global, case: &Case, schedule: Turns) -> Result<IdleWorld, Trouble> {
+    let fails = fails_of(alloc, case, Where::World)?;
+    world_with(alloc, case, schedule, fails)
+}
+
+/// Sinks in which these writes fail.
+pub fn sinks_with(alloc: Global, out: Fails, err: Fails) -> Result<Sinks, NoMemory> {
+    let out = MemSink::new(alloc, out)?;
+    let err = MemSink::new(alloc, err)?;
+    Ok(Sinks { out, err })
+}
+
+/// The sinks of a run of a case.
+pub fn sinks_of(alloc: Global, case: &Case) -> Result<Sinks, Trouble> {
+    let out = fails_of(alloc, case, Where::Out)?;
+    let err = fails_of(alloc, case, Where::Err)?;
+    Ok(sinks_with(alloc, out, err)?)
+}
+
+/// Sinks in which no write fails.
+pub fn unrefused(alloc: Global) -> Result<Sinks, NoMemory> {
+    let out = Items::new(alloc, 0)?;
+    let err = Items::new(alloc, 0)?;
+    sinks_with(alloc, out, err)
+}
+
+/// Runs these words in a world of a case.
+pub fn run_words(
+    alloc: Global,
+    case: &Case,
+    words: &Texts,
+    sinks: Sinks,
+    world: &mut IdleWorld,
+) -> Result<Ran, Trouble> {
+    let env = environment_of(alloc, case)?;
+    Ok(world.run(alloc, words, &env, sinks))
 }
