@@ -1,0 +1,24 @@
+//! What evaluations, judgements and explanations are by.
+ghost use Rattle.mk_same.specs.Answered.{TasksAreByAnswers, ValuesAreByAnswers};
+ghost use Rattle.mk_same.specs.Judged.{ExplanationsAreByFiles, JudgementsAreByFiles};
+
+/// What a tree or a condition gives is by the answers to the paths that it asks `exists` of, and by no others.
+pub fn values_are_by_their_answers()
+    ensures { ValuesAreByAnswers }
+{}
+
+/// And so is the task of a node.
+pub fn tasks_are_by_their_answers()
+    ensures { TasksAreByAnswers }
+{}
+
+/// Two judgements of a node by looks at the same files have the same task and the same reason to make it, or none.
+pub fn judgements_are_by_files()
+    ensures { JudgementsAreByFiles }
+{}
+
+/// So `--explain` tells the same of the same files, whatever was looked at and in whatever order: the nodes, their
+/// reasons and their lines.
+pub fn explanations_are_by_files()
+    ensures { ExplanationsAreByFiles }
+{}

@@ -1,0 +1,11 @@
+//! That what is evaluated, judged and explained by the same files is the same.
+//!
+//! No code stands here but the laws, each the contract of a function.
+#![tactic(auto)]
+
+mod law;
+
+pub use law::{
+    explanations_are_by_files, judgements_are_by_files, tasks_are_by_their_answers,
+    values_are_by_their_answers,
+};
