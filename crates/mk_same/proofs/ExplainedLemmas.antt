@@ -19,11 +19,11 @@ judgements_are_by_files work node files one other task again why reason answered
     let same = judged-same files work node one other task again why reason answered fits judged also in
     (same.task_is, same.why_is)
 
-abbrev seen_in : Turn → List Seen
+abbrev pub seen_in : Turn → List Seen
 seen_in (quiet seen) = seen
 seen_in (tells seen reason) = seen
 
-abbrev reasons_in : Turn → List Reason
+abbrev pub reasons_in : Turn → List Reason
 reasons_in (quiet seen) = []
 reasons_in (tells seen reason) = reason ∷ []
 
@@ -90,12 +90,12 @@ turn-same work node files (tells one reason) (tells other again) answered fits i
   work_is = refl;
 }
 
-looks-first : (files : FileMap) (one : Turn) (turns : List Turn) → AreAnswered files (looks_of (one ∷ turns))
+pub looks-first : (files : FileMap) (one : Turn) (turns : List Turn) → AreAnswered files (looks_of (one ∷ turns))
     → AreAnswered files (seen_in one) × AreAnswered files (looks_of turns)
 looks-first files (quiet seen) turns answered = all-parts (IsAnswered files) seen (looks_of turns) answered
 looks-first files (tells seen reason) turns answered = all-parts (IsAnswered files) seen (looks_of turns) answered
 
-reasons-first : (one : Turn) (turns : List Turn) → reasons_of (one ∷ turns) ≡ reasons_in one ++ reasons_of turns
+pub reasons-first : (one : Turn) (turns : List Turn) → reasons_of (one ∷ turns) ≡ reasons_in one ++ reasons_of turns
 reasons-first (quiet seen) turns = refl
 reasons-first (tells seen reason) turns = refl
 

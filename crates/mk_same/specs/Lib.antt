@@ -1,2 +1,4 @@
 pub mod Answered
 pub mod Judged
+pub mod Shown
+pub mod ShownRuns

@@ -1,6 +1,8 @@
 //! What evaluations, judgements and explanations are by.
 ghost use Rattle.mk_same.specs.Answered.{TasksAreByAnswers, ValuesAreByAnswers};
 ghost use Rattle.mk_same.specs.Judged.{ExplanationsAreByFiles, JudgementsAreByFiles};
+ghost use Rattle.mk_same.specs.Shown.{ShownAreExplained};
+ghost use Rattle.mk_same.specs.ShownRuns.{ShownRunsAreExplained};
 
 /// What a tree or a condition gives is by the answers to the paths that it asks `exists` of, and by no others.
 pub fn values_are_by_their_answers()
@@ -21,4 +23,14 @@ pub fn judgements_are_by_files()
 /// reasons and their lines.
 pub fn explanations_are_by_files()
     ensures { ExplanationsAreByFiles }
+{}
+
+/// A dry run shows the nodes that `--explain` tells of, in the same order, where no line has a `+`.
+pub fn shown_nodes_are_explained()
+    ensures { ShownAreExplained }
+{}
+
+/// So a run with `-n` shows the targets that one with `--explain` on the same files tells of.
+pub fn shown_runs_are_explained()
+    ensures { ShownRunsAreExplained }
 {}
