@@ -5,7 +5,7 @@ use mk_cond::{CmpOp, Cond, CondFault, Form, Fun, parse_cond};
 use std::alloc::Global;
 
 // What is seen of a condition.
-#[derive(Clone, Copy, Debug, PartialEq, Eq)]
+#[derive(Clone, Copy, PartialEq, Eq)]
 enum Shape {
     Any(usize),
     All(usize),

@@ -1,11 +1,8 @@
 //! What conditions ask of a graph that was read, over a world in memory.
-ghost use Rattle.std.specs.Prelude.{IsTrue};
-ghost use Rattle.mk_expand.specs.Facts.{is_fact};
-
 use crate::suffixes::world;
 use crate::texts::texts;
 use crate::variables::scopes;
-use mk_bytes::{Items, NoMemory};
+use mk_bytes::{Items, NoMemory, Texts};
 use mk_cond::Fun;
 use mk_expand::Facts;
 use mk_graph::{Attr, Graph, Made, Mode};
@@ -63,13 +60,16 @@ fn mode(alloc: Global) -> Result<Mode, NoMemory> {
     })
 }
 
-/// What is left by a makefile with that target, which is the main one.
-pub fn made(rt: &impl Abort, alloc: Global) -> Result<Made, PoolFault> {
-    let graph = graph(alloc)?;
+// What is left by a makefile that sets no variables, where the rest is given.
+fn made_of(
+    rt: &impl Abort,
+    alloc: Global,
+    graph: Graph,
+    suffixes: Texts,
+    main: Texts,
+    mode: Mode,
+) -> Result<Made, NoMemory> {
     let scopes = scopes(rt, alloc)?;
-    let mode = mode(alloc)?;
-    let main = texts(alloc, &[b"t"])?;
-    let suffixes = Items::new(alloc, 0)?;
     Ok(Made {
         scopes,
         graph,
@@ -79,62 +79,81 @@ pub fn made(rt: &impl Abort, alloc: Global) -> Result<Made, PoolFault> {
     })
 }
 
-// The argument of a function of a condition, the requested names, and the answer, where there is a
-// file `a`.
-type Row = (Bytes, &'static [Bytes], bool);
-
-const TARGETS: [Row; 2] = [(b"t", &[], true), (b"a", &[], false)];
-
-const COMMANDS: [Row; 2] = [(b"t", &[], true), (b"a", &[], false)];
-
-const FILES: [Row; 2] = [(b"a", &[], true), (b"q", &[], false)];
-
-const REQUESTS: [Row; 4] = [
-    (b"?", &[], true),
-    (b"x*", &[], false),
-    (b"x*", &[b"xy"], true),
-    (b"t", &[b"xy"], false),
-];
-
-fn is_told(
-    alloc: Global,
-    memory: &mut MemWorld,
-    made: &Made,
-    fun: Fun,
-    row: Row,
-) -> Result<bool, NoMemory>
-    requires { IsTrue (is_fact fun) }
-{
-    let (argument, requested, wanted) = row;
-    let requested = texts(alloc, requested)?;
-    let mut asked = Vec::new(alloc);
-    let mut facts = MadeFacts::new(made, &requested, memory, &mut asked);
-    Ok(facts.fact(alloc, fun, argument) == Ok(wanted))
+/// What is left by a makefile with that target, which is the main one.
+pub fn made(rt: &impl Abort, alloc: Global) -> Result<Made, PoolFault> {
+    let suffixes = Items::new(alloc, 0)?;
+    let main = texts(alloc, &[b"t"])?;
+    let mode = mode(alloc)?;
+    let graph = graph(alloc)?;
+    let made = made_of(rt, alloc, graph, suffixes, main, mode)?;
+    Ok(made)
 }
 
-fn all_told(
+// A function of a condition, its argument, the requested names, and the answer, where there is a
+// file `a`.
+type Row = (Fun, Bytes, &'static [Bytes], bool);
+
+const ROWS: [Row; 10] = [
+    (Fun::Target, b"t", &[], true),
+    (Fun::Target, b"a", &[], false),
+    (Fun::Commands, b"t", &[], true),
+    (Fun::Commands, b"a", &[], false),
+    (Fun::Exists, b"a", &[], true),
+    (Fun::Exists, b"q", &[], false),
+    (Fun::Make, b"?", &[], true),
+    (Fun::Make, b"x*", &[], false),
+    (Fun::Make, b"x*", &[b"xy"], true),
+    (Fun::Make, b"t", &[b"xy"], false),
+];
+
+// The answer of a function that asks for a fact; none where it asks for none, or is refused.
+fn answer_of<F: Facts>(alloc: Global, facts: &mut F, fun: Fun, argument: &[u8]) -> Option<bool> {
+    match fun {
+        Fun::Defined | Fun::Empty => None,
+        Fun::Make | Fun::Exists | Fun::Target | Fun::Commands => {
+            facts.fact(alloc, fun, argument).ok()
+        }
+    }
+}
+
+fn is_told(alloc: Global, world: &mut MemWorld, made: &Made, row: &Row) -> Result<bool, NoMemory> {
+    let (fun, argument, requested, wanted) = *row;
+    let requested = texts(alloc, requested)?;
+    let mut asked = Vec::new(alloc);
+    let mut facts = MadeFacts::new(made, &requested, world, &mut asked);
+    Ok(answer_of(alloc, &mut facts, fun, argument) == Some(wanted))
+}
+
+// The place of the first row that is not told so.
+fn first_untold(
+    alloc: Global,
+    world: &mut MemWorld,
+    made: &Made,
+) -> Result<Option<usize>, PoolFault> {
+    for (place, row) in ROWS.iter().enumerate() {
+        if !is_told(alloc, world, made, row)? {
+            return Ok(Some(place));
+        }
+    }
+    Ok(None)
+}
+
+fn first_untold_of(
     rt: &impl Abort,
     alloc: Global,
-    memory: &mut MemWorld,
     made: &Made,
-    fun: Fun,
-    rows: &[Row],
-) -> Result<(), Fail>
-    requires { IsTrue (is_fact fun) }
-{
-    for (place, row) in rows.iter().enumerate() {
-        assert!(rt; is_told(alloc, memory, made, fun, *row)?, "{place}");
-    }
-    Ok(())
+) -> Result<Option<usize>, PoolFault> {
+    let mut memory = world(rt, alloc, b"a")?;
+    first_untold(alloc, &mut memory, made)
+}
+
+fn first_untold_of_all(rt: &impl Abort, alloc: Global) -> Result<Option<usize>, PoolFault> {
+    let made = made(rt, alloc)?;
+    first_untold_of(rt, alloc, &made)
 }
 
 #[test]
 fn facts_are_told(rt: HostRuntime) -> Result<(), Fail> {
-    let alloc = rt.alloc();
-    let made = made(&rt, alloc)?;
-    let mut memory = world(&rt, alloc, b"a")?;
-    all_told(&rt, alloc, &mut memory, &made, Fun::Target, &TARGETS)?;
-    all_told(&rt, alloc, &mut memory, &made, Fun::Commands, &COMMANDS)?;
-    all_told(&rt, alloc, &mut memory, &made, Fun::Exists, &FILES)?;
-    all_told(&rt, alloc, &mut memory, &made, Fun::Make, &REQUESTS)
+    assert_eq!(rt; first_untold_of_all(&rt, rt.alloc())?, None);
+    Ok(())
 }

@@ -1,6 +1,7 @@
 //! Logical lines with their numbers.
+use mk_bytes::NoMemory;
 use mk_lines::{LineCursor, LineRef, LogLine, LogLines, logical_lines};
-use std::process::Abort;
+use std::alloc::Global;
 use std::test::Fail;
 
 type Bytes = &'static [u8];
@@ -20,21 +21,18 @@ const LINES: [(&str, Bytes, &[(u32, Bytes)]); 9] = [
     ("a newline at the end", b"a\\\n", &[(1, b"a")]),
 ];
 
-fn assert_line(rt: &impl Abort, shows: &str, line: &LogLine, first: u32, text: &[u8]) {
-    assert_eq!(rt; line.first, first, "{shows}");
-    assert_eq!(rt; line.text.bytes(), text, "{shows}");
+fn is_line(line: &LogLine, wanted: (u32, &[u8])) -> bool {
+    let (first, text) = wanted;
+    line.first == first && line.text.bytes() == text
 }
 
-fn assert_next(rt: &impl Abort, shows: &str, line: &LineRef<'_>, first: u32, text: &[u8]) {
-    assert_eq!(rt; line.first(), first, "{shows}");
-    assert_eq!(rt; line.bytes(), text, "{shows}");
-}
-
-fn assert_lines(rt: &impl Abort, shows: &str, lines: &LogLines, wanted: &[(u32, &[u8])]) {
-    assert_eq!(rt; lines.len(), wanted.len(), "{shows}");
-    for (line, (first, text)) in lines.as_slice().iter().zip(wanted) {
-        assert_line(rt, shows, line, *first, text);
-    }
+fn are_lines(lines: &LogLines, wanted: &[(u32, Bytes)]) -> bool {
+    lines.len() == wanted.len()
+        && lines
+            .as_slice()
+            .iter()
+            .zip(wanted)
+            .all(|(line, wanted)| is_line(line, *wanted))
 }
 
 #[test]
@@ -43,22 +41,38 @@ fn texts_have_lines(rt: HostRuntime) -> Result<(), Fail> {
         let (shows, text, wanted) = *row;
         assert!(rt; text.len() < 100);
         let lines = logical_lines(rt.alloc(), text)?;
-        assert_lines(&rt, shows, &lines, wanted);
+        assert!(rt; are_lines(&lines, wanted), "{shows}");
     }
     Ok(())
+}
+
+// What a cursor over the two lines gives, call by call.
+const GIVEN: [Option<(u32, Bytes)>; 4] = [Some((1, b"a  b")), Some((3, b"c")), None, None];
+
+fn is_given(line: &Option<LineRef<'_>>, wanted: Option<(u32, Bytes)>) -> bool {
+    match (line, wanted) {
+        (Some(line), Some((first, text))) => line.first() == first && line.bytes() == text,
+        (None, None) => true,
+        _ => false,
+    }
+}
+
+fn gives(
+    alloc: Global,
+    cursor: &mut LineCursor<'_>,
+    wanted: Option<(u32, Bytes)>,
+) -> Result<bool, NoMemory> {
+    let line = cursor.next_line(alloc)?;
+    Ok(is_given(&line, wanted))
 }
 
 #[test]
 fn cursor_gives_lines_and_then_none(rt: HostRuntime) -> Result<(), Fail> {
     let mut cursor = LineCursor::new(TWO_LINES);
     let mut copy = cursor.copy();
-    for (first, text) in [(1, b"a  b".as_slice()), (3, b"c".as_slice())] {
-        let line = cursor.next_line(rt.alloc())?.expect(&rt, "a line");
-        assert_next(&rt, "the cursor", &line, first, text);
+    for wanted in &GIVEN {
+        assert!(rt; gives(rt.alloc(), &mut cursor, *wanted)?, "the cursor");
     }
-    assert!(rt; cursor.next_line(rt.alloc())?.is_none());
-    assert!(rt; cursor.next_line(rt.alloc())?.is_none());
-    let line = copy.next_line(rt.alloc())?.expect(&rt, "a line");
-    assert_next(&rt, "the copy", &line, 1, b"a  b");
+    assert!(rt; gives(rt.alloc(), &mut copy, GIVEN[0])?, "the copy");
     Ok(())
 }

@@ -182,19 +182,26 @@ fn one_line(alloc: Global, text: &[u8]) -> Result<Lines, NoMemory> {
     Ok(lines)
 }
 
-// What the sample tells.
-fn job(alloc: Global) -> Result<Meta, NoMemory> {
+// What the sample tells, where it stood in this directory.
+fn job_in(alloc: Global, cwd: Text) -> Result<Meta, NoMemory> {
+    let target = Text::from_bytes(alloc, b"t")?;
+    let exports = Items::new(alloc, 0)?;
     let lines = one_line(alloc, b"cat t a b")?;
     let records = records_of(alloc, &[b"R 1 a", b"R 1 b", b"W 1 t"])?;
     Ok(Meta {
         stamp: Time(4),
-        exports: Items::new(alloc, 0)?,
+        exports,
         lines,
-        cwd: Text::from_bytes(alloc, b"/w")?,
-        target: Text::from_bytes(alloc, b"t")?,
+        cwd,
+        target,
         output: Text::new(alloc),
         records: Some(records),
     })
+}
+
+fn job(alloc: Global) -> Result<Meta, NoMemory> {
+    let cwd = Text::from_bytes(alloc, b"/w")?;
+    job_in(alloc, cwd)
 }
 
 #[test]

@@ -68,19 +68,30 @@ fn made_of(alloc: Global, plan: &Plan, jobs: u32) -> Result<u32, NoMemory>
     }
 }
 
-// What comes next with so many jobs, where the first nodes that came were started.
-fn next_behind(alloc: Global, plan: &Plan, jobs: u32, started: u32) -> Result<Next, NoMemory>
-    requires some { 1 ≤ jobs }
-    requires few { jobs ≤ 256 }
-{
-    let mut sched = Sched::new(alloc, plan, jobs, false)?;
+// What comes next, where the first nodes that came were started.
+fn next_behind(sched: &mut Sched<'_>, started: u32) -> Next {
     for _ in 0..started {
         match sched.next() {
             Next::Decide(n) => sched.started(n),
-            other => return Ok(other),
+            other => return other,
         }
     }
-    Ok(sched.next())
+    sched.next()
+}
+
+// The same of a plan of three nodes; none where there is no such number of jobs.
+fn next_of(
+    alloc: Global,
+    in_a_row: bool,
+    jobs: u32,
+    started: u32,
+) -> Result<Option<Next>, NoMemory> {
+    if jobs < 1 || jobs > 256 {
+        return Ok(None);
+    }
+    let plan = plan_of(alloc, 3, in_a_row)?;
+    let mut sched = Sched::new(alloc, &plan, jobs, false)?;
+    Ok(Some(next_behind(&mut sched, started)))
 }
 
 // What a row shows, whether each of three nodes waits for the one before it, the number of jobs, how
@@ -102,28 +113,37 @@ const NEXT: [(&str, bool, u32, u32, Next); 6] = [
 
 #[test]
 fn nodes_come_while_tokens_are_free(rt: HostRuntime) -> Result<(), Fail> {
-    for (shows, in_a_row, jobs, started, next) in NEXT {
-        assert!(rt; 1 <= jobs && jobs <= 256);
-        let plan = plan_of(rt.alloc(), 3, in_a_row)?;
-        assert!(rt;
-            next_behind(rt.alloc(), &plan, jobs, started)? == next,
-            "{shows}"
-        );
+    for row in &NEXT {
+        let (shows, in_a_row, jobs, started, next) = *row;
+        let found = next_of(rt.alloc(), in_a_row, jobs, started)?;
+        assert!(rt; found == Some(next), "{shows}");
     }
     Ok(())
 }
 
+// What a row shows, whether each node waits for the one before it, and whether there are many jobs.
+const LARGE: [(&str, bool, bool); 4] = [
+    ("one behind the other, one job", true, false),
+    ("one behind the other, many jobs", true, true),
+    ("each by itself, one job", false, false),
+    ("each by itself, many jobs", false, true),
+];
+
+fn made_of_many(alloc: Global, in_a_row: bool, jobs_are_many: bool) -> Result<u32, NoMemory> {
+    let plan = plan_of(alloc, 200_000, in_a_row)?;
+    let jobs = if jobs_are_many { 256 } else { 1 };
+    made_of(alloc, &plan, jobs)
+}
+
 #[test]
 fn large_plans_are_made(rt: HostRuntime) -> Result<(), Fail> {
-    for (what, in_a_row, jobs_are_many) in [
-        ("one behind the other, one job", true, false),
-        ("one behind the other, many jobs", true, true),
-        ("each by itself, one job", false, false),
-        ("each by itself, many jobs", false, true),
-    ] {
-        let plan = plan_of(rt.alloc(), 200_000, in_a_row)?;
-        let jobs = if jobs_are_many { 256 } else { 1 };
-        assert_eq!(rt; made_of(rt.alloc(), &plan, jobs)?, 200_000, "{what}");
+    for row in &LARGE {
+        let (what, in_a_row, jobs_are_many) = *row;
+        assert_eq!(rt;
+            made_of_many(rt.alloc(), in_a_row, jobs_are_many)?,
+            200_000,
+            "{what}"
+        );
     }
     Ok(())
 }

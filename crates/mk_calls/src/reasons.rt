@@ -380,12 +380,16 @@ fn times_of(alloc: Global, row: &Row) -> Result<Times, NoMemory> {
     })
 }
 
+fn why_by(alloc: Global, row: &Row, task: &Task) -> Result<Option<Why>, NoMemory> {
+    let times = times_of(alloc, row)?;
+    let meta = read_meta(alloc, row.meta)?;
+    Ok(stale(meta.as_ref(), task, &row.mode, &times))
+}
+
 // Why the target of a row is out of date.
 fn why(alloc: Global, row: &Row) -> Result<Option<Why>, NoMemory> {
-    let meta = read_meta(alloc, row.meta)?;
-    let times = times_of(alloc, row)?;
     match task_of(alloc)? {
-        Some(task) => Ok(stale(meta.as_ref(), &task, &row.mode, &times)),
+        Some(task) => why_by(alloc, row, &task),
         None => Ok(None),
     }
 }

@@ -1,7 +1,7 @@
 //! Records as meta files hold them, and what they say of the files outside a job.
 use crate::looks::records_of;
 use crate::texts::joined;
-use mk_bytes::{NoMemory, Text};
+use mk_bytes::{NoMemory, Text, Texts};
 use mk_filemon::{left_written, outer_found, outer_missed, outer_reads, read_op, write_op};
 use mk_world::Op;
 use std::alloc::Global;
@@ -166,29 +166,30 @@ const RUNS: [Row; 9] = [
     },
 ];
 
+fn are_joined(alloc: Global, paths: &Texts, wanted: &[u8]) -> Result<bool, NoMemory> {
+    let joined = joined(alloc, paths)?;
+    Ok(joined.bytes() == wanted)
+}
+
 // Whether the records say so of what the job found or looked for outside.
 fn tell_reads(alloc: Global, row: &Row) -> Result<bool, NoMemory> {
     let records = records_of(alloc, row.records)?;
-    let outer = joined(alloc, &outer_reads(alloc, &records)?)?;
-    Ok(outer.bytes() == row.outer)
+    are_joined(alloc, &outer_reads(alloc, &records)?, row.outer)
 }
 
 fn tell_found(alloc: Global, row: &Row) -> Result<bool, NoMemory> {
     let records = records_of(alloc, row.records)?;
-    let found = joined(alloc, &outer_found(alloc, &records)?)?;
-    Ok(found.bytes() == row.found)
+    are_joined(alloc, &outer_found(alloc, &records)?, row.found)
 }
 
 fn tell_missed(alloc: Global, row: &Row) -> Result<bool, NoMemory> {
     let records = records_of(alloc, row.records)?;
-    let missed = joined(alloc, &outer_missed(alloc, &records)?)?;
-    Ok(missed.bytes() == row.missed)
+    are_joined(alloc, &outer_missed(alloc, &records)?, row.missed)
 }
 
 fn tell_left(alloc: Global, row: &Row) -> Result<bool, NoMemory> {
     let records = records_of(alloc, row.records)?;
-    let left = joined(alloc, &left_written(alloc, &records)?)?;
-    Ok(left.bytes() == row.left)
+    are_joined(alloc, &left_written(alloc, &records)?, row.left)
 }
 
 #[test]

@@ -13,6 +13,7 @@ use mk_flags::Flags;
 use mk_graph::{Made, Marks};
 use mk_memworld::MemWorld;
 use mk_plan::{MadeFacts, Nodes, Plan, PlanNode, task};
+use mk_pool::PoolFault;
 use mk_world::TaskLine;
 use std::alloc::Global;
 use std::process::Abort;
@@ -106,13 +107,17 @@ fn commands(alloc: Global) -> Result<Texts, NoMemory> {
 }
 
 // A file `a`, and a target `t` over it with these lines.
-fn plan(rt: &impl Abort, alloc: Global) -> Result<Plan, NoMemory> {
+fn nodes(alloc: Global) -> Result<Items<PlanNode>, NoMemory> {
     let mut nodes = Items::new(alloc, 2)?;
     nodes.push(node_of(alloc, b"a", &[], Items::new(alloc, 0)?)?)?;
     nodes.push(node_of(alloc, b"t", &[0], commands(alloc)?)?)?;
+    Ok(nodes)
+}
+
+fn plan_of(rt: &impl Abort, nodes: Items<PlanNode>) -> Plan {
     assert!(rt; are_ordered(nodes.as_slice()));
     assert!(rt; are_sourced(nodes.as_slice()));
-    Ok(Plan::of(nodes))
+    Plan::of(nodes)
 }
 
 fn flags(alloc: Global) -> Result<Flags, NoMemory> {
@@ -166,7 +171,7 @@ fn other_line_in(
     memory: &mut MemWorld,
     plan: &Plan,
     made: &Made,
-) -> Result<Option<usize>, NoMemory> {
+) -> Result<Option<usize>, PoolFault> {
     let newer = texts(alloc, &[b"a"])?;
     let flags = flags(alloc)?;
     let mut asked = Vec::new(alloc);
@@ -174,11 +179,19 @@ fn other_line_in(
     Ok(other_line(alloc, plan, made, &newer, &flags, &mut facts))
 }
 
+fn other_line_by(rt: &impl Abort, alloc: Global, made: &Made) -> Result<Option<usize>, PoolFault> {
+    let plan = plan_of(rt, nodes(alloc)?);
+    let mut memory = world(rt, alloc, b"a")?;
+    other_line_in(alloc, &mut memory, &plan, made)
+}
+
+fn other_line_of_all(rt: &impl Abort, alloc: Global) -> Result<Option<usize>, PoolFault> {
+    let made = made(rt, alloc)?;
+    other_line_by(rt, alloc, &made)
+}
+
 #[test]
 fn lines_have_their_marks(rt: HostRuntime) -> Result<(), Fail> {
-    let made = made(&rt, rt.alloc())?;
-    let plan = plan(&rt, rt.alloc())?;
-    let mut memory = world(&rt, rt.alloc(), b"a")?;
-    assert_eq!(rt; other_line_in(rt.alloc(), &mut memory, &plan, &made)?, None);
+    assert_eq!(rt; other_line_of_all(&rt, rt.alloc())?, None);
     Ok(())
 }

@@ -49,10 +49,20 @@ fn has_value(alloc: Global, scopes: &Scopes, name: &[u8], wanted: &[u8]) -> bool
     }
 }
 
+// Variables of which one has a dollar in its name.
+fn with_dollar(rt: &impl Abort, alloc: Global) -> Result<Scopes, NoMemory> {
+    let mut scopes = scopes(rt, alloc)?;
+    scopes.assign(Class::Global, b"x$", b"name")?;
+    Ok(scopes)
+}
+
+fn dollar_is_a_byte(rt: &impl Abort, alloc: Global) -> Result<bool, NoMemory> {
+    let scopes = with_dollar(rt, alloc)?;
+    Ok(has_value(alloc, &scopes, b"x$", b"name"))
+}
+
 #[test]
 fn a_dollar_in_a_name_is_a_byte(rt: HostRuntime) -> Result<(), Fail> {
-    let mut scopes = scopes(&rt, rt.alloc())?;
-    scopes.assign(Class::Global, b"x$", b"name")?;
-    assert!(rt; has_value(rt.alloc(), &scopes, b"x$", b"name"));
+    assert!(rt; dollar_is_a_byte(&rt, rt.alloc())?);
     Ok(())
 }
