@@ -100,6 +100,13 @@ for part in $(seq 0 99); do
     [ "$(tail -n 1 x.meta)" = "$(tail -n 1 "$whole")" ] || wrong="$wrong; x.meta is not whole"
     count "a meta file that was cut behind $part parts of 100" "$wrong"
 done
+for ((place = 0; place < size; place++)); do
+    rm x.meta
+    wrong=$(build)
+    { head -c "$place" x.meta && printf X && tail -c +$((place + 2)) x.meta; } >"$whole" && cp "$whole" x.meta
+    count "a meta file with an X at place $place" "$wrong$(build)$(holds t $'1\n4\n2')"
+done
+rm x.meta
 head -c 67108864 /dev/zero >x.meta
 count 'a meta file of 64 MiB of zeros' "$(build)$(printed $'../join x a h\n../join t x y')$(holds t $'1\n4\n2')"
 cp y.meta x.meta
