@@ -1,9 +1,9 @@
 //! What the words of a command line ask for.
+use crate::refused::Refused;
 use crate::texts::{are, texts};
 use mk_bytes::is_clean_directory;
 use mk_cli::{Order, Usage, words};
 use std::alloc::Global;
-use std::test::Fail;
 
 const CWD: &[u8] = b"/w";
 
@@ -68,7 +68,7 @@ fn are_read_as(alloc: Global, all: Words, asked: Asked) -> bool {
 }
 
 #[test]
-fn words_ask(rt: HostRuntime) -> Result<(), Fail> {
+fn words_ask(rt: HostRuntime) -> Result<(), Refused> {
     assert!(rt; is_clean_directory(CWD));
     for row in &ROWS {
         let (shows, all, asked) = *row;

@@ -1,4 +1,5 @@
 //! What conditions ask of a graph that was read, over a world in memory.
+use crate::refused::Refused;
 use crate::suffixes::world;
 use crate::texts::texts;
 use crate::variables::scopes;
@@ -11,7 +12,6 @@ use mk_plan::MadeFacts;
 use mk_pool::PoolFault;
 use std::alloc::Global;
 use std::process::Abort;
-use std::test::Fail;
 
 type Bytes = &'static [u8];
 
@@ -153,7 +153,7 @@ fn first_untold_of_all(rt: &impl Abort, alloc: Global) -> Result<Option<usize>, 
 }
 
 #[test]
-fn facts_are_told(rt: HostRuntime) -> Result<(), Fail> {
+fn facts_are_told(rt: HostRuntime) -> Result<(), Refused> {
     assert_eq!(rt; first_untold_of_all(&rt, rt.alloc())?, None);
     Ok(())
 }

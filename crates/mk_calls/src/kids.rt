@@ -1,8 +1,8 @@
 //! The children that a build holds.
+use crate::refused::Refused;
 use mk_bytes::NoMemory;
 use mk_world::{Kids, Ticket};
 use std::alloc::Global;
-use std::test::Fail;
 
 // Room for two children, of which one is added and taken out again; its ticket.
 fn add_and_take(alloc: Global) -> Result<u32, NoMemory> {
@@ -14,7 +14,7 @@ fn add_and_take(alloc: Global) -> Result<u32, NoMemory> {
 }
 
 #[test]
-fn children_are_taken_out_and_given_up(rt: HostRuntime) -> Result<(), Fail> {
+fn children_are_taken_out_and_given_up(rt: HostRuntime) -> Result<(), Refused> {
     assert_eq!(rt; add_and_take(rt.alloc())?, 7);
     Ok(())
 }

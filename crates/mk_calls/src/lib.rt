@@ -31,6 +31,8 @@ mod records;
 #[cfg(test)]
 mod references;
 #[cfg(test)]
+mod refused;
+#[cfg(test)]
 mod sinks;
 #[cfg(test)]
 mod suffixes;

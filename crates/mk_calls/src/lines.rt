@@ -1,8 +1,8 @@
 //! Logical lines with their numbers.
+use crate::refused::Refused;
 use mk_bytes::NoMemory;
 use mk_lines::{LineCursor, LineRef, LogLine, LogLines, logical_lines};
 use std::alloc::Global;
-use std::test::Fail;
 
 type Bytes = &'static [u8];
 
@@ -36,7 +36,7 @@ fn are_lines(lines: &LogLines, wanted: &[(u32, Bytes)]) -> bool {
 }
 
 #[test]
-fn texts_have_lines(rt: HostRuntime) -> Result<(), Fail> {
+fn texts_have_lines(rt: HostRuntime) -> Result<(), Refused> {
     for row in &LINES {
         let (shows, text, wanted) = *row;
         assert!(rt; text.len() < 100);
@@ -67,7 +67,7 @@ fn gives(
 }
 
 #[test]
-fn cursor_gives_lines_and_then_none(rt: HostRuntime) -> Result<(), Fail> {
+fn cursor_gives_lines_and_then_none(rt: HostRuntime) -> Result<(), Refused> {
     let mut cursor = LineCursor::new(TWO_LINES);
     let mut copy = cursor.copy();
     for wanted in &GIVEN {

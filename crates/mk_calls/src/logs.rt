@@ -1,9 +1,9 @@
 //! Logs of recorders. The records that a log gives are written as those of the first command line.
+use crate::refused::Refused;
 use mk_bytes::{NoMemory, Text};
 use mk_filemon::{push_op, read_log};
 use mk_world::Ops;
 use std::alloc::Global;
-use std::test::Fail;
 
 // What a row shows, the log, and its records where the directory is `/w`.
 const LOGS: [(&str, &[u8], &[u8]); 15] = [
@@ -84,7 +84,7 @@ fn records_of(alloc: Global, log: &[u8]) -> Result<Text, NoMemory> {
 }
 
 #[test]
-fn logs_give_records(rt: HostRuntime) -> Result<(), Fail> {
+fn logs_give_records(rt: HostRuntime) -> Result<(), Refused> {
     for row in &LOGS {
         let (shows, log, wanted) = *row;
         let records = records_of(rt.alloc(), log)?;

@@ -1,10 +1,10 @@
 //! Which paths of records are looked at.
+use crate::refused::Refused;
 use crate::texts::{are, texts};
 use mk_bytes::{Items, NoMemory, Texts};
 use mk_filemon::{Recs, read_op};
 use mk_oodate::looked_at;
 use std::alloc::Global;
-use std::test::Fail;
 
 const RECORDS: [&[u8]; 7] = [
     b"R 1 ab",
@@ -33,7 +33,7 @@ fn ignored(alloc: Global) -> Result<Texts, NoMemory> {
 }
 
 #[test]
-fn ignored_paths_are_not_looked_at(rt: HostRuntime) -> Result<(), Fail> {
+fn ignored_paths_are_not_looked_at(rt: HostRuntime) -> Result<(), Refused> {
     let records = records_of(rt.alloc(), &RECORDS)?;
     let paths = looked_at(rt.alloc(), &ignored(rt.alloc())?, &records)?;
     assert!(rt; are(&paths.found, &[b"b"]));

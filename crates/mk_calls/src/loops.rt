@@ -1,10 +1,10 @@
 //! The bodies of loops' turns.
+use crate::refused::Refused;
 use crate::texts::texts;
 use mk_bytes::{Items, NoMemory, Text};
 use mk_for::{Bodies, ForFault, turn, unroll};
 use mk_lines::{LogLine, LogLines};
 use std::alloc::Global;
-use std::test::Fail;
 
 type Bytes = &'static [u8];
 
@@ -90,7 +90,7 @@ fn has_turns(alloc: Global, row: Row) -> Result<bool, NoMemory> {
 }
 
 #[test]
-fn loops_have_turns(rt: HostRuntime) -> Result<(), Fail> {
+fn loops_have_turns(rt: HostRuntime) -> Result<(), Refused> {
     for row in &ROWS {
         assert!(rt; has_turns(rt.alloc(), *row)?, "{}", row.0);
     }
@@ -98,7 +98,7 @@ fn loops_have_turns(rt: HostRuntime) -> Result<(), Fail> {
 }
 
 #[test]
-fn a_turn_takes_its_words(rt: HostRuntime) -> Result<(), Fail> {
+fn a_turn_takes_its_words(rt: HostRuntime) -> Result<(), Refused> {
     let body = body(rt.alloc(), b"$a-$b")?;
     let names = texts(rt.alloc(), &[b"a", b"b"])?;
     let words = texts(rt.alloc(), &[b"p", b"q", b"r", b"s"])?;

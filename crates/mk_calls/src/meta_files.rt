@@ -1,10 +1,10 @@
 //! Meta files, read and written.
 use crate::looks::records_of;
+use crate::refused::Refused;
 use mk_bytes::{Items, NoMemory, Text};
 use mk_meta::{Meta, head, read_meta, write_meta};
 use mk_world::{Lines, TaskLine, Time};
 use std::alloc::Global;
-use std::test::Fail;
 
 const SAMPLE: &[u8] =
     b"# Meta data file t.meta\nSTAMP 4\nCMD cat t a b\nCWD /w\nTARGET t\nOUTPUT 0\n-- command output --\n\n-- filemon acquired metadata --\nR 1 a\nR 1 b\nW 1 t\n# end 3\n";
@@ -145,7 +145,7 @@ fn is_again(found: &Option<Text>, text: &[u8], meta_file: bool) -> bool {
 }
 
 #[test]
-fn meta_files_have_one_spelling(rt: HostRuntime) -> Result<(), Fail> {
+fn meta_files_have_one_spelling(rt: HostRuntime) -> Result<(), Refused> {
     for row in &TEXTS {
         let (shows, text, meta_file) = *row;
         let found = again(rt.alloc(), text)?;
@@ -155,7 +155,7 @@ fn meta_files_have_one_spelling(rt: HostRuntime) -> Result<(), Fail> {
 }
 
 #[test]
-fn no_beginning_of_a_meta_file_is_one(rt: HostRuntime) -> Result<(), Fail> {
+fn no_beginning_of_a_meta_file_is_one(rt: HostRuntime) -> Result<(), Refused> {
     for len in 0..SAMPLE.len() {
         let found = read_meta(rt.alloc(), &SAMPLE[..len])?;
         assert!(rt; found.is_none(), "{len}");
@@ -164,7 +164,7 @@ fn no_beginning_of_a_meta_file_is_one(rt: HostRuntime) -> Result<(), Fail> {
 }
 
 #[test]
-fn a_head_is_the_first_line(rt: HostRuntime) -> Result<(), Fail> {
+fn a_head_is_the_first_line(rt: HostRuntime) -> Result<(), Refused> {
     let text = head(rt.alloc(), b"a\n.o")?;
     assert_eq!(rt; text.bytes(), b"# Meta data file a\\n.o.meta\n".as_slice());
     Ok(())
@@ -205,7 +205,7 @@ fn job(alloc: Global) -> Result<Meta, NoMemory> {
 }
 
 #[test]
-fn a_job_is_written(rt: HostRuntime) -> Result<(), Fail> {
+fn a_job_is_written(rt: HostRuntime) -> Result<(), Refused> {
     let job = job(rt.alloc())?;
     let text = write_meta(rt.alloc(), &job)?;
     assert_eq!(rt; text.bytes(), SAMPLE);
@@ -226,7 +226,7 @@ fn is_that_job(meta: &Meta) -> bool {
 }
 
 #[test]
-fn a_job_is_read(rt: HostRuntime) -> Result<(), Fail> {
+fn a_job_is_read(rt: HostRuntime) -> Result<(), Refused> {
     let meta = read_meta(rt.alloc(), SAMPLE)?.expect(&rt, "a meta file");
     assert!(rt; is_that_job(&meta));
     Ok(())

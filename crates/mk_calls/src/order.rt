@@ -2,12 +2,12 @@
 ghost use Rattle.std.specs.Prelude.{◌≡◌, ◌≤◌, [], length, IfOk, IsTrue};
 ghost use Rattle.mk_plan.specs.Plans.{is_behind};
 
+use crate::refused::Refused;
 use mk_bytes::{Items, NoMemory, Text, Texts};
 use mk_graph::{Marks, Nodes};
 use mk_plan::{Plan, PlanNode};
 use mk_sched::{Next, Sched};
 use std::alloc::Global;
-use std::test::Fail;
 
 // A node that waits for the one before it, or for none.
 fn node_of(alloc: Global, n: u32, in_a_row: bool) -> Result<PlanNode, NoMemory>
@@ -112,7 +112,7 @@ const NEXT: [(&str, bool, u32, u32, Next); 6] = [
 ];
 
 #[test]
-fn nodes_come_while_tokens_are_free(rt: HostRuntime) -> Result<(), Fail> {
+fn nodes_come_while_tokens_are_free(rt: HostRuntime) -> Result<(), Refused> {
     for row in &NEXT {
         let (shows, in_a_row, jobs, started, next) = *row;
         let found = next_of(rt.alloc(), in_a_row, jobs, started)?;
@@ -136,7 +136,7 @@ fn made_of_many(alloc: Global, in_a_row: bool, jobs_are_many: bool) -> Result<u3
 }
 
 #[test]
-fn large_plans_are_made(rt: HostRuntime) -> Result<(), Fail> {
+fn large_plans_are_made(rt: HostRuntime) -> Result<(), Refused> {
     for row in &LARGE {
         let (what, in_a_row, jobs_are_many) = *row;
         assert_eq!(rt;

@@ -1,11 +1,11 @@
 //! Why targets are out of date. The task of a row is written as a meta file too; each of its lines is
 //! compared but those that begin with `any`.
+use crate::refused::Refused;
 use mk_bytes::{Items, NoMemory};
 use mk_meta::read_meta;
 use mk_oodate::{Age, Ages, NodeMode, Times, Whens, Why, stale};
 use mk_world::{Lines, Task, TaskLine, Time, When};
 use std::alloc::Global;
-use std::test::Fail;
 
 const JOB: &[u8] =
     b"# Meta data file t.meta\nSTAMP 4\nCMD cat t a\nCMD any 1\nCWD /w\nENV V=1\nTARGET t\nOUTPUT 0\n-- command output --\n\n-- filemon acquired metadata --\n# end 3\n";
@@ -395,10 +395,10 @@ fn why(alloc: Global, row: &Row) -> Result<Option<Why>, NoMemory> {
 }
 
 #[test]
-fn the_first_reason_is_given(rt: HostRuntime) -> Result<(), Fail> {
+fn the_first_reason_is_given(rt: HostRuntime) -> Result<(), Refused> {
     for row in &ROWS {
         let shows = row.shows;
-        assert_eq!(rt; why(rt.alloc(), row)?, row.wanted, "{shows}");
+        assert!(rt; why(rt.alloc(), row)? == row.wanted, "{shows}");
     }
     Ok(())
 }

@@ -1,11 +1,11 @@
 //! Records as meta files hold them, and what they say of the files outside a job.
 use crate::looks::records_of;
+use crate::refused::Refused;
 use crate::texts::joined;
 use mk_bytes::{NoMemory, Text, Texts};
 use mk_filemon::{left_written, outer_found, outer_missed, outer_reads, read_op, write_op};
 use mk_world::Op;
 use std::alloc::Global;
-use std::test::Fail;
 
 // What a row shows, a text, and whether it is a record.
 const LINES: [(&str, &[u8], bool); 22] = [
@@ -49,7 +49,7 @@ fn is_again(found: &Option<Text>, text: &[u8], record: bool) -> bool {
 }
 
 #[test]
-fn records_have_one_spelling(rt: HostRuntime) -> Result<(), Fail> {
+fn records_have_one_spelling(rt: HostRuntime) -> Result<(), Refused> {
     for row in &LINES {
         let (shows, text, record) = *row;
         let found = again(rt.alloc(), text)?;
@@ -66,14 +66,14 @@ fn written_move(alloc: Global) -> Result<Text, NoMemory> {
 }
 
 #[test]
-fn a_move_is_written(rt: HostRuntime) -> Result<(), Fail> {
+fn a_move_is_written(rt: HostRuntime) -> Result<(), Refused> {
     let text = written_move(rt.alloc())?;
     assert_eq!(rt; text.bytes(), b"M 2 'a\\'b' 'c'".as_slice());
     Ok(())
 }
 
 #[test]
-fn a_record_is_read(rt: HostRuntime) -> Result<(), Fail> {
+fn a_record_is_read(rt: HostRuntime) -> Result<(), Refused> {
     let one = read_op(rt.alloc(), b"R 1 a")?.expect(&rt, "a record");
     assert_eq!(rt; one.line, 1);
     assert!(rt; matches!(&one.op, Op::Read(path) if path.bytes() == b"a".as_slice()));
@@ -193,7 +193,7 @@ fn tell_left(alloc: Global, row: &Row) -> Result<bool, NoMemory> {
 }
 
 #[test]
-fn records_tell_of_the_files_outside(rt: HostRuntime) -> Result<(), Fail> {
+fn records_tell_of_the_files_outside(rt: HostRuntime) -> Result<(), Refused> {
     for row in &RUNS {
         let shows = row.shows;
         assert!(rt; tell_reads(rt.alloc(), row)?, "{shows}: reads");

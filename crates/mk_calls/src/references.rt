@@ -1,9 +1,9 @@
 //! References: texts that print back from their trees, and the ends of forms.
+use crate::refused::Refused;
 use mk_ast::AstFault::{Unclosed, UnknownModifier};
 use mk_ast::{AstFault, parse, print, reference_end};
 use mk_bytes::Text;
 use std::alloc::Global;
-use std::test::Fail;
 
 // What a row shows, and a text that prints back.
 type SpelledRow = (&'static str, &'static [u8]);

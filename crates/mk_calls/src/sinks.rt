@@ -1,9 +1,9 @@
 //! The sink in memory.
+use crate::refused::Refused;
 use mk_bytes::{Items, NoMemory};
 use mk_memworld::{CallKind, Fail as Outage, MemSink, ROOM};
 use mk_world::{Sink, SinkFault};
 use std::alloc::Global;
-use std::test::Fail;
 
 // A sink whose second write fails.
 fn failing(alloc: Global) -> Result<MemSink, NoMemory> {
@@ -32,7 +32,7 @@ const PIECES: [(&str, &[u8], Result<usize, SinkFault>); 3] = [
 ];
 
 #[test]
-fn a_sink_takes_whole_pieces(rt: HostRuntime) -> Result<(), Fail> {
+fn a_sink_takes_whole_pieces(rt: HostRuntime) -> Result<(), Refused> {
     let mut sink = failing(rt.alloc())?;
     for row in &PIECES {
         let (shows, piece, wanted) = *row;
@@ -48,7 +48,7 @@ fn unfailing(alloc: Global) -> Result<MemSink, NoMemory> {
 }
 
 #[test]
-fn a_sink_has_room(rt: HostRuntime) -> Result<(), Fail> {
+fn a_sink_has_room(rt: HostRuntime) -> Result<(), Refused> {
     let mut sink = unfailing(rt.alloc())?;
     let piece = Vec::from_elem(rt.alloc(), 7u8, ROOM)?;
     assert!(rt; answer(&mut sink, b"abc") == Ok(3));

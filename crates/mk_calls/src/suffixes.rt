@@ -2,6 +2,7 @@
 ghost use Rattle.std.specs.Prelude.{◌≡◌, [], IfOk};
 ghost use Rattle.mk_world.specs.History.{state_of, tickets_of};
 
+use crate::refused::Refused;
 use crate::texts::{are, texts};
 use mk_bytes::{Items, NoMemory, Pair, Pairs, Text, is_clean_directory};
 use mk_graph::{Attr, Graph};
@@ -10,7 +11,6 @@ use mk_pool::PoolFault;
 use mk_suffix::{Chain, SuffixFault, prefix_of, resolve};
 use std::alloc::Global;
 use std::process::Abort;
-use std::test::Fail;
 
 // A graph with the rule `.c.o`.
 fn one_rule(alloc: Global) -> Result<Graph, PoolFault> {
@@ -90,7 +90,7 @@ fn has_chain(
 }
 
 #[test]
-fn a_rule_makes_a_chain(rt: HostRuntime) -> Result<(), Fail> {
+fn a_rule_makes_a_chain(rt: HostRuntime) -> Result<(), Refused> {
     assert!(rt; has_chain(&rt, rt.alloc(), b"x.c", &[b"x.c", b"x.o"])?);
     assert!(rt; has_chain(&rt, rt.alloc(), b"x.y", &[])?);
     Ok(())
@@ -105,7 +105,7 @@ const PREFIXES: [(&[u8], &[u8]); 5] = [
 ];
 
 #[test]
-fn prefixes_are_without_suffixes(rt: HostRuntime) -> Result<(), Fail> {
+fn prefixes_are_without_suffixes(rt: HostRuntime) -> Result<(), Refused> {
     let known = texts(rt.alloc(), &[b".c", b".o", b".y"])?;
     for row in &PREFIXES {
         let (name, wanted) = *row;

@@ -5,6 +5,7 @@ ghost use Rattle.mk_graph.specs.Walks.{is_among};
 ghost use Rattle.mk_plan.specs.Plans as spec;
 
 use crate::facts::made;
+use crate::refused::Refused;
 use crate::suffixes::world;
 use crate::texts::texts;
 use mk_bytes::{Items, NoMemory, Text, Texts};
@@ -17,7 +18,6 @@ use mk_pool::PoolFault;
 use mk_world::TaskLine;
 use std::alloc::Global;
 use std::process::Abort;
-use std::test::Fail;
 
 type Bytes = &'static [u8];
 
@@ -191,7 +191,7 @@ fn other_line_of_all(rt: &impl Abort, alloc: Global) -> Result<Option<usize>, Po
 }
 
 #[test]
-fn lines_have_their_marks(rt: HostRuntime) -> Result<(), Fail> {
+fn lines_have_their_marks(rt: HostRuntime) -> Result<(), Refused> {
     assert_eq!(rt; other_line_of_all(&rt, rt.alloc())?, None);
     Ok(())
 }

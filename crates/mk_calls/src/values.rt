@@ -1,10 +1,10 @@
 //! Values of modifiers as pieces of a region.
+use crate::refused::Refused;
 use crate::texts::{are, texts};
 use mk_bytes::{NoMemory, Texts};
 use mk_mods::{Mod, ModFault, Val, apply, text, with_items, words_of};
 use mk_pool::Region;
 use std::alloc::Global;
-use std::test::Fail;
 
 // Whether this text is printed behind a modifier, and so many bytes are placed for it.
 fn is_behind(
@@ -25,19 +25,19 @@ fn is_behind(
 #[test]
 fn words_are_put_in_order(rt: HostRuntime) {
     let behind = is_behind(rt.alloc(), &Mod::Sort, b"b a", b"a b", 0);
-    assert_eq!(rt; behind, Ok(true));
+    assert!(rt; behind == Ok(true));
 }
 
 #[test]
 fn heads_place_nothing(rt: HostRuntime) {
     let behind = is_behind(rt.alloc(), &Mod::Head, b"b/x a", b"b .", 0);
-    assert_eq!(rt; behind, Ok(true));
+    assert!(rt; behind == Ok(true));
 }
 
 #[test]
 fn other_letters_are_placed(rt: HostRuntime) {
     let behind = is_behind(rt.alloc(), &Mod::Upper, b"a b", b"A B", 3);
-    assert_eq!(rt; behind, Ok(true));
+    assert!(rt; behind == Ok(true));
 }
 
 // The words of the items `c d` and `e`.
@@ -50,7 +50,7 @@ fn words_of_items(alloc: Global) -> Result<Texts, NoMemory> {
 }
 
 #[test]
-fn items_have_words(rt: HostRuntime) -> Result<(), Fail> {
+fn items_have_words(rt: HostRuntime) -> Result<(), Refused> {
     let words = words_of_items(rt.alloc())?;
     assert!(rt; are(&words, &[b"c", b"d", b"e"]));
     Ok(())

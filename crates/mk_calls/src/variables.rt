@@ -1,11 +1,11 @@
 //! A variable by its name alone, whatever bytes that has.
+use crate::refused::Refused;
 use mk_bytes::{Items, NoMemory, Text, is_clean_directory};
 use mk_cond::Fun;
 use mk_expand::{FactFault, Facts, Locals, expand, name_tree};
 use mk_scopes::{Class, Env, Scopes};
 use std::alloc::Global;
 use std::process::Abort;
-use std::test::Fail;
 
 /// Refuses every question, as want of memory does: that may stand in place of any answer.
 #[derive(Drop)]
@@ -62,7 +62,7 @@ fn dollar_is_a_byte(rt: &impl Abort, alloc: Global) -> Result<bool, NoMemory> {
 }
 
 #[test]
-fn a_dollar_in_a_name_is_a_byte(rt: HostRuntime) -> Result<(), Fail> {
+fn a_dollar_in_a_name_is_a_byte(rt: HostRuntime) -> Result<(), Refused> {
     assert!(rt; dollar_is_a_byte(&rt, rt.alloc())?);
     Ok(())
 }

@@ -2,10 +2,10 @@
 ghost use Rattle.std.specs.Prelude.{IsTrue};
 ghost use Rattle.mk_graph.specs.Numbers.{AreBelow, EachBelow};
 
+use crate::refused::Refused;
 use mk_bytes::{Items, NoMemory};
 use mk_graph::{Nodes, Preds, cycle};
 use std::alloc::Global;
-use std::test::Fail;
 
 // What a row shows, the predecessors of each node, where the walk begins, and the closed walk.
 const CYCLES: [(&str, &[&[u32]], &[u32], Option<&[u32]>); 3] = [
@@ -93,7 +93,7 @@ fn walk_len(alloc: Global, count: u32, last: &[u32]) -> Result<usize, NoMemory> 
 }
 
 #[test]
-fn closed_walks_are_met(rt: HostRuntime) -> Result<(), Fail> {
+fn closed_walks_are_met(rt: HostRuntime) -> Result<(), Refused> {
     let alloc = rt.alloc();
     for row in &CYCLES {
         let (shows, lists, from, wanted) = *row;
@@ -106,7 +106,7 @@ fn closed_walks_are_met(rt: HostRuntime) -> Result<(), Fail> {
 }
 
 #[test]
-fn long_chains_are_walked(rt: HostRuntime) -> Result<(), Fail> {
+fn long_chains_are_walked(rt: HostRuntime) -> Result<(), Refused> {
     let alloc = rt.alloc();
     assert_eq!(rt; walk_len(alloc, 100_000, &[0])?, 100_001);
     assert_eq!(rt; walk_len(alloc, 100_000, &[99_999])?, 2);

@@ -32,7 +32,7 @@ fn words_are_cut_at_white_space(rt: HostRuntime) {
     for row in &WORDS {
         let (shows, text, from, span) = *row;
         assert!(rt; from <= text.len());
-        assert_eq!(rt; next_word(text, from), span, "{shows}");
+        assert!(rt; next_word(text, from) == span, "{shows}");
     }
 }
 
