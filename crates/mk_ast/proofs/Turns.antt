@@ -3,15 +3,19 @@ use Rattle.std.proofs.Common.{◌≡◌, ◌≢◌, ℕ, suc, zero, ◌-◌, ◌
 use Rattle.std.proofs.Common.{◌∷◌, length, slice_index, Ok, Err, refl, sym, ap, arith, drop}
 use Rattle.std.proofs.lemmas.Bool.Decides.{nat_tests}
 use Rattle.mk_bytes.specs.Agrees.{◌>>=◌}
-use Rattle.mk_bytes.specs.Bytes.{colon}
+use Rattle.mk_bytes.specs.Bytes.{colon, equals_sign}
 use Rattle.mk_ast.specs.Tree.{Tree, Part, Mods, Mod, end, part, ref, no_mods, mod_then, tree_append}
-use Rattle.mk_ast.specs.Tree.{mods_append}
-use Rattle.mk_ast.specs.Places.{is_over}
-use Rattle.mk_ast.specs.Text.{Read, Refs, part_at, text_at}
-use Rattle.mk_ast.specs.Modifiers.{modifier_at}
+use Rattle.mk_ast.specs.Tree.{subst, suffix, mods_append}
+use Rattle.mk_ast.specs.Places.{ends_modifier, is_over}
+use Rattle.mk_ast.specs.Text.{Read, Refs, part_at, text_at, text_in}
+use Rattle.mk_ast.specs.Modifiers.{made, argument_at, argument_place, argument_len, argument_mod}
+use Rattle.mk_ast.specs.Modifiers.{closed_at, flags_at, subst_at, new_at, modifier_at}
 use Rattle.mk_ast.specs.References.{mods_at, named_at, dollar_before, ref_at}
 use Rattle.mk_ast.specs.declared.fault.AstFault.TheVariants.{Unclosed}
 use Rattle.mk_ast.specs.declared.place.Place.{Place}
+use Rattle.mk_ast.specs.declared.place.Place.TheVariants.{From, To, New}
+use Rattle.mk_ast.specs.declared.row.Argument.{Argument}
+use Rattle.mk_ast.specs.declared.row.Argument.TheVariants as argument
 
 -- the parts so far, and what is read next
 abbrev pub after_parts : Tree → Read Tree → Read Tree
@@ -115,3 +119,29 @@ unfolding ref_at
 ref_at-more total zero round text more = absurd (omega arith)
 ref_at-more total (suc depth) round text more =
     let left : suc depth - 1 ≡ depth = omega arith in rw left refl
+
+pub argument_at-made : (refs : Refs) (round : Bool) (one : Argument) (text : List ℕ)
+    → argument_at refs round one text
+    ≡ made (argument_mod one) (text_in refs (argument_place round one) (drop (argument_len one) text))
+argument_at-made refs round argument.Keep text = refl
+argument_at-made refs round argument.Without text = refl
+argument_at-made refs round argument.RangeTo text = refl
+argument_at-made refs round argument.IfUndefined text = refl
+argument_at-made refs round argument.IfDefined text = refl
+
+pub subst_at-more : (refs : Refs) (start : ℕ) (round : Bool) (text : List ℕ) → 0 < length text
+    → ends_modifier round (slice_index text 0) ≡ false
+    → subst_at refs start round text
+    ≡ (closed_at refs start (From (slice_index text 0) true) (drop 1 text)
+    >>= λ from. closed_at refs start (To (slice_index text 0)) from.1
+    >>= λ to. flags_at start round to.1
+    >>= λ flags. Ok (subst (slice_index text 0) from.0 to.0 flags.0, flags.1))
+subst_at-more refs start round [] some goes = absurd (omega arith)
+subst_at-more refs start round (delim ∷ bytes) some goes = rw goes refl
+
+pub new_at-more : (refs : Refs) (start opened : ℕ) (round : Bool) (old : Tree) (text : List ℕ)
+    → 0 < length text → slice_index text 0 ≡ equals_sign
+    → new_at refs start opened round old text
+    ≡ made (suffix old) (text_in refs (New round) (drop 1 text))
+new_at-more refs start opened round old [] some equals = absurd (omega arith)
+new_at-more refs start opened round old (byte ∷ bytes) some equals = rw equals refl

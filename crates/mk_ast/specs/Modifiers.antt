@@ -35,6 +35,30 @@ argument_at refs round argument.IfUndefined bytes =
 argument_at refs round argument.IfDefined bytes =
     made if_defined (text_in refs (place.Value round) (drop 1 bytes))
 
+-- the place of the text behind a letter or a word
+abbrev pub argument_place : Bool → Argument → Place
+argument_place round argument.Keep = place.Pattern round
+argument_place round argument.Without = place.Pattern round
+argument_place round argument.RangeTo = place.Count round
+argument_place round argument.IfUndefined = place.Value round
+argument_place round argument.IfDefined = place.Value round
+
+-- how many bytes a letter or a word is
+abbrev pub argument_len : Argument → ℕ
+argument_len argument.Keep = 1
+argument_len argument.Without = 1
+argument_len argument.RangeTo = 6
+argument_len argument.IfUndefined = 1
+argument_len argument.IfDefined = 1
+
+-- what a letter or a word makes of its text
+abbrev pub argument_mod : Argument → Tree → Mod
+argument_mod argument.Keep = keep
+argument_mod argument.Without = without
+argument_mod argument.RangeTo = range_to
+argument_mod argument.IfUndefined = if_undefined
+argument_mod argument.IfDefined = if_defined
+
 -- past the delimiter that ended a text; without it the modifier is not completed
 abbrev pub past_delim : ℕ → Tree × List ℕ → Read Tree
 past_delim start (text, []) = Err (BadModifier start)

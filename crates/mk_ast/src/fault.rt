@@ -5,7 +5,7 @@ use mk_bytes::NoMemory;
 
 /// The first fault that a reading forwards meets in a text. Places are counted in bytes, from 0 at
 /// the beginning of the text.
-#[derive(Clone, Copy, Debug, PartialEq, Eq)]
+#[derive(Clone, Copy, PartialEq, Eq)]
 pub enum AstFault {
     /// The text ends inside the reference whose `$` is at this place. Of several open ones the
     /// innermost counts.

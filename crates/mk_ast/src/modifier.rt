@@ -1,5 +1,5 @@
 //! Modifiers, row by row. Each function gives what it read and the bytes behind it.
-ghost use Rattle.std.specs.Prelude.{◌-◌, ◌+◌, ◌≤◌, length, IfOk};
+ghost use Rattle.std.specs.Prelude.{◌≡◌, ◌-◌, ◌+◌, ◌≤◌, length, IfOk};
 ghost use Rattle.mk_bytes.specs.Agrees.{Agrees};
 ghost use Rattle.mk_ast.specs.Modifiers as spec;
 ghost use Rattle.mk_ast.specs.Places.{nesting};
@@ -50,9 +50,35 @@ pub fn modifier_at<'t>(
     }
 }
 
+// The place of the text behind a letter or a word, and how many bytes these are.
+fn argument_place(round: bool, argument: Argument) -> (Place, usize)
+    ensures place { result.0 ≡ spec.argument_place round argument }
+    ensures len { result.1 ≡ spec.argument_len argument }
+    ensures nesting { nesting result.0 ≡ 0 }
+{
+    match argument {
+        Argument::Keep | Argument::Without => (Place::Pattern { round }, 1),
+        Argument::RangeTo => (Place::Count { round }, 6),
+        Argument::IfUndefined | Argument::IfDefined => (Place::Value { round }, 1),
+    }
+}
+
+// The modifier that a letter or a word makes of its text.
+#[tactic(auto, using(crate::proofs::Views::views))]
+fn with_argument(argument: Argument, text: Tree) -> ModTree
+    ensures { mod_view result ≡ spec.argument_mod argument (tree_view text) }
+{
+    match argument {
+        Argument::Keep => ModTree::Keep(text),
+        Argument::Without => ModTree::Without(text),
+        Argument::RangeTo => ModTree::Range(Some(text)),
+        Argument::IfUndefined => ModTree::IfUndefined(text),
+        Argument::IfDefined => ModTree::IfDefined(text),
+    }
+}
+
 // A letter or a word, and one text up to its end.
 #[cycle(read)]
-#[tactic(auto, using(crate::proofs::Views::views))]
 fn argument_at<'t>(
     alloc: Global,
     level: Level,
@@ -65,28 +91,9 @@ fn argument_at<'t>(
         (spec.argument_at (references.ref_at level.total level.depth) round argument text.now) }
     ensures shorter { IfOk result (λ x. length x.1.now ≤ length text.now) }
 {
-    match argument {
-        Argument::Keep => {
-            let (tree, rest) = text_at(alloc, level, Place::Pattern { round }, skip(text, 1))?;
-            Ok((ModTree::Keep(tree), rest))
-        }
-        Argument::Without => {
-            let (tree, rest) = text_at(alloc, level, Place::Pattern { round }, skip(text, 1))?;
-            Ok((ModTree::Without(tree), rest))
-        }
-        Argument::RangeTo => {
-            let (tree, rest) = text_at(alloc, level, Place::Count { round }, skip(text, 6))?;
-            Ok((ModTree::Range(Some(tree)), rest))
-        }
-        Argument::IfUndefined => {
-            let (tree, rest) = text_at(alloc, level, Place::Value { round }, skip(text, 1))?;
-            Ok((ModTree::IfUndefined(tree), rest))
-        }
-        Argument::IfDefined => {
-            let (tree, rest) = text_at(alloc, level, Place::Value { round }, skip(text, 1))?;
-            Ok((ModTree::IfDefined(tree), rest))
-        }
-    }
+    let (place, len) = argument_place(round, argument);
+    let (tree, rest) = text_at(alloc, level, place, skip(text, len))?;
+    Ok((with_argument(argument, tree), rest))
 }
 
 // A text, and past the delimiter that ends it.

@@ -3,7 +3,7 @@ use crate::kind::BlockFault;
 use mk_bytes::{NoMemory, Text};
 
 /// Why a language does not process a line: a fault W of the line, or a failure F of the outside.
-#[derive(Debug, Drop)]
+#[derive(Drop)]
 pub enum LanguageFault<W, F> {
     /// This is wrong with the line.
     Wrong(W),
@@ -25,7 +25,7 @@ impl<W, F> From<NoMemory> for LanguageFault<W, F> {
 }
 
 /// What is wrong with a line of a file.
-#[derive(Debug, Drop)]
+#[derive(Drop)]
 pub enum Wrong<W> {
     /// The logical line is longer than 1,048,576 bytes.
     TooLong,
@@ -38,7 +38,7 @@ pub enum Wrong<W> {
 }
 
 /// Why a file is not read to its end.
-#[derive(Debug, Drop)]
+#[derive(Drop)]
 pub enum FileFault<W, F> {
     /// What is wrong with a line, behind the name of its file and its number. A logical line has
     /// the number of its first physical line, counted from 1.
@@ -54,7 +54,7 @@ pub enum FileFault<W, F> {
 }
 
 /// One line or turn too many.
-#[derive(Clone, Copy, Debug)]
+#[derive(Clone, Copy)]
 pub struct OverLimit;
 
 impl<W, F> From<OverLimit> for FileFault<W, F> {

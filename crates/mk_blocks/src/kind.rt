@@ -1,7 +1,7 @@
 //! What a line is for the blocks of its file.
 
 /// What a logical line is for the blocks of its file.
-#[derive(Clone, Copy, Debug, PartialEq, Eq)]
+#[derive(Clone, Copy, PartialEq, Eq)]
 pub enum LineKind {
     /// A line that is processed and counted.
     Plain,
@@ -26,7 +26,7 @@ pub enum LineKind {
 }
 
 /// What is wrong with the blocks of a file.
-#[derive(Clone, Copy, Debug, PartialEq, Eq)]
+#[derive(Clone, Copy, PartialEq, Eq)]
 pub enum BlockFault {
     /// Another branch where no if-block is open whose `.else` is still to come.
     Else,

@@ -7,7 +7,7 @@ use mk_bytes::{Text, Texts};
 use std::alloc::Global;
 
 /// The names of a loop, and its words. In each turn the names stand for as many words, in order.
-#[derive(Debug, Drop)]
+#[derive(Drop)]
 pub struct Loop {
     pub names: Texts,
     pub words: Texts,
@@ -16,7 +16,7 @@ pub struct Loop {
 }
 
 /// A file that is to be included.
-#[derive(Debug, Drop)]
+#[derive(Drop)]
 pub struct IncludedFile {
     /// Its name in faults and messages.
     pub name: Text,

@@ -1,7 +1,7 @@
 //! Blocks that are open.
 
 /// The part of a block in which a line stands.
-#[derive(Clone, Copy, Debug)]
+#[derive(Clone, Copy)]
 pub enum BlockPart {
     /// A branch of an if-block, behind which another one may follow.
     Branch,
@@ -12,7 +12,7 @@ pub enum BlockPart {
 }
 
 /// A block that is open.
-#[derive(Clone, Copy, Debug)]
+#[derive(Clone, Copy)]
 pub struct OpenBlock {
     /// The number of the line that began it.
     pub first: u32,

@@ -30,7 +30,7 @@ pub struct Place<'t> {
 }
 
 /// What a line leads to.
-#[derive(Clone, Copy, Debug)]
+#[derive(Clone, Copy)]
 pub enum Step {
     /// Reading goes on at the place.
     On,

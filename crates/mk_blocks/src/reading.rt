@@ -180,11 +180,9 @@ fn process<L: Language>(
         LineKind::Plain => plain_line(file, language, count, place, line),
         LineKind::Uncounted => uncounted_line(file, language, place, line),
         LineKind::If => begin_if(file, language, count, place, line),
-        LineKind::ElseIf => Ok(pass_branches(file.alloc, language, place)?),
-        LineKind::Else => Ok(pass_branches(file.alloc, language, place)?),
-        LineKind::EndIf => Ok(leave_block(place)),
+        LineKind::ElseIf | LineKind::Else => Ok(pass_branches(file.alloc, language, place)?),
+        LineKind::EndIf | LineKind::EndFor => Ok(leave_block(place)),
         LineKind::For => begin_loop(file, language, count, place, line),
-        LineKind::EndFor => Ok(leave_block(place)),
         LineKind::Break => stop(file, language, count, place),
         LineKind::Include => include_line(file, language, count, place, line),
     }

@@ -4,7 +4,7 @@ use Rattle.std.proofs.Common.{None, refl, sym, ap, ◌∙◌}
 use Rattle.std.proofs.lemmas.List.{length-map, map-append}
 use Rattle.std.specs.Option.{option_map}
 use Rattle.mk_graph.specs.Nodes.{Node, names_of, new_node, number_of, is_named}
-use Rattle.mk_pool.specs.Pool.{is_held, name_of}
+use Rattle.mk_pool.specs.Pool.{name_of}
 use Rattle.mk_pool.proofs.PoolLemmas.{name_of-append}
 use Rattle.mk_pool.specs.declared.pool.Name.{Name}
 
@@ -32,12 +32,3 @@ number_of-append nodes all name n absent is free =
     number-found _ (record { 0 = n })
     (name_of-append (names_of nodes) (names_of all) name (record { 0 = n }) absent names
     (free ∙ sym count))
-
--- the next name is the number of the names
-pub next_name : (names all : List (List ℕ)) (name : List ℕ) (given : Name)
-    → is_held names name ≡ false → all ≡ names ++ name ∷ [] → name_of all name ≡ Some given
-    → given.0 ≡ length names
-next_name names all name given absent is found =
-    let free = name_of-append names all name (record { 0 = length names }) absent is refl in
-    let same : given ≡ record { 0 = length names } = cc in
-    ap (λ (n : Name). n.0) same

@@ -3,7 +3,7 @@ ghost use Rattle.std.specs.Prelude.{◌≡◌};
 ghost use Rattle.mk_graph.specs.Marks as spec;
 
 /// What a node can be marked with.
-#[derive(Clone, Copy, Debug, PartialEq, Eq)]
+#[derive(Clone, Copy, PartialEq, Eq)]
 pub enum Attr {
     /// `.PHONY`: it is no file, and always out of date.
     Phony,
@@ -40,7 +40,7 @@ pub enum Attr {
 }
 
 /// The attributes of a node, each by itself.
-#[derive(Clone, Copy, Debug)]
+#[derive(Clone, Copy)]
 pub struct Marks {
     pub phony: bool,
     pub exec: bool,
@@ -113,60 +113,26 @@ impl Marks {
     pub fn with(self, attr: Attr) -> Marks
         ensures { result ≡ spec.marked self attr }
     {
+        let mut marks = self;
         match attr {
-            Attr::Phony => Marks {
-                phony: true,
-                ..self
-            },
-            Attr::Exec => Marks { exec: true, ..self },
-            Attr::Optional => Marks {
-                optional: true,
-                ..self
-            },
-            Attr::Precious => Marks {
-                precious: true,
-                ..self
-            },
-            Attr::Silent => Marks {
-                silent: true,
-                ..self
-            },
-            Attr::Ignore => Marks {
-                ignore: true,
-                ..self
-            },
-            Attr::NotMain => Marks {
-                not_main: true,
-                ..self
-            },
-            Attr::Macro => Marks {
-                macro_behind: true,
-                ..self
-            },
-            Attr::MacroBefore => Marks {
-                macro_before: true,
-                ..self
-            },
-            Attr::Wait => Marks { wait: true, ..self },
-            Attr::Meta => Marks { meta: true, ..self },
-            Attr::NoMeta => Marks {
-                no_meta: true,
-                ..self
-            },
-            Attr::NoMetaCmp => Marks {
-                no_meta_cmp: true,
-                ..self
-            },
-            Attr::Remake => Marks {
-                remake: true,
-                ..self
-            },
-            Attr::Target => Marks {
-                target: true,
-                ..self
-            },
-            Attr::Rule => Marks { rule: true, ..self },
+            Attr::Phony => marks.phony = true,
+            Attr::Exec => marks.exec = true,
+            Attr::Optional => marks.optional = true,
+            Attr::Precious => marks.precious = true,
+            Attr::Silent => marks.silent = true,
+            Attr::Ignore => marks.ignore = true,
+            Attr::NotMain => marks.not_main = true,
+            Attr::Macro => marks.macro_behind = true,
+            Attr::MacroBefore => marks.macro_before = true,
+            Attr::Wait => marks.wait = true,
+            Attr::Meta => marks.meta = true,
+            Attr::NoMeta => marks.no_meta = true,
+            Attr::NoMetaCmp => marks.no_meta_cmp = true,
+            Attr::Remake => marks.remake = true,
+            Attr::Target => marks.target = true,
+            Attr::Rule => marks.rule = true,
         }
+        marks
     }
 
     /// Whether a node with these is a macro.

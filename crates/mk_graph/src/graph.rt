@@ -8,7 +8,7 @@ use crate::attr::{Attr, Marks};
 use crate::links::Links;
 use crate::lists::Nodes;
 use crate::macros::use_all;
-use mk_bytes::{NoMemory, Text, Texts};
+use mk_bytes::{Items, NoMemory, Text, Texts};
 use mk_pool::{MAX_NAMES, Name, Pool, PoolFault};
 use std::alloc::Global;
 use std::marker::Model;
@@ -16,7 +16,7 @@ use std::marker::Model;
 /// Nodes in the order of their first mention, each with a number: 0, 1, 2 and so on. Contracts see
 /// the list of nodes, each with its name, its sources, the nodes that are ordered before it, its
 /// commands and its attributes. Each name stands once.
-#[derive(Debug, Drop)]
+#[derive(Drop)]
 pub struct Graph {
     alloc: Global,
     names: Pool,
@@ -33,6 +33,20 @@ impl Model for Graph {
     ghost view = { λ graph. nodes_of graph.names graph.nodes.items };
 
     ghost invariant = { λ graph. IsHeld graph.names graph.nodes.items };
+}
+
+// Adds a text at the end. The first one takes room for itself alone, since most nodes have no other.
+fn add_text(alloc: Global, texts: &mut Texts, text: Text) -> Result<(), NoMemory>
+    ensures ok { OnOk result (texts.new ≡ texts.old ++ text ∷ []) }
+    ensures err { OnErr result (texts.new ≡ texts.old) }
+{
+    if texts.is_empty() {
+        let mut first = Items::new(alloc, 1)?;
+        first.push(text)?;
+        *texts = first;
+        return Ok(());
+    }
+    texts.push(text)
 }
 
 impl Graph {
@@ -109,9 +123,7 @@ impl Graph {
     {
         let links = Links::none(self.alloc)?;
         self.nodes.reserve(1)?;
-        let Ok(name) = self.names.intern(name) else {
-            return Err(NoMemory);
-        };
+        let name = self.names.add(name)?;
         self.nodes.push(links).unwrap();
         Ok(name.0)
     }
@@ -143,7 +155,7 @@ impl Graph {
         ensures err { OnErr result (self.new ≡ self.old) }
     {
         let text = Text::from_bytes(self.alloc, text)?;
-        self.nodes[n as usize].commands.push(text)
+        add_text(self.alloc, &mut self.nodes[n as usize].commands, text)
     }
 
     /// Marks a node. Takes no memory, so it always succeeds.

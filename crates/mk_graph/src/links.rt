@@ -7,7 +7,7 @@ use mk_bytes::{Items, NoMemory, Texts};
 use std::alloc::Global;
 
 /// What a node has beside its name.
-#[derive(Debug, Drop)]
+#[derive(Drop)]
 pub struct Links {
     pub sources: Nodes,
     /// The nodes that are made before it without being its sources.

@@ -2,7 +2,7 @@ use mk_bytes::Texts;
 
 /// How a build goes, as the makefiles of a run ask for it (make(1), `.MAKE.MODE` and
 /// `.MAKE.META.IGNORE_PATHS`, and the special targets `.NOTPARALLEL` and `.DELETE_ON_ERROR`).
-#[derive(Debug, Drop)]
+#[derive(Drop)]
 pub struct Mode {
     /// Meta files are written and read.
     pub meta: bool,

@@ -14,7 +14,7 @@ use std::alloc::Global;
 use std::marker::Model;
 
 // How far a walk has come with a node.
-#[derive(Clone, Copy, Debug)]
+#[derive(Clone, Copy)]
 enum Mark {
     New,
     OnPath,
@@ -22,7 +22,7 @@ enum Mark {
 }
 
 // What a step of a walk comes to.
-#[derive(Clone, Copy, Debug)]
+#[derive(Clone, Copy)]
 enum Turn {
     On,
     /// This node is done.
@@ -154,7 +154,7 @@ fn from_node<'v, 't>(path: &'v [Step<'t>], n: u32) -> &'v [Step<'t>]
 }
 
 /// What a depth-first walk comes to.
-#[derive(Debug, Drop)]
+#[derive(Drop)]
 pub enum Ordered {
     /// The nodes that it reached, each behind its predecessors.
     Order(Nodes),

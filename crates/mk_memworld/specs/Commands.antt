@@ -100,6 +100,16 @@ verb_of word =
     else if bytes_eq word (codes "fail") then Some Fail
     else None
 
+-- of the last five
+abbrev pub other_verb_of : List ℕ → Option Verb
+other_verb_of word =
+    if bytes_eq word (codes "show") then Some Show
+    else if bytes_eq word (codes "say") then Some Say
+    else if bytes_eq word (codes "pick") then Some Pick
+    else if bytes_eq word (codes "probe") then Some Probe
+    else if bytes_eq word (codes "fail") then Some Fail
+    else None
+
 -- an unknown word gives status 127
 abbrev pub does : List ℕ → Option Verb → List (List ℕ) → Talk
 does cwd None words = stops 127 []

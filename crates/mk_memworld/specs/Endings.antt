@@ -1,5 +1,5 @@
 -- How a child is taken in: it does all its remaining steps and ends, and this is told of it.
-use Rattle.std.specs.Prelude.{ℕ, suc, List, [], ◌∷◌, ◌++◌, map, Option, Some, None}
+use Rattle.std.specs.Prelude.{◌≡◌, ℕ, suc, List, [], ◌∷◌, ◌++◌, map, Option, Some, None}
 use Rattle.std.specs.Option.{option_map}
 use Rattle.mk_world.specs.Calls.{op_of}
 use Rattle.mk_world.specs.History.{State, child_in, contents, state_of}
@@ -9,7 +9,9 @@ use Rattle.mk_world.specs.declared.history.Happening.{Happening}
 use Rattle.mk_world.specs.declared.history.Happening.TheVariants.{Step, End}
 use Rattle.mk_world.specs.declared.history.History.{History}
 use Rattle.mk_world.specs.declared.history.Timed.{Timed}
+use Rattle.mk_world.specs.declared.step.Deed.{Deed}
 use Rattle.mk_world.specs.declared.step.Ended.{Ended}
+use Rattle.mk_memworld.specs.Children.{OfChild}
 use Rattle.mk_memworld.specs.Chronicle.{with_events}
 use Rattle.mk_memworld.specs.Clock.{numbers, timed}
 use Rattle.mk_memworld.specs.Meaning.{language}
@@ -29,6 +31,12 @@ steps_of child steps = map (λ step. Step child.ticket child.owner step.deed ste
 abbrev pub to_end : State → Child → Doing → List Happening
 to_end state child rest =
     steps_of child (timed state.clock rest.deeds) ++ End child.ticket child.owner ∷ []
+
+-- a child did these steps, each at the next time, and ended
+abbrev pub DidLast : History → ℕ → List Deed → History → Type 0
+DidLast old ticket deeds new = OfChild ticket (state_of old).children (λ child. new
+    ≡ with_events old (steps_of child (timed (state_of old).clock deeds)
+    ++ End child.ticket child.owner ∷ []))
 
 -- what is told of a child that has done these remaining steps
 abbrev pub told_of : Child → Doing → Ended

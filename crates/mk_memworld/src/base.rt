@@ -1,5 +1,5 @@
 //! The files of a new world.
-ghost use Rattle.std.specs.Prelude.{◌≡◌, IsTrue, IfOk};
+ghost use Rattle.std.specs.Prelude.{◌≡◌, [], IsTrue, IfOk};
 ghost use Rattle.std.specs.Str.{bytes_eq};
 ghost use Rattle.mk_bytes.specs.Paths.{clean, is_clean_directory};
 ghost use Rattle.mk_memworld.specs.Base as spec;
@@ -44,8 +44,20 @@ fn is_clean(alloc: Global, cwd: &Text, path: &Text) -> Result<bool, NoMemory>
 pub fn are_clean(alloc: Global, cwd: &Text, files: &Pairs) -> Result<bool, NoMemory>
     ensures { IfOk result (λ are. are ≡ spec.are_clean cwd.now files.now) }
 {
-    let files = files.as_slice();
     let mut later = IndexSet::new(alloc);
+    all_clean(alloc, cwd, files.as_slice(), &mut later)
+}
+
+// The same, with a set that is empty at the beginning.
+fn all_clean(
+    alloc: Global,
+    cwd: &Text,
+    files: &[Pair],
+    later: &mut IndexSet<Vec<u8>>,
+) -> Result<bool, NoMemory>
+    requires { later.old.keys ≡ [] }
+    ensures { IfOk result (λ are. are ≡ spec.are_clean cwd.now files.now) }
+{
     let mut left = files.len();
     'files: while left > 0 {
         left -= 1;

@@ -10,7 +10,7 @@ use mk_world::{Deed, Timed};
 use std::alloc::Global;
 
 /// A change of the files, with all the memory that it takes beside the room for a new path.
-#[derive(Debug, Drop)]
+#[derive(Drop)]
 pub enum Change {
     Nothing,
     /// A file has these bytes from now on.

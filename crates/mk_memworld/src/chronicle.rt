@@ -20,7 +20,7 @@ use crate::going::Going;
 use crate::rest::{Rest, answers_with, deed_after, is_over, records_of, rest_of};
 use crate::writing::{Writing, beginning};
 use mk_bytes::{Items, NoMemory, Text};
-use mk_world::{Bases, Child, Cmd, Deed, Ended, Happening, Ticket, Timed};
+use mk_world::{Bases, Child, Cmd, Deed, Deeds, Ended, Happening, Ticket, Timed};
 use std::alloc::Global;
 use std::marker::Model;
 
@@ -50,6 +50,7 @@ impl Model for Chronicle {
 impl Chronicle {
     ghost use Rattle.mk_memworld.specs.Chronicle.{with_event};
     ghost use Rattle.mk_memworld.specs.Running.{DidStep, GivesUp, IsRest, OfOldest};
+    ghost use Rattle.mk_memworld.specs.Endings.{DidLast};
     ghost use Rattle.mk_memworld.specs.Writes.{event_of, part_written};
 
     /// These files, with nothing done to them yet.
@@ -224,12 +225,7 @@ impl Chronicle {
             output,
         } = rest;
         let records = records_of(self.alloc, deeds.as_slice(), &[])?;
-        let steps = clock::timed(self.alloc, self.clock, deeds.as_slice())?;
-        let cmd = copy_cmd(self.alloc, cmd)?;
-        self.events.reserve(self.children.len() + 1)?;
-        self.files.apply_all(steps.as_slice())?;
-        self.clock += all_taken(deeds.as_slice());
-        self.events.push(Happening::Ask { cmd, steps }).unwrap();
+        self.run(cmd, &deeds)?;
         Ok(Ended {
             ticket: Ticket(0),
             status,
@@ -238,17 +234,28 @@ impl Chronicle {
         })
     }
 
+    // A command does these steps, with nothing between them.
+    fn run(&mut self, cmd: &Cmd, deeds: &Deeds) -> Result<(), NoMemory>
+        requires { (state_of self.old).clock + numbers deeds.now ≤ last_number }
+        ensures ok { OnOk result (self.new ≡ with_event self.old
+            (Ask cmd.now (timed (state_of self.old).clock deeds.now))) }
+        ensures err { OnErr result (self.new ≡ self.old) }
+    {
+        let steps = clock::timed(self.alloc, self.clock, deeds.as_slice())?;
+        let cmd = copy_cmd(self.alloc, cmd)?;
+        self.events.reserve(self.children.len() + 1)?;
+        self.files.apply_all(steps.as_slice())?;
+        self.clock += all_taken(deeds.as_slice());
+        self.events.push(Happening::Ask { cmd, steps }).unwrap();
+        Ok(())
+    }
+
     /// Make starts a child.
     pub fn start(&mut self, ticket: u32, owner: u64, cmd: &Cmd) -> Result<(), NoMemory>
         ensures ok { OnOk result (self.new ≡ with_event self.old (Start ticket owner cmd.now)) }
         ensures err { OnErr result (self.new ≡ self.old) }
     {
-        let child = Child {
-            ticket,
-            owner,
-            cmd: copy_cmd(self.alloc, cmd)?,
-            deeds: Items::new(self.alloc, 0)?,
-        };
+        let child = new_child(self.alloc, ticket, owner, cmd)?;
         let cmd = copy_cmd(self.alloc, cmd)?;
         // for this event, and for the one that ends each child
         self.events.reserve(self.children.len() + 2)?;
@@ -352,14 +359,13 @@ impl Chronicle {
         let owner = find(&self.children, ticket).unwrap().owner;
         let time = self.clock + numbers_taken(deed);
         let copy = copy_deed(self.alloc, deed)?;
-        let again = copy_deed(self.alloc, deed)?;
         self.events.reserve(self.children.len() + 1)?;
         do_step(
+            self.alloc,
             &mut self.files,
             &mut self.children,
             ticket,
             deed,
-            again,
             time,
         )?;
         self.clock = time;
@@ -404,6 +410,23 @@ impl Chronicle {
         } = rest;
         let child = find(&self.children, ticket).unwrap();
         let records = records_of(self.alloc, child.deeds.as_slice(), deeds.as_slice())?;
+        self.end(ticket, &deeds)?;
+        Ok(Ended {
+            ticket: Ticket(ticket),
+            status,
+            output,
+            records: Some(records),
+        })
+    }
+
+    // A child does these steps, with nothing between them, and is at its end.
+    fn end(&mut self, ticket: u32, deeds: &Deeds) -> Result<(), NoMemory>
+        requires held { IsSome (child_in (state_of self.old).children ticket) }
+        requires numbers { (state_of self.old).clock + numbers deeds.now ≤ last_number }
+        ensures ok { OnOk result (DidLast self.old ticket deeds.now self.new) }
+        ensures err { OnErr result (self.new ≡ self.old) }
+    {
+        let child = find(&self.children, ticket).unwrap();
         let timed = clock::timed(self.alloc, self.clock, deeds.as_slice())?;
         let mut events = last_events(self.alloc, child, timed.as_slice())?;
         self.events.reserve(events.len() + self.children.len())?;
@@ -411,12 +434,7 @@ impl Chronicle {
         self.clock += all_taken(deeds.as_slice());
         take_child(&mut self.children, ticket);
         self.events.append(&mut events).unwrap();
-        Ok(Ended {
-            ticket: Ticket(ticket),
-            status,
-            output,
-            records: Some(records),
-        })
+        Ok(())
     }
 
     /// The oldest child is given up. Takes no memory.
@@ -427,6 +445,19 @@ impl Chronicle {
         let Child { ticket, owner, .. } = self.children.remove(0);
         self.events.push(Happening::Left { ticket, owner }).unwrap();
     }
+}
+
+// A child that has done nothing.
+fn new_child(alloc: Global, ticket: u32, owner: u64, cmd: &Cmd) -> Result<Child, NoMemory>
+    ensures { IfOk result (λ child. child
+        ≡ record { ticket = ticket; owner = owner; cmd = cmd.now; deeds = [] }) }
+{
+    Ok(Child {
+        ticket,
+        owner,
+        cmd: copy_cmd(alloc, cmd)?,
+        deeds: Items::new(alloc, 0)?,
+    })
 }
 
 // The first child with a ticket.
@@ -499,34 +530,41 @@ fn nth_going(children: &[Child], ended: &[u32], number: u32) -> Option<u32>
 
 // A child does a step.
 fn do_step(
+    alloc: Global,
     files: &mut Files,
     children: &mut Vec<Child>,
     ticket: u32,
     deed: &Deed,
-    copy: Deed,
     time: u64,
 ) -> Result<(), NoMemory>
     requires { IsSome (child_in children.old.items ticket) }
     ensures files { OnOk result (files_in files.new
         ≡ effected_all (files_in files.old) (at_time time (changes deed.now))) }
-    ensures children { OnOk result (children.new.items ≡ stepped ticket copy children.old.items) }
+    ensures children { OnOk result
+        (children.new.items ≡ stepped ticket deed.now children.old.items) }
     ensures count { vec_len children.new ≡ vec_len children.old }
     ensures same_files { OnErr result (files_in files.new ≡ files_in files.old) }
     ensures same_children { OnErr result (children.new.items ≡ children.old.items) }
 {
     let change = files.prepare(deed, time)?;
-    add_deed(children, ticket, copy)?;
+    add_deed(alloc, children, ticket, deed)?;
     files.make(change);
     Ok(())
 }
 
-fn add_deed(children: &mut Vec<Child>, ticket: u32, deed: Deed) -> Result<(), NoMemory>
+fn add_deed(
+    alloc: Global,
+    children: &mut Vec<Child>,
+    ticket: u32,
+    deed: &Deed,
+) -> Result<(), NoMemory>
     requires { IsSome (child_in children.old.items ticket) }
-    ensures ok { OnOk result (children.new.items ≡ stepped ticket deed children.old.items) }
+    ensures ok { OnOk result (children.new.items ≡ stepped ticket deed.now children.old.items) }
     ensures err { OnErr result (children.new.items ≡ children.old.items) }
     ensures count { vec_len children.new ≡ vec_len children.old }
 {
+    let copy = copy_deed(alloc, deed)?;
     let place = place_of(children, ticket).unwrap();
-    children[place].deeds.push(deed)?;
+    children[place].deeds.push(copy)?;
     Ok(())
 }

@@ -1,6 +1,7 @@
 //! Copies of what a world keeps.
 ghost use Rattle.std.specs.Prelude.{◌≡◌, IfOk};
 ghost use Rattle.std.specs.Option.{option_copied};
+ghost use Rattle.mk_world.specs.declared.step.Deed.TheVariants.{Move};
 
 use mk_bytes::{Items, NoMemory, Pair, Pairs, Text};
 use mk_world::{Cmd, Deed};
@@ -65,10 +66,16 @@ pub fn copy_deed(alloc: Global, deed: &Deed) -> Result<Deed, NoMemory>
         Deed::Delete { path } => Ok(Deed::Delete {
             path: path.copy(alloc)?,
         }),
-        Deed::Move { from, to, bytes } => Ok(Deed::Move {
-            from: from.copy(alloc)?,
-            to: to.copy(alloc)?,
-            bytes: bytes.copy(alloc)?,
-        }),
+        Deed::Move { from, to, bytes } => copy_move(alloc, from, to, bytes),
     }
+}
+
+fn copy_move(alloc: Global, from: &Text, to: &Text, bytes: &Text) -> Result<Deed, NoMemory>
+    ensures { IfOk result (λ copy. copy ≡ Move from.now to.now bytes.now) }
+{
+    Ok(Deed::Move {
+        from: from.copy(alloc)?,
+        to: to.copy(alloc)?,
+        bytes: bytes.copy(alloc)?,
+    })
 }

@@ -13,7 +13,7 @@ use mk_world::{Deed, Timed};
 use std::alloc::Global;
 
 /// The bytes of a file, and the time of its last change.
-#[derive(Debug, Drop)]
+#[derive(Drop)]
 pub struct Stored {
     pub bytes: Text,
     pub time: u64,

@@ -6,7 +6,7 @@ ghost use Rattle.mk_memworld.specs.Steps as spec;
 use mk_world::Deed;
 
 /// Who goes on in a call, and with what.
-#[derive(Debug, Drop)]
+#[derive(Drop)]
 pub struct Going {
     /// The child that goes on, by its ticket, where one does.
     pub ticket: Option<u32>,

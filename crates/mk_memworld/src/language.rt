@@ -1,8 +1,8 @@
 //! What a command line asks next.
-ghost use Rattle.std.specs.Prelude.{◌≡◌, ◌<◌, ◌∷◌, length, position, IfOk, IfSome};
+ghost use Rattle.std.specs.Prelude.{◌≡◌, ◌<◌, [], ◌∷◌, length, position, IfOk, IfSome};
 ghost use Rattle.std.specs.List.{slice_split};
 ghost use Rattle.std.specs.Option.{option_copied, option_map};
-ghost use Rattle.mk_memworld.specs.Language.{commands_after, is_semicolon, language_next};
+ghost use Rattle.mk_memworld.specs.Language.{commands_after, in_order, is_semicolon, language_next};
 ghost use Rattle.mk_memworld.specs.Words.{held};
 
 use crate::command::obey;
@@ -36,12 +36,20 @@ pub fn next(alloc: Global, cmd: &Cmd, seen: &[Answer]) -> Result<Next, NoMemory>
     ensures { IfOk result (λ next. next ≡ language_next cmd.now seen.now) }
 {
     let words = words_of(alloc, cmd.text.bytes())?;
+    in_order(alloc, cmd.cwd.bytes(), words.as_slice(), seen)
+}
+
+// What the commands among these words ask next, or their end.
+fn in_order(alloc: Global, cwd: &[u8], words: &[&[u8]], seen: &[Answer]) -> Result<Next, NoMemory>
+    ensures { IfOk result (λ next. next
+        ≡ in_order cwd.now (slice_split is_semicolon (held words.now)) [] seen.now) }
+{
     let mut printed = Text::new(alloc);
-    let mut commands = Some(words.as_slice());
+    let mut commands = Some(words);
     let mut rest = seen;
     'commands: while let Some(line) = commands {
         let (command, more) = first_command(line);
-        match obey(alloc, cmd.cwd.bytes(), command, rest)? {
+        match obey(alloc, cwd, command, rest)? {
             Turn::Asks { request } => return Ok(Next::More { request }),
             Turn::Ends {
                 status,

@@ -9,7 +9,7 @@ use crate::writing::Writing;
 use mk_bytes::Items;
 
 /// A kind of call.
-#[derive(Clone, Copy, Debug, PartialEq, Eq)]
+#[derive(Clone, Copy, PartialEq, Eq)]
 pub enum CallKind {
     Read,
     Time,
@@ -23,7 +23,7 @@ pub enum CallKind {
 }
 
 /// A call that is to fail: the `nth` of its kind, counted from 1.
-#[derive(Clone, Copy, Debug, PartialEq, Eq)]
+#[derive(Clone, Copy, PartialEq, Eq)]
 pub struct Fail {
     pub call: CallKind,
     pub nth: u32,
@@ -36,7 +36,7 @@ pub struct Fail {
 pub type Fails = Items<Fail>;
 
 /// How many calls of each kind were made. A count stands still at its last value.
-#[derive(Debug, Drop)]
+#[derive(Drop)]
 pub struct Made {
     pub read: u64,
     pub time: u64,
@@ -80,7 +80,7 @@ fn count_one(count: &mut u64) -> u64
 
 /// The failures of a world or a sink: which calls are to fail, how many were made, and how many
 /// failed.
-#[derive(Debug, Drop)]
+#[derive(Drop)]
 pub struct Outages {
     fails: Fails,
     made: Made,

@@ -1,5 +1,5 @@
 //! What a command does from here to its end.
-ghost use Rattle.std.specs.Prelude.{◌≡◌, ◌++◌, map, IfOk, OnOk};
+ghost use Rattle.std.specs.Prelude.{◌≡◌, [], ◌∷◌, ◌++◌, map, IfOk, OnOk};
 ghost use Rattle.std.specs.Option.{option_copied};
 ghost use Rattle.mk_world.specs.Calls.{op_of};
 ghost use Rattle.mk_world.specs.Deeds.{Store, after_deed, after_deeds};
@@ -20,7 +20,7 @@ use mk_world::{Answer, Answers, Cmd, Deed, Deeds, Next, Op, Ops, Request};
 use std::alloc::Global;
 
 /// The steps that are left, and the end behind them.
-#[derive(Debug, Drop)]
+#[derive(Drop)]
 pub struct Rest {
     pub deeds: Deeds,
     pub status: u8,
@@ -196,6 +196,30 @@ pub fn is_over(alloc: Global, cmd: &Cmd, answers: Answers) -> Result<bool, NoMem
     }
 }
 
+// A request does its step behind these ones, and is answered.
+fn do_request(
+    alloc: Global,
+    files: &Files,
+    step: Option<&Deed>,
+    request: Request,
+    answers: &mut Answers,
+    deeds: &mut Deeds,
+) -> Result<(), NoMemory>
+    ensures answers { OnOk result (answers.new ≡ answers.old
+        ++ spec.answer (spec.deed_on request
+        (after_deeds (after_step (contents (files_in files.now)) (option_copied step.entry))
+        deeds.old)) ∷ []) }
+    ensures deeds { OnOk result (deeds.new ≡ deeds.old
+        ++ spec.deed_on request
+        (after_deeds (after_step (contents (files_in files.now)) (option_copied step.entry))
+        deeds.old) ∷ []) }
+{
+    let deed = deed_on(alloc, files, step, deeds.as_slice(), request)?;
+    answers.push(answer_to(alloc, &deed)?)?;
+    deeds.push(deed)?;
+    Ok(())
+}
+
 /// What a command does from these answers on to its end, on the files after a step, where there is
 /// one, which no one else changes.
 pub fn rest_of(
@@ -211,7 +235,7 @@ pub fn rest_of(
 {
     let mut answers = seen;
     let mut deeds = Items::new(alloc, 0)?;
-    loop {
+    'steps: loop {
         match next(alloc, cmd, answers.as_slice())? {
             Next::Over { status, output } => {
                 return Ok(Rest {
@@ -221,9 +245,7 @@ pub fn rest_of(
                 });
             }
             Next::More { request } => {
-                let deed = deed_on(alloc, files, step, deeds.as_slice(), request)?;
-                answers.push(answer_to(alloc, &deed)?)?;
-                deeds.push(deed)?;
+                do_request(alloc, files, step, request, &mut answers, &mut deeds)?;
             }
         }
     }

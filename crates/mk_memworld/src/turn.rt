@@ -10,7 +10,7 @@ use mk_world::{Answer, Request};
 use std::alloc::Global;
 
 /// Where a command stands.
-#[derive(Debug, Drop)]
+#[derive(Drop)]
 pub enum Turn<'a> {
     /// It asks for more.
     Asks {

@@ -3,7 +3,7 @@ ghost use Rattle.std.specs.Prelude.{◌≡◌};
 ghost use Rattle.mk_memworld.specs.Commands as spec;
 
 /// What a command does.
-#[derive(Clone, Copy, Debug, PartialEq, Eq)]
+#[derive(Clone, Copy, PartialEq, Eq)]
 pub enum Verb {
     Put,
     Cat,
@@ -31,7 +31,16 @@ pub fn verb_of(word: &[u8]) -> Option<Verb>
         Some(Verb::Move)
     } else if word == b"del".as_slice() {
         Some(Verb::Del)
-    } else if word == b"show".as_slice() {
+    } else {
+        other_verb_of(word)
+    }
+}
+
+// The verb that a word is, of the last five.
+fn other_verb_of(word: &[u8]) -> Option<Verb>
+    ensures { result ≡ spec.other_verb_of word.now }
+{
+    if word == b"show".as_slice() {
         Some(Verb::Show)
     } else if word == b"say".as_slice() {
         Some(Verb::Say)

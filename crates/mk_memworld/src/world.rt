@@ -134,29 +134,29 @@ impl MemWorld {
 
     // The child whose turn it is goes on. `Failed`, which is counted, comes exactly where the clock
     // has too few numbers for its step and for so many changes behind it; nobody goes on then.
-    fn go_on(&mut self, going: Going, more: u64) -> Result<(), WorldFault>
-        requires turn { IsTurn self.old.chronicle going }
+    fn go_on(&mut self, going: &Going, more: u64) -> Result<(), WorldFault>
+        requires turn { IsTurn self.old.chronicle going.now }
         ensures history { OnOk result
-            (self.new.chronicle ≡ gone_on self.old.chronicle going.ticket) }
+            (self.new.chronicle ≡ gone_on self.old.chronicle going.now.ticket) }
         ensures course { OnOk result (self.new.schedule ≡ record self.old.schedule {
-          ended = with_ended self.old.schedule.ended going.ended;
+          ended = with_ended self.old.schedule.ended going.now.ended;
         }) }
         ensures same { OnFailed result (self.new.chronicle ≡ self.old.chronicle) }
         ensures same_course { OnErr result (self.new.schedule ≡ self.old.schedule) }
         ensures out_of_memory { OnNoMemory result ((self.new.chronicle ≡ self.old.chronicle)
-            ⊎ (self.new.chronicle ≡ gone_on self.old.chronicle going.ticket)) }
+            ⊎ (self.new.chronicle ≡ gone_on self.old.chronicle going.now.ticket)) }
         ensures steps { AddsSteps self.old.chronicle self.new.chronicle }
         ensures tickets { tickets_of (state_of self.new.chronicle).children
             ≡ tickets_of (state_of self.old.chronicle).children }
-        ensures exactly { FailsWhere (IsTurnShort self.old going more) result }
+        ensures exactly { FailsWhere (IsTurnShort self.old going.now more) result }
         ensures counted { self.new.outages ≡ with_answer self.old.outages result }
         ensures cause { HasCause Failed self.old.outages.faults self.new.outages.faults result }
     {
-        if !self.chronicle.has_numbers(&going, more) {
+        if !self.chronicle.has_numbers(going, more) {
             self.outages.fail();
             return Err(WorldFault::Failed);
         }
-        self.chronicle.go_on(&going)?;
+        self.chronicle.go_on(going)?;
         self.schedule.note(going.ended)?;
         Ok(())
     }
@@ -179,7 +179,7 @@ impl MemWorld {
         ensures counted { self.new.outages ≡ with_answer self.old.outages result }
         ensures cause { HasCause Failed self.old.outages.faults self.new.outages.faults result }
     {
-        self.go_on(going, changes)?;
+        self.go_on(&going, changes)?;
         if is_struck {
             self.outages.fail();
             return Err(WorldFault::Failed);
@@ -233,7 +233,7 @@ impl MemWorld {
             return Err(WorldFault::Failed);
         }
         let going = self.next()?;
-        self.go_on(going, 1)?;
+        self.go_on(&going, 1)?;
         Ok(is_struck)
     }
 

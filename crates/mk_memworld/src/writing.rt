@@ -7,7 +7,7 @@ use mk_bytes::Text;
 use mk_world::Happening;
 
 /// A call that writes a whole file.
-#[derive(Clone, Copy, Debug, PartialEq, Eq)]
+#[derive(Clone, Copy, PartialEq, Eq)]
 pub enum Writing {
     /// The head of a meta file is written, with which a job begins.
     Stamp,

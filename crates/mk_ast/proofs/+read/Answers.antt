@@ -13,7 +13,9 @@ use Rattle.mk_ast.specs.declared.fault.AstFault.TheVariants.{NoMemory as no_memo
 use Rattle.mk_ast.proofs.Turns.{after_parts, after_mods, after_parts-more, after_mods-more}
 use Rattle.mk_ast.proofs.Turns.{tree_append-end, mods_append-none, text_at-over, text_at-more}
 use Rattle.mk_ast.proofs.Turns.{mods_at-unclosed, mods_at-closed, mods_at-more, ref_at-more}
-use Rattle.mk_ast.proofs.Views.{view-Ref, tree_view-append, mods_view-append}
+use Rattle.mk_ast.proofs.Turns.{argument_at-made, new_at-more, subst_at-more}
+use Rattle.mk_ast.proofs.Views.{view-Ref, view-Subst, view-Select, view-Choose, view-Suffix}
+use Rattle.mk_ast.proofs.Views.{tree_view-append, mods_view-append}
 use Rattle.mk_ast.proofs.+read.Goals as goal
 
 pub read::mods_at-returns-then-rest-ne58-clause-gives
@@ -184,3 +186,158 @@ read::text_at-returns-clause-gives t c =
     let over = text_at-over (ref_at c.args.level.total c.args.level.depth) c.parts.place i.0 s i.1
     (sym c.is_over.ensures.same ∙ c.parts-test.false) in
     i.2 ∙ ap (after_parts (tree_view c.parts.tree)) over ∙ ap (λ t. Ok (t, s)) (tree_append-end _)
+
+pub modifier::argument_at-returns-in_err-tree-clause-gives
+    : goal.modifier::argument_at-returns-in_err-tree-clause-gives
+modifier::argument_at-returns-in_err-tree-clause-gives t c =
+    let is = err_from_is_err_and c.from_residual.result c.from_residual.ensures.1 in
+    let fault = c.in_err-tree.field-0.0 in
+    let given = c.argument_place-place.ensures in
+    let one = rw (given.place, c.skip.ensures, given.len) at c.in_err-tree.ensures.gives in
+    rw (
+      is.1,
+      is.2,
+      argument_at-made (ref_at c.args.level.total c.args.level.depth) c.args.round c.args.argument
+          c.args.text.now,
+    )
+    (AgreesErr-bind no_memory fault _ _ one)
+
+pub modifier::argument_at-returns-clause-gives : goal.modifier::argument_at-returns-clause-gives
+modifier::argument_at-returns-clause-gives t c =
+    let given = c.argument_place-place.ensures in
+    let one = rw (given.place, c.skip.ensures, given.len) at c.in_ok-tree.ensures.gives in
+    rw (
+      argument_at-made (ref_at c.args.level.total c.args.level.depth) c.args.round c.args.argument
+          c.args.text.now,
+      one,
+      c.with_argument.ensures,
+    ) refl
+
+pub modifier::closed_at-returns-in_err-tree-clause-gives
+    : goal.modifier::closed_at-returns-in_err-tree-clause-gives
+modifier::closed_at-returns-in_err-tree-clause-gives t c =
+    let is = err_from_is_err_and c.from_residual.result c.from_residual.ensures.1 in
+    rw (is.1, is.2) (AgreesErr-bind no_memory c.in_err-tree.field-0.0 _ _ c.in_err-tree.ensures.gives)
+
+pub modifier::select_at-returns-in_err-places-clause-gives
+    : goal.modifier::select_at-returns-in_err-places-clause-gives
+modifier::select_at-returns-in_err-places-clause-gives t c =
+    let is = err_from_is_err_and c.from_residual.result c.from_residual.ensures.1 in
+    rw (is.1, is.2) (AgreesErr-bind no_memory c.in_err-places.field-0.0 _ _ c.in_err-places.ensures.gives)
+
+pub modifier::choose_at-returns-in_err-first-clause-gives
+    : goal.modifier::choose_at-returns-in_err-first-clause-gives
+modifier::choose_at-returns-in_err-first-clause-gives t c =
+    let is = err_from_is_err_and c.from_residual.result c.from_residual.ensures.1 in
+    rw (is.1, is.2) (AgreesErr-bind no_memory c.in_err-first.field-0.0 _ _ c.in_err-first.ensures.gives)
+
+pub modifier::choose_at-returns-in_err-second-clause-gives
+    : goal.modifier::choose_at-returns-in_err-second-clause-gives
+modifier::choose_at-returns-in_err-second-clause-gives t c =
+    let is = err_from_is_err_and c.from_residual-in_err-second.result c.from_residual-in_err-second.ensures.1 in
+    rw (is.1, is.2, c.in_ok-first.ensures.gives) (AgreesErr-bind no_memory c.in_err-second.field-0.0 _ _ c.in_err-second.ensures.gives)
+
+pub modifier::suffix_at-returns-in_err-old-clause-gives
+    : goal.modifier::suffix_at-returns-in_err-old-clause-gives
+modifier::suffix_at-returns-in_err-old-clause-gives t c =
+    let is = err_from_is_err_and c.from_residual.result c.from_residual.ensures.1 in
+    rw (is.1, is.2) (AgreesErr-bind no_memory c.in_err-old.field-0.0 _ _ c.in_err-old.ensures.gives)
+
+pub modifier::select_at-returns-clause-gives : goal.modifier::select_at-returns-clause-gives
+modifier::select_at-returns-clause-gives t c =
+    let ends = sym c.is_end.ensures ∙ c.if-not-is_end.false in
+    rw (c.in_ok-places.ensures.gives, ends, view-Select c.in_ok-places.places) refl
+
+pub modifier::choose_at-returns-clause-gives : goal.modifier::choose_at-returns-clause-gives
+modifier::choose_at-returns-clause-gives t c =
+    let ends = sym c.is_end.ensures ∙ c.if-not-is_end.false in
+    rw (
+      c.in_ok-first.ensures.gives,
+      c.in_ok-second.ensures.gives,
+      ends,
+      view-Choose c.in_ok-first.first c.in_ok-second.second,
+    ) refl
+
+pub modifier::subst_at-returns-in_err-from-clause-gives
+    : goal.modifier::subst_at-returns-in_err-from-clause-gives
+modifier::subst_at-returns-in_err-from-clause-gives t c =
+    let is = err_from_is_err_and c.from_residual.result c.from_residual.ensures.1 in
+    let goes = sym c.ends_modifier.ensures ∙ c.if-ends_modifier.false in
+    let some : 0 < length c.args.text.now = grind (arith, nat_tests) in
+    let more = subst_at-more (ref_at c.args.level.total c.args.level.depth) c.args.start c.args.round
+    c.args.text.now some goes in
+    rw (is.1, is.2, more)
+    (AgreesErr-bind no_memory c.in_err-from.field-0.0 _ _ (rw c.skip.ensures at c.in_err-from.ensures.gives))
+
+pub modifier::subst_at-returns-in_err-to-clause-gives
+    : goal.modifier::subst_at-returns-in_err-to-clause-gives
+modifier::subst_at-returns-in_err-to-clause-gives t c =
+    let is = err_from_is_err_and c.from_residual-in_err-to.result c.from_residual-in_err-to.ensures.1 in
+    let goes = sym c.ends_modifier.ensures ∙ c.if-ends_modifier.false in
+    let some : 0 < length c.args.text.now = grind (arith, nat_tests) in
+    let more = subst_at-more (ref_at c.args.level.total c.args.level.depth) c.args.start c.args.round
+    c.args.text.now some goes in
+    rw (is.1, is.2, more, ← c.skip.ensures, c.in_ok-from.ensures.gives)
+    (AgreesErr-bind no_memory c.in_err-to.field-0.0 _ _ c.in_err-to.ensures.gives)
+
+pub modifier::subst_at-returns-in_err-flags-clause-gives
+    : goal.modifier::subst_at-returns-in_err-flags-clause-gives
+modifier::subst_at-returns-in_err-flags-clause-gives t c =
+    let is = err_from_is_err_and c.from_residual-in_err-flags.result c.from_residual-in_err-flags.ensures.1 in
+    let goes = sym c.ends_modifier.ensures ∙ c.if-ends_modifier.false in
+    let some : 0 < length c.args.text.now = grind (arith, nat_tests) in
+    let more = subst_at-more (ref_at c.args.level.total c.args.level.depth) c.args.start c.args.round
+    c.args.text.now some goes in
+    rw (is.1, is.2, more, ← c.skip.ensures, c.in_ok-from.ensures.gives, c.in_ok-to.ensures.gives)
+    (AgreesErr-bind no_memory c.in_err-flags.field-0.0 _ _ c.in_err-flags.ensures.gives)
+
+pub modifier::subst_at-returns-clause-gives : goal.modifier::subst_at-returns-clause-gives
+modifier::subst_at-returns-clause-gives t c =
+    let goes = sym c.ends_modifier.ensures ∙ c.if-ends_modifier.false in
+    let some : 0 < length c.args.text.now = grind (arith, nat_tests) in
+    let more = subst_at-more (ref_at c.args.level.total c.args.level.depth) c.args.start c.args.round
+    c.args.text.now some goes in
+    rw (
+      more,
+      ← c.skip.ensures,
+      c.in_ok-from.ensures.gives,
+      c.in_ok-to.ensures.gives,
+      c.in_ok-flags.ensures.gives,
+      view-Subst (slice_index c.args.text.now 0) c.in_ok-from.from c.in_ok-to.to c.in_ok-flags.flags,
+    ) refl
+
+pub modifier::suffix_at-returns-in_err-new-clause-gives
+    : goal.modifier::suffix_at-returns-in_err-new-clause-gives
+modifier::suffix_at-returns-in_err-new-clause-gives t c =
+    let is = err_from_is_err_and c.from_residual-in_err-new.result
+    c.from_residual-in_err-new.ensures.1 in
+    let rest = c.in_ok-old.rest.now in
+    let some : 0 < length rest = grind (arith, nat_tests) in
+    let more = new_at-more (ref_at c.args.level.total c.args.level.depth)
+    (c.args.level.total - length c.args.text.now) c.args.opened c.args.round
+    (tree_view c.in_ok-old.old) rest some c.if-rest-ne61.false in
+    rw (is.1, is.2, c.in_ok-old.ensures.gives, more)
+    (AgreesErr-bind no_memory c.in_err-new.field-0.0 _ _ (rw c.skip.ensures at c.in_err-new.ensures.gives))
+
+pub modifier::suffix_at-returns-clause-gives : goal.modifier::suffix_at-returns-clause-gives
+modifier::suffix_at-returns-clause-gives t c =
+    let rest = c.in_ok-old.rest.now in
+    let some : 0 < length rest = grind (arith, nat_tests) in
+    let more = new_at-more (ref_at c.args.level.total c.args.level.depth)
+    (c.args.level.total - length c.args.text.now) c.args.opened c.args.round
+    (tree_view c.in_ok-old.old) rest some c.if-rest-ne61.false in
+    rw (
+      c.in_ok-old.ensures.gives,
+      more,
+      ← c.skip.ensures,
+      c.in_ok-new.ensures.gives,
+      view-Suffix c.in_ok-old.old c.in_ok-new.new,
+    ) refl
+
+pub modifier::each_at-returns-in_err-body-clause-gives
+    : goal.modifier::each_at-returns-in_err-body-clause-gives
+modifier::each_at-returns-in_err-body-clause-gives t c =
+    let is = err_from_is_err_and c.from_residual-in_err-body.result
+    c.from_residual-in_err-body.ensures.1 in
+    rw (is.1, is.2, ← c.in-Some.ensures.same)
+    (AgreesErr-bind no_memory c.in_err-body.field-0.0 _ _ (rw c.skip.ensures at c.in_err-body.ensures.gives))

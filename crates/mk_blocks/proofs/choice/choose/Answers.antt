@@ -18,30 +18,40 @@ use Rattle.mk_blocks.proofs.TieLemmas.{Does-ok, Does-refuse, Does-then, Does-wan
 use Rattle.mk_blocks.proofs.TieLemmas.{first-ok}
 use Rattle.mk_blocks.proofs.choice.choose.Goals as goal
 
-pub returns-in_err-count_line-clause-does : goal.returns-in_err-count_line-clause-does
-returns-in_err-count_line-clause-does g c =
+pub returns-in_err-count_line : goal.returns-in_err-count_line
+returns-in_err-count_line g c =
     let ties = g.L.Language.ties in
     let p = err_from_is_err_and c.from_residual.result c.from_residual.ensures.1 in
-    rw (p.1, p.2)
-    (Does-refuse ties sorted c.args.language.now TooManyLines TooManyLines _ refl
-    (if-full ties c.args.file.now c.args.loops.now c.args.depth c.args.line.now
-    (parse ties.kind c.args.cursor.now) c.args.language.now c.args.count.now
-    c.in_err-count_line.ensures.err))
+    rw (p.1, p.2) (record {
+      does = Does-refuse ties sorted c.args.language.now TooManyLines TooManyLines _ refl
+          (if-full ties c.args.file.now c.args.loops.now c.args.depth c.args.line.now
+          (parse ties.kind c.args.cursor.now) c.args.language.now c.args.count.now
+          c.in_err-count_line.ensures.err);
+      behind = tt;
+      inner = tt;
+      shorter = tt;
+      later = tt;
+    })
 
-pub returns-in_err-condition-clause-does : goal.returns-in_err-condition-clause-does
-returns-in_err-condition-clause-does g c =
+pub returns-in_err-condition : goal.returns-in_err-condition
+returns-in_err-condition g c =
     let ties = g.L.Language.ties in
     let q = parse ties.kind c.args.cursor.now in
     let p = err_from_is_err_and c.from_residual-in_err-condition.result
     c.from_residual-in_err-condition.ensures.1 in
-    rw (p.1, p.2)
-    (first-err ties sorted
-    (if_next ties c.args.file.now c.args.loops.now c.args.depth c.args.line.now q
-    c.args.language.now c.args.count.now)
-    (if-counted ties c.args.file.now c.args.loops.now c.args.depth c.args.line.now q
-    c.args.language.now
-    c.args.count.now c.count_line.new.count c.in_ok-count_line.ensures.ok)
-    (c.in_err-condition.ensures c.count_line.new.count))
+    rw (p.1, p.2) (record {
+      does = first-err ties sorted
+          (if_next ties c.args.file.now c.args.loops.now c.args.depth c.args.line.now q
+          c.args.language.now c.args.count.now)
+          (if-counted ties c.args.file.now c.args.loops.now c.args.depth c.args.line.now q
+          c.args.language.now
+          c.args.count.now c.count_line.new.count c.in_ok-count_line.ensures.ok)
+          (c.in_err-condition.ensures c.count_line.new.count);
+      behind = tt;
+      inner = tt;
+      shorter = tt;
+      later = tt;
+    })
 
 pub returns-then-branch-clause-does : goal.returns-then-branch-clause-does
 returns-then-branch-clause-does g c =
@@ -74,14 +84,19 @@ branches-init g c =
       later = omega (arith, c.in_ok-count_line.ensures.ok.1);
     }
 
-pub returns-in_err-branch-clause-does : goal.returns-in_err-branch-clause-does
-returns-in_err-branch-clause-does g c =
+pub returns-in_err-branch : goal.returns-in_err-branch
+returns-in_err-branch g c =
     let ties = g.L.Language.ties in
     let p = err_from_is_err_and c.from_residual-in_err-branch.result
     c.from_residual-in_err-branch.ensures.1 in
-    rw (p.1, p.2)
-    (Does-then ties sorted c.branches.invariant.so_far (Does-want ties sorted c.branches.language _
-    _ refl))
+    rw (p.1, p.2) (record {
+      does = Does-then ties sorted c.branches.invariant.so_far (Does-want ties sorted c.branches.language _
+          _ refl);
+      behind = tt;
+      inner = tt;
+      shorter = tt;
+      later = tt;
+    })
 
 pub returns-in_default-clause-does : goal.returns-in_default-clause-does
 returns-in_default-clause-does g c =
@@ -137,8 +152,8 @@ returns-then-branch-2-clause-behind g c =
     let same = behind-branch endings (true, l) p next ∙ c.branches.invariant.behind in
     rw add-one (ap (λ z. skips.outside_of c.args.depth z.endings) same)
 
-pub returns-in_err-count_line-2-clause-does : goal.returns-in_err-count_line-2-clause-does
-returns-in_err-count_line-2-clause-does g c =
+pub returns-in_err-count_line-2 : goal.returns-in_err-count_line-2
+returns-in_err-count_line-2 g c =
     let ties = g.L.Language.ties in
     let branch = c.in-Some.branch in
     let l = branch.line in
@@ -149,14 +164,19 @@ returns-in_err-count_line-2-clause-does g c =
     ∙ ap (λ b. found (Some (b, l)) p) c.if-branch-2.false in
     let r = err_from_is_err_and c.from_residual-in_err-count_line-2.result
     c.from_residual-in_err-count_line-2.ensures.1 in
-    rw (r.1, r.2)
-    (Does-then ties sorted c.branches.invariant.so_far
-    (Does-refuse ties sorted c.branches.language TooManyLines TooManyLines _ refl
-    (branch-full ties c.args.file.now c.args.loops.now c.args.depth l p c.branches.language
-    c.branches.count endings next c.in_err-count_line-2.ensures.err)))
+    rw (r.1, r.2) (record {
+      does = Does-then ties sorted c.branches.invariant.so_far
+          (Does-refuse ties sorted c.branches.language TooManyLines TooManyLines _ refl
+          (branch-full ties c.args.file.now c.args.loops.now c.args.depth l p c.branches.language
+          c.branches.count endings next c.in_err-count_line-2.ensures.err));
+      behind = tt;
+      inner = tt;
+      shorter = tt;
+      later = tt;
+    })
 
-pub returns-in_err-condition-2-clause-does : goal.returns-in_err-condition-2-clause-does
-returns-in_err-condition-2-clause-does g c =
+pub returns-in_err-condition-2 : goal.returns-in_err-condition-2
+returns-in_err-condition-2 g c =
     let ties = g.L.Language.ties in
     let branch = c.in-Some.branch in
     let l = branch.line in
@@ -167,14 +187,19 @@ returns-in_err-condition-2-clause-does g c =
     ∙ ap (λ b. found (Some (b, l)) p) c.if-branch-2.false in
     let r = err_from_is_err_and c.from_residual-in_err-condition-2.result
     c.from_residual-in_err-condition-2.ensures.1 in
-    rw (r.1, r.2)
-    (Does-then ties sorted c.branches.invariant.so_far
-    (first-err ties sorted (if_next ties c.args.file.now c.args.loops.now c.args.depth l p
-    c.branches.language c.branches.count)
-    (branch-counted ties c.args.file.now c.args.loops.now c.args.depth l p c.branches.language
-    c.branches.count endings next c.count_line-in-branches.new.count
-    c.in_ok-count_line-2.ensures.ok)
-    (c.in_err-condition-2.ensures c.count_line-in-branches.new.count)))
+    rw (r.1, r.2) (record {
+      does = Does-then ties sorted c.branches.invariant.so_far
+          (first-err ties sorted (if_next ties c.args.file.now c.args.loops.now c.args.depth l p
+          c.branches.language c.branches.count)
+          (branch-counted ties c.args.file.now c.args.loops.now c.args.depth l p c.branches.language
+          c.branches.count endings next c.count_line-in-branches.new.count
+          c.in_ok-count_line-2.ensures.ok)
+          (c.in_err-condition-2.ensures c.count_line-in-branches.new.count));
+      behind = tt;
+      inner = tt;
+      shorter = tt;
+      later = tt;
+    })
 
 pub returns-then-branch-3-clause-does : goal.returns-then-branch-3-clause-does
 returns-then-branch-3-clause-does g c =

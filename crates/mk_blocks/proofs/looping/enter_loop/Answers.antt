@@ -17,10 +17,15 @@ skip_block-requires g c =
     let few = Fits-few place.loops place.depth _ c.requires.fits in
     omega (arith, few)
 
-pub returns-in_err-skip_block-clause-does : goal.returns-in_err-skip_block-clause-does
-returns-in_err-skip_block-clause-does g c =
+pub returns-in_err-skip_block : goal.returns-in_err-skip_block
+returns-in_err-skip_block g c =
     let p = err_from_is_err_and c.from_residual.result c.from_residual.ensures.1 in
-    rw (p.1, p.2) (Does-want g.L.Language.ties sorted _ _ _ refl)
+    rw (p.1, p.2) (record {
+      does = Does-want g.L.Language.ties sorted _ _ _ refl;
+      place = tt;
+      falls = tt;
+      later = tt;
+    })
 
 pub returns-then-turn_count-eq0-clause-does : goal.returns-then-turn_count-eq0-clause-does
 unfolding skips.outside_of
@@ -45,25 +50,34 @@ returns-then-turn_count-eq0-clause-place g c =
           (arith, c.in_ok-skip_block.ensures.shorter));
     }
 
-pub returns-in_err-count_line-clause-does : goal.returns-in_err-count_line-clause-does
-returns-in_err-count_line-clause-does g c =
+pub returns-in_err-count_line : goal.returns-in_err-count_line
+returns-in_err-count_line g c =
     let ties = g.L.Language.ties in
     let place = c.args.place.now in
     let p = err_from_is_err_and c.from_residual-in_err-count_line.result
     c.from_residual-in_err-count_line.ensures.1 in
     let some : 0 < turn_count c.args.header.names c.args.header.words =
     omega (arith, c.turn_count.ensures, c.if-turn_count-eq0.false) in
-    rw (p.1, p.2)
-    (Does-refuse ties sorted c.args.language.now TooManyLines TooManyLines _ refl
-    (turn-full ties c.args.file.now place.loops place.depth (parse ties.kind place.cursor) _ _ _
-    c.args.language.now c.args.count.now (turns-first c.args.header.names c.args.header.words some)
-    c.in_err-count_line.ensures.err))
+    rw (p.1, p.2) (record {
+      does = Does-refuse ties sorted c.args.language.now TooManyLines TooManyLines _ refl
+          (turn-full ties c.args.file.now place.loops place.depth (parse ties.kind place.cursor) _ _ _
+          c.args.language.now c.args.count.now (turns-first c.args.header.names c.args.header.words some)
+          c.in_err-count_line.ensures.err);
+      place = tt;
+      falls = tt;
+      later = tt;
+    })
 
-pub returns-in_err-begin_turn-clause-does : goal.returns-in_err-begin_turn-clause-does
-returns-in_err-begin_turn-clause-does g c =
+pub returns-in_err-begin_turn : goal.returns-in_err-begin_turn
+returns-in_err-begin_turn g c =
     let p = err_from_is_err_and c.from_residual-in_err-begin_turn.result
     c.from_residual-in_err-begin_turn.ensures.1 in
-    rw (p.1, p.2) (Does-want g.L.Language.ties sorted _ _ _ refl)
+    rw (p.1, p.2) (record {
+      does = Does-want g.L.Language.ties sorted _ _ _ refl;
+      place = tt;
+      falls = tt;
+      later = tt;
+    })
 
 pub returns-clause-does : goal.returns-clause-does
 returns-clause-does g c =

@@ -22,8 +22,8 @@ returns-in_default-clause-does g c = λ file language.
     file.name.now
     ties.kind (after c.args.goes_on (run_at (ties.state language) c.args.count.now))))
 
-pub returns-in_err-count_line-clause-does : goal.returns-in_err-count_line-clause-does
-returns-in_err-count_line-clause-does g c = λ file language.
+pub returns-in_err-count_line : goal.returns-in_err-count_line
+returns-in_err-count_line g c =
     let ties = g.L.Language.ties in
     let place = c.args.place.now in
     let e = c.in-Some.entered in
@@ -31,23 +31,32 @@ returns-in_err-count_line-clause-does g c = λ file language.
     let popped = c.in-Some.ensures.some in
     let more = sym c.has_next.ensures ∙ c.if-has_next.true in
     let p = err_from_is_err_and c.from_residual.result c.from_residual.ensures.1 in
-    rw (p.1, p.2)
-    (Does-refuse ties sorted language TooManyLines TooManyLines _ refl
-    (λ answers. ap (λ loops. behind_left ties file loops c.args.goes_on
-    language
-    c.args.count.now answers) popped
-    ∙ ends-turn ties file e outer c.args.goes_on language c.args.count.now
-    more answers
-    ∙ turn-full ties file outer e.depth (parse ties.kind e.body) (turns_behind e) _ _
-    language c.args.count.now (other-turn e c.args.goes_on more)
-    c.in_err-count_line.ensures.err
-    answers))
+    rw (p.1, p.2) (record {
+      does = λ file language. Does-refuse ties sorted language TooManyLines TooManyLines _ refl
+          (λ answers. ap (λ loops. behind_left ties file loops c.args.goes_on
+          language
+          c.args.count.now answers) popped
+          ∙ ends-turn ties file e outer c.args.goes_on language c.args.count.now
+          more answers
+          ∙ turn-full ties file outer e.depth (parse ties.kind e.body) (turns_behind e) _ _
+          language c.args.count.now (other-turn e c.args.goes_on more)
+          c.in_err-count_line.ensures.err
+          answers);
+      place = tt;
+      falls = tt;
+      later = tt;
+    })
 
-pub returns-in_err-begin_turn-clause-does : goal.returns-in_err-begin_turn-clause-does
-returns-in_err-begin_turn-clause-does g c = λ file language.
+pub returns-in_err-begin_turn : goal.returns-in_err-begin_turn
+returns-in_err-begin_turn g c =
     let p = err_from_is_err_and c.from_residual-in_err-begin_turn.result
     c.from_residual-in_err-begin_turn.ensures.1 in
-    rw (p.1, p.2) (Does-want g.L.Language.ties sorted _ _ _ refl)
+    rw (p.1, p.2) (record {
+      does = λ file language. Does-want g.L.Language.ties sorted _ _ _ refl;
+      place = tt;
+      falls = tt;
+      later = tt;
+    })
 
 pub returns-then-has_next-clause-does : goal.returns-then-has_next-clause-does
 returns-then-has_next-clause-does g c = λ file language.

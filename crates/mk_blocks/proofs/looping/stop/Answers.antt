@@ -8,16 +8,20 @@ use Rattle.mk_blocks.proofs.FitLemmas.{Fits-behind, Fits-few, IsBehind-same}
 use Rattle.mk_blocks.proofs.TieLemmas.{Does-here, Does-refuse, Does-want}
 use Rattle.mk_blocks.proofs.looping.stop.Goals as goal
 
-pub returns-in_err-count_line-clause-does : goal.returns-in_err-count_line-clause-does
-returns-in_err-count_line-clause-does g c = λ line.
+pub returns-in_err-count_line : goal.returns-in_err-count_line
+returns-in_err-count_line g c =
     let ties = g.L.Language.ties in
     let p = err_from_is_err_and c.from_residual.result c.from_residual.ensures.1 in
     let place = c.args.place.now in
-    rw (p.1, p.2)
-    (Does-refuse ties sorted c.args.language.now TooManyLines TooManyLines _ refl
-    (stop-full ties c.args.file.now place.loops place.depth line
-    (parse ties.kind place.cursor)
-    c.args.language.now c.args.count.now c.in_err-count_line.ensures.err))
+    rw (p.1, p.2) (record {
+      does = λ line. Does-refuse ties sorted c.args.language.now TooManyLines TooManyLines _ refl
+          (stop-full ties c.args.file.now place.loops place.depth line
+          (parse ties.kind place.cursor)
+          c.args.language.now c.args.count.now c.in_err-count_line.ensures.err);
+      place = tt;
+      falls = tt;
+      later = tt;
+    })
 
 pub skip_block-requires : goal.skip_block-requires
 skip_block-requires g c =
@@ -25,11 +29,16 @@ skip_block-requires g c =
     let few = Fits-few place.loops place.depth _ c.requires.fits in
     omega (arith, few)
 
-pub returns-in_err-skip_block-clause-does : goal.returns-in_err-skip_block-clause-does
-returns-in_err-skip_block-clause-does g c = λ line.
+pub returns-in_err-skip_block : goal.returns-in_err-skip_block
+returns-in_err-skip_block g c =
     let p = err_from_is_err_and c.from_residual-in_err-skip_block.result
     c.from_residual-in_err-skip_block.ensures.1 in
-    rw (p.1, p.2) (Does-want g.L.Language.ties sorted _ _ _ refl)
+    rw (p.1, p.2) (record {
+      does = λ line. Does-want g.L.Language.ties sorted _ _ _ refl;
+      place = tt;
+      falls = tt;
+      later = tt;
+    })
 
 pub returns-clause-does : goal.returns-clause-does
 returns-clause-does g c = λ line.

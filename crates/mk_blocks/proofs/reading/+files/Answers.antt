@@ -1,4 +1,4 @@
-use Rattle.std.proofs.Common.{◌≡◌, ◌+◌, length, Some, None, slice_get, refl, sym, ap, ◌∙◌, arith}
+use Rattle.std.proofs.Common.{◌≡◌, ◌⊎◌, inl, inr, true, ◌+◌, length, Some, None, slice_get, refl, sym, ap, ◌∙◌, arith}
 use Rattle.std.proofs.Common.{rules}
 use Rattle.std.proofs.lemmas.Result.{err_from_is_err_and}
 use Rattle.mk_blocks.specs.Blocks.{closed, is_closer, parse, put}
@@ -8,6 +8,8 @@ use Rattle.mk_blocks.specs.Outcomes.{◌>>=◌}
 use Rattle.mk_blocks.specs.Places as places
 use Rattle.mk_blocks.specs.Ties.{sorted}
 use Rattle.mk_blocks.specs.declared.fault.FileFault.TheVariants.{TooManyLines, TooManyFiles}
+use Rattle.mk_blocks.specs.declared.kind.LineKind.{LineKind}
+use Rattle.mk_blocks.specs.declared.kind.LineKind.TheVariants as kind
 use Rattle.mk_blocks.specs.declared.kind.LineKind.TheVariants.{Break}
 use Rattle.mk_blocks.specs.declared.place.Place.{Place}
 use Rattle.mk_blocks.proofs.ClosingLemmas.{branch-ends, closed-behind, closer-ends, leaves-reached}
@@ -23,32 +25,47 @@ use Rattle.mk_blocks.proofs.TieLemmas.{Does-err, Does-here, Does-is, Does-ok, Do
 use Rattle.mk_blocks.proofs.TieLemmas.{Does-then, Does-want, first-err, first-ok, first-then}
 use Rattle.mk_blocks.proofs.reading.+files.Goals as goal
 
-pub include_line-returns-in_err-count_line-clause-does :
-    goal.include_line-returns-in_err-count_line-clause-does
-include_line-returns-in_err-count_line-clause-does g t c =
+-- a line of another branch, and one that closes a block
+begins-branch : (k : LineKind) → (k ≡ kind.ElseIf) ⊎ (k ≡ kind.Else) → begins_branch k ≡ true
+begins-branch k (inl is) = ap begins_branch is
+begins-branch k (inr is) = ap begins_branch is
+
+closes-block : (k : LineKind) → (k ≡ kind.EndIf) ⊎ (k ≡ kind.EndFor) → is_closer k ≡ true
+closes-block k (inl is) = ap is_closer is
+closes-block k (inr is) = ap is_closer is
+
+pub include_line-returns-in_err-count_line : goal.include_line-returns-in_err-count_line
+include_line-returns-in_err-count_line g t c =
     let ties = g.L.Language.ties in
     let place = c.args.place.now in
     let q = parse ties.kind place.cursor in
     let p = err_from_is_err_and c.from_residual.result c.from_residual.ensures.1 in
-    rw (p.1, p.2)
-    (Does-refuse ties sorted c.args.language.now TooManyLines TooManyLines _ refl
-    (file-full ties c.args.file.now place.loops place.depth c.args.line.now q c.args.language.now
-    c.args.count.now c.in_err-count_line.ensures.err))
+    rw (p.1, p.2) (record {
+      does = Does-refuse ties sorted c.args.language.now TooManyLines TooManyLines _ refl
+          (file-full ties c.args.file.now place.loops place.depth c.args.line.now q c.args.language.now
+          c.args.count.now c.in_err-count_line.ensures.err);
+      place = tt;
+      falls = tt;
+      later = tt;
+    })
 
-pub include_line-returns-in_err-wanted-clause-does :
-    goal.include_line-returns-in_err-wanted-clause-does
-include_line-returns-in_err-wanted-clause-does g t c =
+pub include_line-returns-in_err-wanted : goal.include_line-returns-in_err-wanted
+include_line-returns-in_err-wanted g t c =
     let ties = g.L.Language.ties in
     let place = c.args.place.now in
     let q = parse ties.kind place.cursor in
     let p = err_from_is_err_and c.from_residual-in_err-wanted.result
     c.from_residual-in_err-wanted.ensures.1 in
-    rw (p.1, p.2)
-    (first-err ties sorted (file_next ties c.args.file.now place.loops place.depth c.args.line.now q
-    c.args.language.now c.args.count.now)
-    (file-counted ties c.args.file.now place.loops place.depth c.args.line.now q c.args.language.now
-    c.args.count.now c.count_line.new.count c.in_ok-count_line.ensures.ok)
-    (c.in_err-wanted.ensures c.count_line.new.count))
+    rw (p.1, p.2) (record {
+      does = first-err ties sorted (file_next ties c.args.file.now place.loops place.depth c.args.line.now q
+          c.args.language.now c.args.count.now)
+          (file-counted ties c.args.file.now place.loops place.depth c.args.line.now q c.args.language.now
+          c.args.count.now c.count_line.new.count c.in_ok-count_line.ensures.ok)
+          (c.in_err-wanted.ensures c.count_line.new.count);
+      place = tt;
+      falls = tt;
+      later = tt;
+    })
 
 pub include_line-returns-in_default-clause-does : goal.include_line-returns-in_default-clause-does
 include_line-returns-in_default-clause-does g t c =
@@ -91,9 +108,8 @@ include_line-returns-then-file-eq0-clause-does g t c =
     (file-refused ties c.args.file.now place.loops place.depth c.args.line.now q c.args.language.now
     c.args.count.now y more _ w c.in-Some.is c.if-file-eq0.true))
 
-pub include_line-returns-in_err-read_file_in-clause-does :
-    goal.include_line-returns-in_err-read_file_in-clause-does
-include_line-returns-in_err-read_file_in-clause-does g t c =
+pub include_line-returns-in_err-read_file_in : goal.include_line-returns-in_err-read_file_in
+include_line-returns-in_err-read_file_in g t c =
     let ties = g.L.Language.ties in
     let place = c.args.place.now in
     let q = parse ties.kind place.cursor in
@@ -104,16 +120,20 @@ include_line-returns-in_err-read_file_in-clause-does g t c =
     c.from_residual-in_err-read_file_in.ensures.1 in
     let read = rw (c.bytes.ensures.value, c.bytes-2.ensures.value) at
     c.in_err-read_file_in.ensures.does in
-    rw (p.1, p.2)
-    (first-then ties sorted (file_next ties c.args.file.now place.loops place.depth c.args.line.now
-    q c.args.language.now c.args.count.now)
-    (file-counted ties c.args.file.now place.loops place.depth c.args.line.now q c.args.language.now
-    c.args.count.now more c.in_ok-count_line.ensures.ok)
-    (c.in_ok-wanted.ensures c.count_line.new.count)
-    (first-err ties sorted (read_next ties c.args.file.now place.loops place.depth c.args.line.now q
-    c.args.language.now c.args.count.now y more _ w c.in-Some.is)
-    (file-read ties c.args.file.now place.loops place.depth c.args.line.now q
-    c.args.language.now c.args.count.now y more _ w c.in-Some.is c.if-file-eq0.false) read))
+    rw (p.1, p.2) (record {
+      does = first-then ties sorted (file_next ties c.args.file.now place.loops place.depth c.args.line.now
+          q c.args.language.now c.args.count.now)
+          (file-counted ties c.args.file.now place.loops place.depth c.args.line.now q c.args.language.now
+          c.args.count.now more c.in_ok-count_line.ensures.ok)
+          (c.in_ok-wanted.ensures c.count_line.new.count)
+          (first-err ties sorted (read_next ties c.args.file.now place.loops place.depth c.args.line.now q
+          c.args.language.now c.args.count.now y more _ w c.in-Some.is)
+          (file-read ties c.args.file.now place.loops place.depth c.args.line.now q
+          c.args.language.now c.args.count.now y more _ w c.in-Some.is c.if-file-eq0.false) read);
+      place = tt;
+      falls = tt;
+      later = tt;
+    })
 
 pub include_line-returns-clause-does : goal.include_line-returns-clause-does
 include_line-returns-clause-does g t c =
@@ -146,6 +166,18 @@ include_line-returns-clause-place g t c =
           (omega arith);
     }
 
+pub process-returns-in-Plain-clause-does : goal.process-returns-in-Plain-clause-does
+process-returns-in-Plain-clause-does g t c = rw c.in-Plain.is c.plain_line.ensures.does
+
+pub process-returns-in-If-clause-does : goal.process-returns-in-If-clause-does
+process-returns-in-If-clause-does g t c = rw c.in-If.is c.begin_if.ensures.does
+
+pub process-returns-in-For-clause-does : goal.process-returns-in-For-clause-does
+process-returns-in-For-clause-does g t c = rw c.in-For.is c.begin_loop.ensures.does
+
+pub process-returns-in-Include-clause-does : goal.process-returns-in-Include-clause-does
+process-returns-in-Include-clause-does g t c = rw c.in-Include.is c.include_line.ensures.does
+
 pub process-returns-in-Uncounted-clause-does : goal.process-returns-in-Uncounted-clause-does
 process-returns-in-Uncounted-clause-does g t c =
     rw c.in-Uncounted.is (c.uncounted_line.ensures.does c.args.count.now)
@@ -168,11 +200,15 @@ process-pass_branches-requires g t c =
     let few = Fits-few place.loops place.depth _ c.requires.stands.fits in
     omega (arith, few)
 
-pub process-returns-in_err-pass_branches-in-ElseIf-clause-does :
-    goal.process-returns-in_err-pass_branches-in-ElseIf-clause-does
-process-returns-in_err-pass_branches-in-ElseIf-clause-does g t c =
+pub process-returns-in_err-pass_branches-in-ElseIf : goal.process-returns-in_err-pass_branches-in-ElseIf
+process-returns-in_err-pass_branches-in-ElseIf g t c =
     let p = err_from_is_err_and c.from_residual.result c.from_residual.ensures.1 in
-    rw (p.1, p.2) (Does-want g.L.Language.ties sorted _ _ _ refl)
+    rw (p.1, p.2) (record {
+      does = Does-want g.L.Language.ties sorted _ _ _ refl;
+      place = tt;
+      falls = tt;
+      later = tt;
+    })
 
 pub process-returns-in_ok-pass_branches-in-ElseIf-clause-does :
     goal.process-returns-in_ok-pass_branches-in-ElseIf-clause-does
@@ -180,7 +216,7 @@ process-returns-in_ok-pass_branches-in-ElseIf-clause-does g t c =
     let ties = g.L.Language.ties in
     let place = c.args.place.now in
     let q = parse ties.kind place.cursor in
-    let branch = ap begins_branch c.in-ElseIf.is in
+    let branch = begins-branch c.args.kind c.in-ElseIf.is in
     let passes = c.in_ok-pass_branches-in-ElseIf.ensures in
     let behind = passes.behind
     ∙ passed-branch ties c.args.file.now c.args.kind c.args.line.now q branch in
@@ -195,50 +231,8 @@ process-returns-in_ok-pass_branches-in-ElseIf-clause-place g t c =
     let ties = g.L.Language.ties in
     let place = c.args.place.now in
     let q = parse ties.kind place.cursor in
-    let branch = ap begins_branch c.in-ElseIf.is in
+    let branch = begins-branch c.args.kind c.in-ElseIf.is in
     let passes = c.in_ok-pass_branches-in-ElseIf.ensures in
-    let behind = passes.behind
-    ∙ passed-branch ties c.args.file.now c.args.kind c.args.line.now q branch in
-    leaves-reached ties c.args.file.now _ _ place.loops c.args.kind c.args.line.now q passes.loops
-    behind place.depth (length place.cursor + 1) passes.step passes.depth
-    c.requires.stands.inside c.requires.stands.fits (omega (arith, passes.shorter))
-
-pub process-pass_branches-requires-in-Else : goal.process-pass_branches-requires-in-Else
-process-pass_branches-requires-in-Else g t c =
-    let place = c.args.place.now in
-    let few = Fits-few place.loops place.depth _ c.requires.stands.fits in
-    omega (arith, few)
-
-pub process-returns-in_err-pass_branches-in-Else-clause-does :
-    goal.process-returns-in_err-pass_branches-in-Else-clause-does
-process-returns-in_err-pass_branches-in-Else-clause-does g t c =
-    let p = err_from_is_err_and c.from_residual-in_err-pass_branches-in-Else.result
-    c.from_residual-in_err-pass_branches-in-Else.ensures.1 in
-    rw (p.1, p.2) (Does-want g.L.Language.ties sorted _ _ _ refl)
-
-pub process-returns-in_ok-pass_branches-in-Else-clause-does :
-    goal.process-returns-in_ok-pass_branches-in-Else-clause-does
-process-returns-in_ok-pass_branches-in-Else-clause-does g t c =
-    let ties = g.L.Language.ties in
-    let place = c.args.place.now in
-    let q = parse ties.kind place.cursor in
-    let branch = ap begins_branch c.in-Else.is in
-    let passes = c.in_ok-pass_branches-in-Else.ensures in
-    let behind = passes.behind
-    ∙ passed-branch ties c.args.file.now c.args.kind c.args.line.now q branch in
-    Does-here ties sorted c.args.language.now _ _
-    (left-leaves ties c.args.file.now _ _ place.loops c.args.kind c.args.line.now q passes.loops
-    behind place.depth c.args.language.now c.args.count.now
-    (branch-ends ties c.args.file.now c.args.kind branch) passes.step passes.depth)
-
-pub process-returns-in_ok-pass_branches-in-Else-clause-place :
-    goal.process-returns-in_ok-pass_branches-in-Else-clause-place
-process-returns-in_ok-pass_branches-in-Else-clause-place g t c =
-    let ties = g.L.Language.ties in
-    let place = c.args.place.now in
-    let q = parse ties.kind place.cursor in
-    let branch = ap begins_branch c.in-Else.is in
-    let passes = c.in_ok-pass_branches-in-Else.ensures in
     let behind = passes.behind
     ∙ passed-branch ties c.args.file.now c.args.kind c.args.line.now q branch in
     leaves-reached ties c.args.file.now _ _ place.loops c.args.kind c.args.line.now q passes.loops
@@ -250,7 +244,7 @@ process-returns-in-EndIf-clause-does g t c =
     let ties = g.L.Language.ties in
     let place = c.args.place.now in
     let q = parse ties.kind place.cursor in
-    let closer = ap is_closer c.in-EndIf.is in
+    let closer = closes-block c.args.kind c.in-EndIf.is in
     let behind = ap (parse ties.kind) c.leave_block.ensures.cursor
     ∙ closed-behind ties c.args.file.now c.args.kind c.args.line.now q closer in
     Does-here ties sorted c.args.language.now _ _
@@ -266,7 +260,7 @@ process-returns-in-EndIf-clause-place g t c =
     let ties = g.L.Language.ties in
     let place = c.args.place.now in
     let q = parse ties.kind place.cursor in
-    let closer = ap is_closer c.in-EndIf.is in
+    let closer = closes-block c.args.kind c.in-EndIf.is in
     let behind = ap (parse ties.kind) c.leave_block.ensures.cursor
     ∙ closed-behind ties c.args.file.now c.args.kind c.args.line.now q closer in
     let shorter = ap length c.leave_block.ensures.cursor in
@@ -276,60 +270,30 @@ process-returns-in-EndIf-clause-place g t c =
     c.leave_block.ensures.step c.leave_block.ensures.depth c.requires.stands.inside
     c.requires.stands.fits (omega (arith, shorter))
 
-pub process-returns-in-EndFor-clause-does : goal.process-returns-in-EndFor-clause-does
-process-returns-in-EndFor-clause-does g t c =
-    let ties = g.L.Language.ties in
-    let place = c.args.place.now in
-    let q = parse ties.kind place.cursor in
-    let closer = ap is_closer c.in-EndFor.is in
-    let behind = ap (parse ties.kind) c.leave_block-in-EndFor.ensures.cursor
-    ∙ closed-behind ties c.args.file.now c.args.kind c.args.line.now q closer in
-    Does-here ties sorted c.args.language.now _ _
-    (left-leaves ties c.args.file.now c.leave_block-in-EndFor.new.place
-    c.leave_block-in-EndFor.result place.loops c.args.kind
-    c.args.line.now q c.leave_block-in-EndFor.ensures.loops behind place.depth c.args.language.now
-    c.args.count.now
-    (closer-ends ties c.args.file.now c.args.kind closer) c.leave_block-in-EndFor.ensures.step
-    c.leave_block-in-EndFor.ensures.depth)
-
-pub process-returns-in-EndFor-clause-place : goal.process-returns-in-EndFor-clause-place
-process-returns-in-EndFor-clause-place g t c =
-    let ties = g.L.Language.ties in
-    let place = c.args.place.now in
-    let q = parse ties.kind place.cursor in
-    let closer = ap is_closer c.in-EndFor.is in
-    let behind = ap (parse ties.kind) c.leave_block-in-EndFor.ensures.cursor
-    ∙ closed-behind ties c.args.file.now c.args.kind c.args.line.now q closer in
-    let shorter = ap length c.leave_block-in-EndFor.ensures.cursor in
-    leaves-reached ties c.args.file.now c.leave_block-in-EndFor.new.place
-    c.leave_block-in-EndFor.result place.loops c.args.kind
-    c.args.line.now q c.leave_block-in-EndFor.ensures.loops behind place.depth
-    (length place.cursor + 1)
-    c.leave_block-in-EndFor.ensures.step c.leave_block-in-EndFor.ensures.depth
-    c.requires.stands.inside c.requires.stands.fits (omega (arith, shorter))
-
-pub read_file_in-returns-in_err-check_file-clause-does :
-    goal.read_file_in-returns-in_err-check_file-clause-does
-read_file_in-returns-in_err-check_file-clause-does g t c =
+pub read_file_in-returns-in_err-check_file : goal.read_file_in-returns-in_err-check_file
+read_file_in-returns-in_err-check_file g t c =
     let ties = g.L.Language.ties in
     let p = err_from_is_err_and c.from_residual.result c.from_residual.ensures.1 in
-    rw (p.1, p.2)
-    (first-err ties sorted (checked_next ties c.args.room c.args.name.now c.args.text.now
-    c.args.language.now c.args.count.now) (file-checked ties c.args.room c.args.name.now
-    c.args.text.now c.args.language.now c.args.count.now) c.in_err-check_file.ensures)
+    rw (p.1, p.2) (record {
+      does = first-err ties sorted (checked_next ties c.args.room c.args.name.now c.args.text.now
+          c.args.language.now c.args.count.now) (file-checked ties c.args.room c.args.name.now
+          c.args.text.now c.args.language.now c.args.count.now) c.in_err-check_file.ensures;
+      later = tt;
+    })
 
-pub read_file_in-returns-in_err-read_lines-clause-does :
-    goal.read_file_in-returns-in_err-read_lines-clause-does
-read_file_in-returns-in_err-read_lines-clause-does g t c =
+pub read_file_in-returns-in_err-read_lines : goal.read_file_in-returns-in_err-read_lines
+read_file_in-returns-in_err-read_lines g t c =
     let ties = g.L.Language.ties in
     let p = err_from_is_err_and c.from_residual-in_err-read_lines.result
     c.from_residual-in_err-read_lines.ensures.1 in
     let read = rw c.new.ensures.value at c.in_err-read_lines.ensures.does in
-    rw (p.1, p.2)
-    (first-then ties sorted (checked_next ties c.args.room c.args.name.now c.args.text.now
-    c.args.language.now c.args.count.now) (file-checked ties c.args.room c.args.name.now
-    c.args.text.now c.args.language.now c.args.count.now) c.in_ok-check_file.ensures
-    (first-err ties sorted (closed_next ties) (λ answers. refl) read))
+    rw (p.1, p.2) (record {
+      does = first-then ties sorted (checked_next ties c.args.room c.args.name.now c.args.text.now
+          c.args.language.now c.args.count.now) (file-checked ties c.args.room c.args.name.now
+          c.args.text.now c.args.language.now c.args.count.now) c.in_ok-check_file.ensures
+          (first-err ties sorted (closed_next ties) (λ answers. refl) read);
+      later = tt;
+    })
 
 pub read_file_in-returns-clause-does : goal.read_file_in-returns-clause-does
 read_file_in-returns-clause-does g t c =
@@ -341,10 +305,15 @@ read_file_in-returns-clause-does g t c =
     (first-then ties sorted (closed_next ties) (λ answers. refl) read
     (Closes-does ties c.read_lines.new.count c.close_file.ensures))
 
-pub read_line-returns-in_err-line-clause-does : goal.read_line-returns-in_err-line-clause-does
-read_line-returns-in_err-line-clause-does g t c =
+pub read_line-returns-in_err-line : goal.read_line-returns-in_err-line
+read_line-returns-in_err-line g t c =
     let p = err_from_is_err_and c.from_residual.result c.from_residual.ensures.1 in
-    rw (p.1, p.2) (Does-want g.L.Language.ties sorted _ _ _ refl)
+    rw (p.1, p.2) (record {
+      does = Does-want g.L.Language.ties sorted _ _ _ refl;
+      place = tt;
+      falls = tt;
+      later = tt;
+    })
 
 pub read_line-returns-in_default-clause-does : goal.read_line-returns-in_default-clause-does
 read_line-returns-in_default-clause-does g t c =
@@ -424,14 +393,15 @@ read_lines-lines-init g t c =
       later = omega arith;
     }
 
-pub read_lines-returns-in_err-read_on-clause-does :
-    goal.read_lines-returns-in_err-read_on-clause-does
-read_lines-returns-in_err-read_on-clause-does g t c =
+pub read_lines-returns-in_err-read_on : goal.read_lines-returns-in_err-read_on
+read_lines-returns-in_err-read_on g t c =
     let ties = g.L.Language.ties in
     let p = err_from_is_err_and c.from_residual.result c.from_residual.ensures.1 in
-    rw (p.1, p.2)
-    (Does-then ties sorted c.lines.invariant.so_far (Does-err ties sorted
-    c.in_err-read_on.ensures.does))
+    rw (p.1, p.2) (record {
+      does = Does-then ties sorted c.lines.invariant.so_far (Does-err ties sorted
+          c.in_err-read_on.ensures.does);
+      later = tt;
+    })
 
 pub read_lines-lines-preserved : goal.read_lines-lines-preserved
 read_lines-lines-preserved g t c =
@@ -453,6 +423,21 @@ read_lines-returns-in-lines-clause-does g t c =
 pub read_lines-returns-in-lines-clause-later : goal.read_lines-returns-in-lines-clause-later
 read_lines-returns-in-lines-clause-later g t c =
     omega (arith, c.in_ok-read_on.ensures.later, c.lines.invariant.later)
+
+pub read_on-returns-in_err-read_line : goal.read_on-returns-in_err-read_line
+read_on-returns-in_err-read_line g t c =
+    let p = err_from_is_err_and c.from_residual.result c.from_residual.ensures.1 in
+    rw (p.1, p.2) (record {
+      does = Does-err g.L.Language.ties sorted c.in_err-read_line.ensures.does;
+      place = tt;
+      falls = tt;
+      later = tt;
+    })
+
+pub read_on-returns-in-On-clause-does : goal.read_on-returns-in-On-clause-does
+read_on-returns-in-On-clause-does g t c =
+    Does-ok g.L.Language.ties sorted _ (λ answers. refl)
+    (rw c.in-On.is at c.in_ok-read_line.ensures.does)
 
 pub read_on-returns-in-Ends-clause-does : goal.read_on-returns-in-Ends-clause-does
 read_on-returns-in-Ends-clause-does g t c =

@@ -8,31 +8,39 @@ use Rattle.mk_blocks.proofs.FitLemmas.{Fits-less, IsInside-same}
 use Rattle.mk_blocks.proofs.TieLemmas.{Does-refuse, first-err, first-ok}
 use Rattle.mk_blocks.proofs.reading.plain_line.Goals as goal
 
-pub returns-in_err-count_line-clause-does : goal.returns-in_err-count_line-clause-does
-returns-in_err-count_line-clause-does g c =
+pub returns-in_err-count_line : goal.returns-in_err-count_line
+returns-in_err-count_line g c =
     let ties = g.L.Language.ties in
     let p = err_from_is_err_and c.from_residual.result c.from_residual.ensures.1 in
     let place = c.args.place.now in
-    rw (p.1, p.2)
-    (Does-refuse ties sorted c.args.language.now TooManyLines TooManyLines _ refl
-    (line-full ties c.args.file.now place.loops place.depth c.args.line.now
-    (parse ties.kind place.cursor)
-    c.args.language.now c.args.count.now c.in_err-count_line.ensures.err))
+    rw (p.1, p.2) (record {
+      does = Does-refuse ties sorted c.args.language.now TooManyLines TooManyLines _ refl
+          (line-full ties c.args.file.now place.loops place.depth c.args.line.now
+          (parse ties.kind place.cursor)
+          c.args.language.now c.args.count.now c.in_err-count_line.ensures.err);
+      place = tt;
+      falls = tt;
+      later = tt;
+    })
 
-pub returns-in_err-step-clause-does : goal.returns-in_err-step-clause-does
-returns-in_err-step-clause-does g c =
+pub returns-in_err-step : goal.returns-in_err-step
+returns-in_err-step g c =
     let ties = g.L.Language.ties in
     let p = err_from_is_err_and c.from_residual-in_err-step.result
     c.from_residual-in_err-step.ensures.1 in
     let place = c.args.place.now in
     let q = parse ties.kind place.cursor in
-    rw (p.1, p.2)
-    (first-err ties sorted
-    (line_next ties c.args.file.now place.loops place.depth c.args.line.now q c.args.language.now
-    c.args.count.now)
-    (line-counted ties c.args.file.now place.loops place.depth c.args.line.now q
-    c.args.language.now c.args.count.now c.count_line.new.count c.in_ok-count_line.ensures.ok)
-    (c.in_err-step.ensures c.count_line.new.count))
+    rw (p.1, p.2) (record {
+      does = first-err ties sorted
+          (line_next ties c.args.file.now place.loops place.depth c.args.line.now q c.args.language.now
+          c.args.count.now)
+          (line-counted ties c.args.file.now place.loops place.depth c.args.line.now q
+          c.args.language.now c.args.count.now c.count_line.new.count c.in_ok-count_line.ensures.ok)
+          (c.in_err-step.ensures c.count_line.new.count);
+      place = tt;
+      falls = tt;
+      later = tt;
+    })
 
 pub returns-clause-does : goal.returns-clause-does
 returns-clause-does g c =

@@ -7,19 +7,22 @@ use Rattle.mk_blocks.proofs.FitLemmas.{Fits-less, IsInside-same}
 use Rattle.mk_blocks.proofs.TieLemmas.{first-err, first-ok}
 use Rattle.mk_blocks.proofs.reading.uncounted_line.Goals as goal
 
-pub returns-in_err-step-clause-does : goal.returns-in_err-step-clause-does
-returns-in_err-step-clause-does g c = λ count.
+pub returns-in_err-step : goal.returns-in_err-step
+returns-in_err-step g c =
     let ties = g.L.Language.ties in
     let p = err_from_is_err_and c.from_residual.result c.from_residual.ensures.1 in
     let place = c.args.place.now in
     let q = parse ties.kind place.cursor in
-    rw (p.1, p.2)
-    (first-err ties sorted
-    (line_next ties c.args.file.now place.loops place.depth c.args.line.now q c.args.language.now
-    count)
-    (line-uncounted ties c.args.file.now place.loops place.depth c.args.line.now q
-    c.args.language.now count)
-    (c.in_err-step.ensures count))
+    rw (p.1, p.2) (record {
+      does = λ count. first-err ties sorted
+          (line_next ties c.args.file.now place.loops place.depth c.args.line.now q c.args.language.now
+          count)
+          (line-uncounted ties c.args.file.now place.loops place.depth c.args.line.now q
+          c.args.language.now count)
+          (c.in_err-step.ensures count);
+      place = tt;
+      falls = tt;
+    })
 
 pub returns-clause-does : goal.returns-clause-does
 returns-clause-does g c = λ count.

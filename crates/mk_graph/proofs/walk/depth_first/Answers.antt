@@ -1,8 +1,9 @@
-use Rattle.std.proofs.Common.{◌∙◌, length, reverse, sym, ap, subst}
-use Rattle.std.proofs.lemmas.List.{reverse-reverse}
+use Rattle.std.proofs.Common.{◌∙◌, [], ◌∷◌, length, reverse, sym, ap, subst}
+use Rattle.std.proofs.lemmas.List.{reverse-append, reverse-reverse}
 use Rattle.mk_graph.proofs.DoneLemmas.{walked-order}
 use Rattle.mk_graph.proofs.StepLemmas.{IsFit-first, Leads-first}
 use Rattle.mk_graph.specs.Orders.{IsOrder}
+use Rattle.mk_graph.specs.Steps.{Leads}
 use Rattle.mk_graph.specs.Walks.{ordered_by, walked}
 use Rattle.mk_graph.specs.declared.walk.Ordered.TheVariants.{Order, Cycle}
 use Rattle.mk_graph.proofs.walk.depth_first.Goals as goal
@@ -13,6 +14,24 @@ steps-init c =
       fit = IsFit-first (length c.args.preds.now) c.args.from.now c.requires.from;
       leads = Leads-first c.args.preds.now c.args.from.now;
     })
+
+pub steps-preserved-in-On : goal.steps-preserved-in-On
+steps-preserved-in-On c =
+    let turned = c.in_ok-step.ensures.turned (walked c.args.preds.now c.args.from.now)
+    (reverse c.steps.order) c.steps.invariant.leads in
+    record { fit = c.in_ok-step.ensures.fit; leads = rw c.in-On.is at turned }
+
+pub steps-preserved : goal.steps-preserved
+steps-preserved c =
+    let whole = walked c.args.preds.now c.args.from.now in
+    let turned = c.in_ok-step.ensures.turned whole (reverse c.steps.order) c.steps.invariant.leads in
+    let later = ap reverse c.in_ok-push-in-Left.ensures.ok
+    ∙ reverse-append c.steps.order (c.in-Left.n ∷ []) in
+    record {
+      fit = c.in_ok-step.ensures.fit;
+      leads = subst (λ done. Leads c.args.preds.now done c.step.new.self whole) (sym later)
+          (rw c.in-Left.is at turned);
+    }
 
 pub returns-in-Closed-clause-value : goal.returns-in-Closed-clause-value
 returns-in-Closed-clause-value c =

@@ -1,4 +1,4 @@
-use Rattle.std.proofs.Common.{◌≡◌, Some, length, position, refl, sym, ◌∙◌, ap, slice_get, slice_set}
+use Rattle.std.proofs.Common.{◌≡◌, [], ◌∷◌, ◌++◌, Some, length, position, refl, sym, ◌∙◌, ap, slice_get, slice_set}
 use Rattle.std.proofs.lemmas.Option.{slice_get_read}
 use Rattle.mk_memworld.proofs.ChildLemmas.{StandsAt-within, has_ticket, place-some, place-stands, stepped-at}
 use Rattle.mk_memworld.proofs.chronicle.add_deed.Goals as goal
@@ -20,5 +20,6 @@ returns-clause-ok c =
     let within = StandsAt-within c.args.ticket place children stands in
     let at : slice_get children place ≡ Some child =
     slice_get_read children (length children) place child refl within c.index_mut.ensures.value in
-    ap (λ deeds. slice_set children place (record child { deeds = deeds })) c.in_ok-push.ensures.ok
-    ∙ stepped-at c.args.ticket place c.args.deed children child stands at
+    ap (λ deeds. slice_set children place (record child { deeds = deeds }))
+    (c.in_ok-push.ensures.ok ∙ ap (λ d. child.deeds ++ d ∷ []) c.in_ok-copy.ensures)
+    ∙ stepped-at c.args.ticket place c.args.deed.now children child stands at

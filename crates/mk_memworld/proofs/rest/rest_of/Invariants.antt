@@ -8,10 +8,10 @@ use Rattle.mk_memworld.proofs.RestLemmas.{Completes}
 use Rattle.mk_memworld.proofs.rest.rest_of.Given as goal
 
 -- whatever completes the steps so far is the rest
-abbrev pub invariant-loop-deeds : goal.invariant-loop-deeds
-invariant-loop-deeds l =
+abbrev pub invariant-steps : goal.invariant-steps
+invariant-steps l =
     Completes language_next l.cmd l.fn.seen
     (after_step (contents (files_in l.files)) (option_copied l.step)) l.answers l.deeds
 
-abbrev pub decreases-loop-deeds : goal.decreases-loop-deeds
-decreases-loop-deeds l = most_answers l.cmd - length l.answers
+abbrev pub decreases-steps : goal.decreases-steps
+decreases-steps l = most_answers l.cmd - length l.answers

@@ -1,16 +1,23 @@
-use Rattle.std.proofs.Common.{◌≡◌, [], ◌∷◌, ◌++◌, sym, ap, ◌∙◌}
+use Rattle.std.proofs.Common.{◌≡◌, [], ◌∷◌, ◌++◌, sym, ap, ◌∙◌, arith}
 use Rattle.mk_graph.proofs.ViewLemmas.{IsHeld-append, added_is, not_held, as_many_nodes}
-use Rattle.mk_graph.proofs.NumberLemmas.{next_name}
 use Rattle.mk_graph.specs.View.{no_links}
 use Rattle.mk_graph.proofs.graph.Graph.add.Goals as goal
 use Rattle.mk_graph.proofs.graph.Graph.add.Goals.{After-unwrap}
 
+pub add-requires-clause-absent : goal.add-requires-clause-absent
+add-requires-clause-absent c =
+    not_held c.self.inside.names c.self.inside.nodes.items c.args.self.now c.self.invariant
+    c.self.view_is c.args.name.now c.requires.absent
+
+pub add-requires-clause-room : goal.add-requires-clause-room
+add-requires-clause-room c =
+    let held = as_many_nodes c.self.inside.names c.self.inside.nodes.items c.args.self.now
+    c.self.invariant c.self.view_is in
+    omega (arith, held, c.requires.room)
+
 -- the names with this one behind them
-names : (c : After-unwrap) → c.intern.new.self ≡ c.self.inside.names ++ c.args.name.now ∷ []
-names c =
-    let absent = not_held c.self.inside.names c.self.inside.nodes.items c.args.self.now
-    c.self.invariant c.self.view_is c.args.name.now c.requires.absent in
-    rw absent at c.in-Ok.ensures.texts
+names : (c : After-unwrap) → c.add.new.self ≡ c.self.inside.names ++ c.args.name.now ∷ []
+names c = c.in_ok-name.ensures.texts
 
 -- and what nodes have, with nothing behind it
 items : (c : After-unwrap) → c.push.new.self.items ≡ c.self.inside.nodes.items ++ no_links ∷ []
@@ -26,12 +33,9 @@ invariant_of-self-2 c =
 
 pub returns-clause-number : goal.returns-clause-number
 returns-clause-number c =
-    let absent = not_held c.self.inside.names c.self.inside.nodes.items c.args.self.now
-    c.self.invariant c.self.view_is c.args.name.now c.requires.absent in
     let held = as_many_nodes c.self.inside.names c.self.inside.nodes.items c.args.self.now
     c.self.invariant c.self.view_is in
-    next_name c.self.inside.names _ c.args.name.now c.in-Ok.name absent (names c)
-    c.in-Ok.ensures.name ∙ sym held
+    c.in_ok-name.ensures.name ∙ sym held
 
 pub returns-clause-nodes : goal.returns-clause-nodes
 returns-clause-nodes c =

@@ -33,10 +33,10 @@ returns-clause-ok c =
     let all = c.self.inside.nodes.items in
     let nodes = c.args.self.now in
     let old = c.index_mut.result.now in
-    on_ok_weaker c.push.result
+    on_ok_weaker c.add_text.result
     (λ is. changed_is names all nodes c.self.invariant c.self.view_is c.args.n old _
     (λ node. record node { commands = node.commands ++ c.args.text.now ∷ [] })
     c.requires c.index_mut.ensures.value
     (ap (λ added. named (get_or names c.args.n []) (record old { commands = added }))
     (is ∙ ap (λ text. old.commands ++ text ∷ []) c.in_ok-text.ensures)))
-    c.push.ensures.ok
+    c.add_text.ensures.ok

@@ -8,19 +8,12 @@ use Rattle.mk_memworld.proofs.chronicle.Chronicle.start.Goals as goal
 pub invariant_of-self-2 : goal.invariant_of-self-2
 invariant_of-self-2 c =
     let event = Start c.args.ticket c.args.owner c.in_ok-cmd.cmd in
-    let child : Child = record {
-      ticket = c.args.ticket;
-      owner = c.args.owner;
-      cmd = c.in_ok-copy_cmd.field-0;
-      deeds = c.in_ok-new.field-0;
-    } in
     let items : c.push-2.new.self.items ≡ c.self.inside.events.items ++ event ∷ [] =
     grind (arith, common_steps) in
-    let more : c.push.new.self.items ≡ c.self.inside.children.items ++ child ∷ [] =
+    let more : c.push.new.self.items ≡ c.self.inside.children.items ++ c.in_ok-child.child ∷ [] =
     grind (arith, common_steps) in
     IsPresent-more c.self.inside _ event c.self.invariant refl items refl refl
-    (more ∙ ap (λ cmd. c.self.inside.children.items ++ record child { cmd = cmd } ∷ [])
-    (c.in_ok-copy_cmd.ensures ∙ sym c.in_ok-cmd.ensures)
-    ∙ ap (λ ds. c.self.inside.children.items
-    ++ record child { cmd = c.in_ok-cmd.cmd; deeds = ds } ∷ []) c.in_ok-new.ensures.empty)
+    (more ∙ ap (λ (one : Child). c.self.inside.children.items ++ one ∷ []) (c.in_ok-child.ensures
+    ∙ ap (λ cmd. record { ticket = c.args.ticket; owner = c.args.owner; cmd = cmd; deeds = [] })
+    (sym c.in_ok-cmd.ensures)))
     (search rules)

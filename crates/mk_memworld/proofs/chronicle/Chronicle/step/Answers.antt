@@ -1,6 +1,5 @@
 use Rattle.std.proofs.Common.{rules, ◌≡◌, ◌+◌, [], ◌∷◌, ◌++◌, refl, sym, ap, ◌∙◌, arith}
 use Rattle.std.proofs.lemmas.Grind.{common_steps}
-use Rattle.mk_world.specs.History.{stepped}
 use Rattle.mk_world.specs.declared.history.Happening.TheVariants.{Step}
 use Rattle.mk_memworld.proofs.ChronicleLemmas.{IsPresent-more}
 use Rattle.mk_memworld.proofs.StepLemmas.{last_time-taken}
@@ -21,6 +20,4 @@ invariant_of-self-2 c =
     copied ∙ ap (λ d. t.events.items ++ Step ticket owner d time ∷ []) c.in_ok-copy.ensures in
     IsPresent-more t _ event c.self.invariant refl items c.in_ok-do_step.ensures.files
     (sym (last_time-taken t.clock c.numbers_taken.result deed c.numbers_taken.ensures))
-    (c.in_ok-do_step.ensures.children
-    ∙ ap (λ d. stepped ticket d t.children.items) c.in_ok-again.ensures)
-    (search rules)
+    c.in_ok-do_step.ensures.children (search rules)

@@ -1,15 +1,16 @@
 use Rattle.std.proofs.Common.{◌≡◌, ◌+◌, ℕ, List, [], Option, Some, None, length, Bor}
+use Rattle.std.specs.List.{slice_split}
 use Rattle.std.specs.Option.{option_copied, option_map}
-use Rattle.mk_memworld.specs.Language.{commands_after, commands_of, in_order}
+use Rattle.mk_memworld.specs.Language.{commands_after, in_order, is_semicolon}
 use Rattle.mk_memworld.specs.Words.{held}
-use Rattle.mk_memworld.proofs.language.next.Given as goal
+use Rattle.mk_memworld.proofs.language.in_order.Given as goal
 
 -- the commands that are left decide what comes next
 abbrev pub invariant-commands : goal.invariant-commands
 invariant-commands l =
-    in_order l.cmd.cwd (commands_after (option_map held (option_copied l.commands)))
+    in_order l.cwd (commands_after (option_map held (option_copied l.commands)))
     l.printed l.rest
-    ≡ in_order l.cmd.cwd (commands_of l.cmd.text) [] l.seen
+    ≡ in_order l.cwd (slice_split is_semicolon (held l.words)) [] l.seen
 
 -- the words of the commands that are left
 abbrev words_left : Option (Bor (List (Bor (List ℕ)))) → ℕ

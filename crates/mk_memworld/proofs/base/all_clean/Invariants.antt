@@ -1,6 +1,6 @@
 use Rattle.std.proofs.Common.{◌≡◌, ◌≤◌, true, drop, length}
 use Rattle.mk_memworld.specs.Base.{Holds, are_clean}
-use Rattle.mk_memworld.proofs.base.are_clean.Given as goal
+use Rattle.mk_memworld.proofs.base.all_clean.Given as goal
 
 -- the files that are left stand before these, whose paths the set holds
 abbrev pub invariant-files : goal.invariant-files
