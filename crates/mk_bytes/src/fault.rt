@@ -2,7 +2,7 @@ use std::alloc::{AllocError, AllocFailed};
 
 /// Want of memory: a growth was refused. It may stand in place of any other answer of a call that
 /// takes memory.
-#[derive(Clone, Copy, Debug, PartialEq, Eq)]
+#[derive(Clone, Copy, PartialEq, Eq)]
 pub struct NoMemory;
 
 impl From<AllocError> for NoMemory {

@@ -7,7 +7,7 @@ use std::marker::Model;
 const MAX_LEN: usize = 0xffff_ffff;
 
 /// A list of fewer than 2^32 items. Contracts see the list of what they see of each item.
-#[derive(Debug, Drop)]
+#[derive(Drop)]
 pub struct Items<T> {
     items: Vec<T>,
 }

@@ -1,5 +1,5 @@
 /// Which limit of make was passed.
-#[derive(Clone, Copy, Debug, PartialEq, Eq)]
+#[derive(Clone, Copy, PartialEq, Eq)]
 pub enum Kind {
     /// The names of nodes.
     Names,

@@ -22,6 +22,6 @@ pub use pair::{Pair, Pairs, Texts, copy_pairs, copy_texts, is_among};
 pub use part::{
     begins, is_blank, skip, without_blanks, without_blanks_after, without_blanks_before,
 };
-pub use path::{clean_path, is_absolute, is_clean_directory};
+pub use path::{are_names, clean_path, is_absolute, is_clean_directory};
 pub use text::Text;
 pub use word::{Span, first_piece, is_white, next_word, next_word_is_first, words};

@@ -13,7 +13,7 @@ const ONE: u128 = 1_000_000_000_000_000_000;
 
 /// A number in exact decimals, compared by its value. Contracts see the value times 10^18, which is
 /// an integer.
-#[derive(Clone, Copy, Debug, PartialEq, Eq, PartialOrd, Ord)]
+#[derive(Clone, Copy, PartialEq, Eq, PartialOrd, Ord)]
 pub struct Num {
     scaled: i128,
 }

@@ -8,7 +8,7 @@ use crate::text::Text;
 use std::alloc::Global;
 
 /// A name with a value: a variable with its text, or the path of a file with its bytes.
-#[derive(Debug, Drop)]
+#[derive(Drop)]
 pub struct Pair {
     pub name: Text,
     pub value: Text,

@@ -12,7 +12,7 @@ use std::alloc::Global;
 fn is_name(name: &[u8]) -> bool
     ensures { result ≡ spec.is_name name.now }
 {
-    !(name == b"".as_slice() || name == b".".as_slice() || name == b"..".as_slice())
+    !matches!(name, [] | [b'.'] | [b'.', b'.'])
 }
 
 /// Whether a path is named from the root. Takes no memory.
@@ -42,7 +42,9 @@ fn first_name<'t>(path: &'t [u8]) -> (&'t [u8], Option<&'t [u8]>)
     }
 }
 
-fn are_names(path: &[u8]) -> bool
+/// Whether a path is names with one slash between them, none of them `.` or `..`. Such a path is
+/// clean, whatever the current directory is. Takes no memory.
+pub fn are_names(path: &[u8]) -> bool
     ensures { result ≡ list_all spec.is_name (spec.names_on path.now) }
 {
     let mut rest = path;
@@ -156,10 +158,14 @@ fn spelled(alloc: Global, dir: &[&[u8]], place: &[&[u8]]) -> Result<Text, NoMemo
 
 /// A path as it is named from the current directory `cwd`: made absolute against `cwd`, without `.`
 /// and empty names, each `..` taking away the name before it; `.` where it is `cwd`, relative where
-/// it lies below `cwd`, and absolute elsewhere.
+/// it lies below `cwd`, and absolute elsewhere. A relative path without `.`, `..` and empty names is
+/// named so already.
 pub fn clean_path<'t>(alloc: Global, cwd: &'t [u8], path: &'t [u8]) -> Result<Text, NoMemory>
     ensures { IfOk result (λ text. text ≡ spec.clean cwd.now path.now) }
 {
+    if are_names(path) {
+        return Text::from_bytes(alloc, path);
+    }
     let mut dir = Vec::new(alloc);
     walk(&mut dir, cwd)?;
     let mut place = Vec::new(alloc);

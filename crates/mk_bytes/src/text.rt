@@ -7,7 +7,7 @@ use std::marker::Model;
 const MAX_LEN: usize = 0xffff_ffff;
 
 /// Bytes, fewer than 2^32 of them. Contracts see the list of its bytes.
-#[derive(Debug, Drop)]
+#[derive(Drop)]
 pub struct Text {
     bytes: Vec<u8>,
 }

@@ -10,7 +10,7 @@ use crate::text::Text;
 use std::alloc::Global;
 
 /// Where a word stands in a text: from the byte at `start` to before the byte at `end`.
-#[derive(Clone, Copy, Debug, PartialEq, Eq)]
+#[derive(Clone, Copy, PartialEq, Eq)]
 pub struct Span {
     pub start: usize,
     pub end: usize,

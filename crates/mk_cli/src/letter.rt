@@ -3,7 +3,7 @@ ghost use Rattle.std.specs.Prelude.{◌≡◌};
 ghost use Rattle.mk_cli.specs.Letters as spec;
 
 /// An option without an argument.
-#[derive(Clone, Copy, Debug, PartialEq, Eq)]
+#[derive(Clone, Copy, PartialEq, Eq)]
 pub enum Flag {
     /// `-B`: one job at a time, whatever `-j` says.
     OneJob,
@@ -26,7 +26,7 @@ pub enum Flag {
 }
 
 /// An option with an argument.
-#[derive(Clone, Copy, Debug, PartialEq, Eq)]
+#[derive(Clone, Copy, PartialEq, Eq)]
 pub enum Argument {
     /// `-D`: a variable that is set to `1`.
     Define,
@@ -47,7 +47,7 @@ pub enum Argument {
 }
 
 /// What a letter behind `-` stands for.
-#[derive(Clone, Copy, Debug, PartialEq, Eq)]
+#[derive(Clone, Copy, PartialEq, Eq)]
 pub enum Letter {
     Alone(Flag),
     Takes(Argument),

@@ -4,7 +4,7 @@ use mk_flags::Flags;
 use mk_scopes::Class;
 
 /// How an assignment changes its variable (make(1), "VARIABLE ASSIGNMENTS").
-#[derive(Clone, Copy, Debug, PartialEq, Eq)]
+#[derive(Clone, Copy, PartialEq, Eq)]
 pub enum AssignOp {
     /// `=`: sets the text as it is.
     Plain,
@@ -19,7 +19,7 @@ pub enum AssignOp {
 }
 
 /// An assignment: in which class of variables, how, to what name, and which text.
-#[derive(Debug, Drop)]
+#[derive(Drop)]
 pub struct Set {
     pub class: Class,
     pub op: AssignOp,
@@ -32,7 +32,7 @@ pub type Sets = Items<Set>;
 
 /// A print: the text that is expanded where it has a `$`, or the name of the variable whose value
 /// is printed, the raw one for `-V` and the expanded one for `-v`.
-#[derive(Debug, Drop)]
+#[derive(Drop)]
 pub struct Print {
     /// Whether it was asked for by `-v`.
     pub full: bool,
@@ -43,7 +43,7 @@ pub struct Print {
 pub type Prints = Items<Print>;
 
 /// What a command line asks for.
-#[derive(Debug, Drop)]
+#[derive(Drop)]
 pub struct Order {
     /// `-f`: the makefiles.
     pub files: Texts,
@@ -66,7 +66,7 @@ pub struct Order {
 }
 
 /// Why a command line is not carried out.
-#[derive(Clone, Copy, Debug, PartialEq, Eq)]
+#[derive(Clone, Copy, PartialEq, Eq)]
 pub enum Usage {
     /// The place, counted from 0, of the first word that is refused.
     Word(u32),

@@ -16,7 +16,7 @@ use mk_flags::Flags;
 use std::alloc::Global;
 
 /// What the next word may be.
-#[derive(Clone, Copy, Debug, PartialEq, Eq)]
+#[derive(Clone, Copy, PartialEq, Eq)]
 pub enum Expected {
     /// An option, an assignment or a target.
     Any,
@@ -29,7 +29,7 @@ pub enum Expected {
 }
 
 /// What the words read so far ask for.
-#[derive(Debug, Drop)]
+#[derive(Drop)]
 pub struct Reading {
     pub order: Order,
     /// Whether `-B` was met.

@@ -2,7 +2,7 @@ use mk_bytes::{NoMemory, Text};
 use mk_suffix::SuffixFault;
 
 /// Why there is no closure.
-#[derive(Debug, Drop)]
+#[derive(Drop)]
 pub enum CloseFault {
     /// There is no way to make this name, and no file of it.
     NoRule(Text),

@@ -17,7 +17,7 @@ use mk_world::World;
 use std::alloc::Global;
 
 /// What there is to make a node with.
-#[derive(Debug, Drop)]
+#[derive(Drop)]
 pub enum Means {
     /// What the makefiles say, or a file that is there.
     Own,

@@ -1,5 +1,5 @@
 /// How a node is made.
-#[derive(Clone, Copy, Debug)]
+#[derive(Clone, Copy)]
 pub enum Way {
     /// Nothing was decided of it.
     Open,
@@ -14,7 +14,7 @@ pub enum Way {
 }
 
 /// How far a walk has come with a node.
-#[derive(Clone, Copy, Debug)]
+#[derive(Clone, Copy)]
 pub struct Part {
     pub way: Way,
     pub met: bool,

@@ -2,7 +2,7 @@ use mk_ast::Tree;
 use mk_bytes::Items;
 
 /// The functions of conditions.
-#[derive(Clone, Copy, Debug, PartialEq, Eq)]
+#[derive(Clone, Copy, PartialEq, Eq)]
 pub enum Fun {
     /// `defined`: some variable has the name.
     Defined,
@@ -24,7 +24,7 @@ pub enum Fun {
 }
 
 /// How the two sides of a comparison stand to each other.
-#[derive(Clone, Copy, Debug, PartialEq, Eq)]
+#[derive(Clone, Copy, PartialEq, Eq)]
 pub enum CmpOp {
     /// `==`
     Equal,
@@ -41,7 +41,7 @@ pub enum CmpOp {
 }
 
 /// Where a condition stands. That decides what a bare word asks, and what may be a left side.
-#[derive(Clone, Copy, Debug, PartialEq, Eq)]
+#[derive(Clone, Copy, PartialEq, Eq)]
 pub enum Form {
     /// Behind `.if` or `.elif`: a word asks `defined`.
     If,

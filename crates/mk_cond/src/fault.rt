@@ -7,7 +7,7 @@ use mk_bytes::NoMemory;
 
 /// The first fault that a reading forwards meets in a condition. Places are counted in bytes, from
 /// 0 at the beginning of the text.
-#[derive(Clone, Copy, Debug, PartialEq, Eq)]
+#[derive(Clone, Copy, PartialEq, Eq)]
 pub enum CondFault {
     /// The byte at this place does not fit, or the text ends there too early.
     Bad(usize),
@@ -45,5 +45,5 @@ impl From<AstFault> for CondFault {
 }
 
 /// A side of `<`, `<=`, `>` or `>=` is a quoted text, or no number.
-#[derive(Clone, Copy, Debug, PartialEq, Eq)]
+#[derive(Clone, Copy, PartialEq, Eq)]
 pub struct NoNumber;

@@ -1,2 +1,3 @@
 mod BraceLemmas
+mod NameLemmas
 mod PlaceLemmas

@@ -1,7 +1,7 @@
 use mk_bytes::NoMemory;
 
 /// Why a text is no dependency line. Where several hold, the first of this order is answered.
-#[derive(Clone, Copy, Debug, PartialEq, Eq)]
+#[derive(Clone, Copy, PartialEq, Eq)]
 pub enum DepFault {
     /// There is no `:` and no `!`.
     NoOperator,

@@ -1,5 +1,5 @@
 //! Dependency lines: targets, an operator, and sources.
-ghost use Rattle.std.specs.Prelude.{◌≡◌, ◌<◌, length, position, drop, Ok, IfOk, IfSome, IsTrue};
+ghost use Rattle.std.specs.Prelude.{◌≡◌, ◌<◌, length, position, drop, Ok, IfOk, IfSome, IsTrue, OnOk};
 ghost use Rattle.std.specs.List.{list_all, list_any};
 ghost use Rattle.mk_bytes.specs.Agrees.{Agrees};
 ghost use Rattle.mk_bytes.specs.Paths.{is_clean_directory};
@@ -11,12 +11,12 @@ ghost use Rattle.mk_depline.specs.declared.fault.DepFault.TheVariants.{NoMemory 
 
 use crate::brace::spelled_words;
 use crate::fault::DepFault;
-use crate::name::{Special, is_attribute, special_named};
-use mk_bytes::{Items, NoMemory, Text, Texts, clean_path, is_among, is_white};
+use crate::name::{Special, special_named};
+use mk_bytes::{Items, NoMemory, Text, Texts, are_names, clean_path, is_among, is_white};
 use std::alloc::Global;
 
 /// A dependency line. Its names are cleaned, but for attributes, special targets and rules.
-#[derive(Debug, Drop)]
+#[derive(Drop)]
 pub struct DepLine {
     pub targets: Texts,
     /// Whether the operator is `!`: its targets are always out of date.
@@ -68,23 +68,25 @@ fn sides_of<'t>(text: &'t [u8]) -> Result<Sides<'t>, DepFault>
     }
 }
 
-fn cleaned(alloc: Global, cwd: &[u8], name: &[u8]) -> Result<Text, NoMemory>
-    ensures { IfOk result (λ text. text ≡ spec.cleaned cwd.now name.now) }
+// Cleans a name in its place. Attributes and special targets are clean as they are.
+fn clean(alloc: Global, cwd: &[u8], name: &mut Text) -> Result<(), NoMemory>
+    ensures { OnOk result (name.new ≡ spec.cleaned cwd.now name.old) }
 {
-    if is_attribute(name) || special_named(name).is_some() {
-        return Text::from_bytes(alloc, name);
+    if are_names(name.bytes()) {
+        return Ok(());
     }
-    clean_path(alloc, cwd, name)
+    *name = clean_path(alloc, cwd, name.bytes())?;
+    Ok(())
 }
 
-fn all_cleaned(alloc: Global, cwd: &[u8], names: &Texts) -> Result<Texts, NoMemory>
-    ensures { IfOk result (λ texts. texts ≡ spec.all_cleaned cwd.now names.now) }
+fn all_cleaned(alloc: Global, cwd: &[u8], names: Texts) -> Result<Texts, NoMemory>
+    ensures { IfOk result (λ texts. texts ≡ spec.all_cleaned cwd.now names) }
 {
-    let mut texts = Items::new(alloc, names.len())?;
-    for name in names.as_slice() {
-        texts.push(cleaned(alloc, cwd, name.bytes())?)?;
+    let mut names = names;
+    for at in 0..names.len() {
+        clean(alloc, cwd, names.get_mut(at))?;
     }
-    Ok(texts)
+    Ok(names)
 }
 
 // What follows a known suffix, where that is a known suffix too.
@@ -116,11 +118,10 @@ fn plain_line(
     alloc: Global,
     cwd: &[u8],
     remake: bool,
-    targets: &Texts,
-    sources: &Texts,
+    targets: Texts,
+    sources: Texts,
 ) -> Result<DepLine, NoMemory>
-    ensures { IfOk result (λ line. line
-        ≡ spec.plain_line cwd.now remake targets.now sources.now) }
+    ensures { IfOk result (λ line. line ≡ spec.plain_line cwd.now remake targets sources) }
 {
     Ok(DepLine {
         targets: all_cleaned(alloc, cwd, targets)?,
@@ -154,33 +155,25 @@ fn rule_line(
     })
 }
 
-// A line of one target.
-fn single_line(
+// A line of a special target.
+fn special_line(
     alloc: Global,
     cwd: &[u8],
-    known: &Texts,
     remake: bool,
     targets: Texts,
-    target: &[u8],
-    sources: &Texts,
-) -> Result<DepLine, DepFault>
-    ensures { Agrees no_memory (λ line. line) result
-        (spec.by_special cwd.now known.now remake targets target.now sources.now
-        (names.special_named target.now)) }
+    special: Special,
+    sources: Texts,
+) -> Result<DepLine, NoMemory>
+    ensures { IfOk result (λ line. line
+        ≡ spec.special_line cwd.now remake targets special sources) }
 {
-    if let Some(special) = special_named(target) {
-        return Ok(DepLine {
-            targets,
-            remake,
-            sources: all_cleaned(alloc, cwd, sources)?,
-            special: Some(special),
-            rule: None,
-        });
-    }
-    match rule_named(alloc, known.as_slice(), target)? {
-        Some(rule) => rule_line(alloc, remake, targets, rule, sources),
-        None => Ok(plain_line(alloc, cwd, remake, &targets, sources)?),
-    }
+    Ok(DepLine {
+        targets,
+        remake,
+        sources: all_cleaned(alloc, cwd, sources)?,
+        special: Some(special),
+        rule: None,
+    })
 }
 
 fn is_special(name: &[u8]) -> bool
@@ -202,22 +195,27 @@ fn line_of(
     known: &Texts,
     remake: bool,
     targets: Texts,
-    sources: &Texts,
+    sources: Texts,
 ) -> Result<DepLine, DepFault>
     ensures { Agrees no_memory (λ line. line) result
-        (spec.line_of cwd.now known.now remake targets sources.now) }
+        (spec.line_of cwd.now known.now remake targets sources) }
 {
     match targets.as_slice() {
         [] => Err(DepFault::NoTargets),
         [target] => {
-            let target = target.copy(alloc)?;
-            single_line(alloc, cwd, known, remake, targets, target.bytes(), sources)
+            if let Some(special) = special_named(target.bytes()) {
+                return Ok(special_line(alloc, cwd, remake, targets, special, sources)?);
+            }
+            match rule_named(alloc, known.as_slice(), target.bytes())? {
+                Some(rule) => rule_line(alloc, remake, targets, rule, &sources),
+                None => Ok(plain_line(alloc, cwd, remake, targets, sources)?),
+            }
         }
         several => {
             if are_mixed(several) {
                 return Err(DepFault::MixedSpecial);
             }
-            Ok(plain_line(alloc, cwd, remake, &targets, sources)?)
+            Ok(plain_line(alloc, cwd, remake, targets, sources)?)
         }
     }
 }
@@ -250,5 +248,5 @@ pub fn parse_dep(
     }
     let targets = spelled_words(alloc, parted.targets)?;
     let sources = spelled_words(alloc, parted.sources)?;
-    line_of(alloc, cwd, suffixes, parted.remake, targets, &sources)
+    line_of(alloc, cwd, suffixes, parted.remake, targets, sources)
 }

@@ -1,9 +1,11 @@
 //! Names that mean something of their own: special targets and attributes.
 ghost use Rattle.std.specs.Prelude.{◌≡◌};
+ghost use Rattle.mk_bytes.specs.Bytes.{dot};
+ghost use Rattle.mk_depline.specs.Lines.{begins_with};
 ghost use Rattle.mk_depline.specs.Names as spec;
 
 /// The special targets (make(1), "SPECIAL TARGETS").
-#[derive(Clone, Copy, Debug, PartialEq, Eq)]
+#[derive(Clone, Copy, PartialEq, Eq)]
 pub enum Special {
     /// `.MAIN`: its sources are the main targets.
     Main,
@@ -31,8 +33,21 @@ pub enum Special {
     Ignore,
 }
 
+// Whether a name begins with a dot, as all that mean something of their own do.
+fn is_dotted(name: &[u8]) -> bool
+    ensures { result ≡ begins_with dot name.now }
+{
+    matches!(name, [b'.', ..])
+}
+
 /// Whether a source is the name of an attribute, `.WAIT` included. Takes no memory.
 pub fn is_attribute(name: &[u8]) -> bool
+    ensures { result ≡ spec.is_attribute name.now }
+{
+    is_dotted(name) && is_dotted_attribute(name)
+}
+
+fn is_dotted_attribute(name: &[u8]) -> bool
     ensures { result ≡ spec.is_attribute name.now }
 {
     name == b".PHONY".as_slice()
@@ -52,6 +67,15 @@ pub fn is_attribute(name: &[u8]) -> bool
 
 /// The special target of this name. Takes no memory.
 pub fn special_named(name: &[u8]) -> Option<Special>
+    ensures { result ≡ spec.special_named name.now }
+{
+    if is_dotted(name) {
+        return dotted_special(name);
+    }
+    None
+}
+
+fn dotted_special(name: &[u8]) -> Option<Special>
     ensures { result ≡ spec.special_named name.now }
 {
     if name == b".MAIN".as_slice() {

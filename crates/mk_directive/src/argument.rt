@@ -7,7 +7,7 @@ use mk_bytes::{NoMemory, Texts, is_white, without_blanks_before, words};
 use std::alloc::Global;
 
 /// The names of a loop, of which there is one at least, and the text that its words are cut from.
-#[derive(Debug, Drop)]
+#[derive(Drop)]
 pub struct Heading<'t> {
     pub names: Texts,
     pub text: &'t [u8],
@@ -15,7 +15,7 @@ pub struct Heading<'t> {
 }
 
 /// A file that is to be included.
-#[derive(Clone, Copy, Debug)]
+#[derive(Clone, Copy)]
 pub struct Wanted<'t> {
     /// Whether its name stood in angle brackets, and not in quotes.
     pub system: bool,

@@ -7,7 +7,7 @@ use mk_bytes::without_blanks_before;
 use mk_cond::Form;
 
 /// A directive of make(1).
-#[derive(Clone, Copy, Debug, PartialEq, Eq)]
+#[derive(Clone, Copy, PartialEq, Eq)]
 pub enum Directive {
     /// `.if` and its kin, with the form of their conditions.
     If(Form),
@@ -29,7 +29,7 @@ pub enum Directive {
 }
 
 /// A directive, and what follows its word and the blanks behind that.
-#[derive(Clone, Copy, Debug)]
+#[derive(Clone, Copy)]
 pub struct Directed<'t> {
     pub directive: Directive,
     pub argument: &'t [u8],

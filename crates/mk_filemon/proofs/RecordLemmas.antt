@@ -1,11 +1,11 @@
 -- Records as they are written, and read again.
 use Rattle.std.proofs.Common.{◌≡◌, ℕ, ◌<◌, ◌≤◌, ◌+◌, ◌%◌, ◌^◌, Bool, true, false, ◌==◌}
 use Rattle.std.proofs.Common.{◌&&◌, nat_le, nat_lt, List, [], ◌∷◌, ◌++◌, Option, Some, None}
-use Rattle.std.proofs.Common.{decimal}
+use Rattle.std.proofs.Common.{decimal, length, get_or, ◌-◌}
 use Rattle.std.proofs.Common.{if◌then◌else◌, option_and_then, refl, sym, ◌∙◌, ap, ap₂, subst, lit<}
 use Rattle.std.proofs.Common.{arith}
 use Rattle.std.proofs.lemmas.Bool.Decides.{nat_tests}
-use Rattle.std.proofs.lemmas.Fmt.{decimal_by_steps, decimal_is_IsNumeral}
+use Rattle.std.proofs.lemmas.Fmt.{decimal_by_steps, decimal_digit, decimal_is_IsNumeral}
 use Rattle.std.proofs.lemmas.List.{append-nil, append_assoc}
 use Rattle.std.proofs.lemmas.Option.{option_and_then_some, cond_some}
 use Rattle.std.specs.Option.{option_map}
@@ -36,6 +36,18 @@ number_in-decimal number small =
     let is = (decimal_is_IsNumeral number small).1 in
     let fits : nat_lt number (2 ^ 64) ≡ true = grind (arith, nat_tests) in
     rw (is, bytes_eq-same (decimal number), fits) refl
+
+-- one digit is a number
+pub number_in-digit : (text : List ℕ) → length text ≡ 1 → 48 ≤ get_or text 0 0
+    → get_or text 0 0 < 58 → Some (get_or text 0 0 - 48) ≡ number_in text
+number_in-digit [] one least most = absurd (omega (arith, one))
+number_in-digit (byte ∷ []) one least most =
+    let digit : byte - 48 < 10 = omega arith in
+    let small : byte - 48 < 2 ^ 64 = omega arith in
+    let same : 48 + (byte - 48) ≡ byte = omega arith in
+    sym (ap number_in (ap (λ b. b ∷ []) (sym same) ∙ sym (decimal_digit (byte - 48) digit))
+    ∙ number_in-decimal (byte - 48) small)
+number_in-digit (byte ∷ other ∷ more) one least most = absurd (omega (arith, one))
 
 -- and these are its digits
 pub number_in-written : (text : List ℕ) (number : ℕ) → number_in text ≡ Some number

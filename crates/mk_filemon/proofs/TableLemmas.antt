@@ -1,11 +1,12 @@
 -- The table of traces against the records that left them.
 use Rattle.std.proofs.Common.{◌≡◌, ℕ, Bool, true, false, not, cond, List, [], ◌∷◌, ◌++◌, map}
-use Rattle.std.proofs.Common.{filter, if◌then◌else◌, Option, Some, None, refl, sym, ◌∙◌, ap, ap₂}
-use Rattle.std.proofs.Common.{Vec}
-use Rattle.std.proofs.Common.{Global, append_assoc}
+use Rattle.std.proofs.Common.{filter, if◌then◌else◌, Option, Some, refl, sym, ◌∙◌, ap, ap₂}
+use Rattle.std.proofs.Common.{append_assoc}
+use Rattle.std.specs.Borrow.{Bor}
 use Rattle.indexmap.specs.IndexMap.{insert_entry}
 use Rattle.std.proofs.lemmas.List.{append-nil, map-append}
 use Rattle.std.specs.Map.{lookup}
+use Rattle.std.specs.Option.{unwrap_or}
 use Rattle.std.specs.Str.{bytes_eq}
 use Rattle.mk_filemon.specs.Entries.{Traced, traced_of, no_trace, after, trace_in, noted, all_noted}
 use Rattle.mk_filemon.specs.Entries.{counts, tells, paths_that}
@@ -21,46 +22,44 @@ use Rattle.mk_filemon.proofs.StepLemmas.{filter-both}
 use Rattle.mk_filemon.proofs.TraceLemmas.{trace_of, trace_of-fresh, trace_of-push}
 
 abbrev Entries : Type 0
-Entries = List (Vec ℕ Global × Trace)
+Entries = List (Bor (List ℕ) × Trace)
 
-abbrev or_no_trace : Option Trace → Trace
-or_no_trace None = no_trace
-or_no_trace (Some trace) = trace
-
-or_no_trace-cond : (here : Bool) (trace : Trace) (rest : Option Trace)
-    → or_no_trace (cond here (Some trace) rest) ≡ cond here trace (or_no_trace rest)
-or_no_trace-cond true trace rest = refl
-or_no_trace-cond false trace rest = refl
+unwrap_or-cond : (here : Bool) (trace : Trace) (rest : Option Trace)
+    → unwrap_or (cond here (Some trace) rest) no_trace
+    ≡ cond here trace (unwrap_or rest no_trace)
+unwrap_or-cond true trace rest = refl
+unwrap_or-cond false trace rest = refl
 
 -- a look-up gives the trace of a path
-pub trace_in-lookup : (path : List ℕ) (entries : Entries)
-    → or_no_trace (lookup (λ key. bytes_eq path key.items) entries)
+trace_in-lookup : (path : List ℕ) (entries : Entries)
+    → unwrap_or (lookup (λ key. bytes_eq path key.now) entries) no_trace
     ≡ trace_in (traced_of entries) path
 trace_in-lookup path [] = refl
 trace_in-lookup path (e ∷ es) =
-    or_no_trace-cond (bytes_eq path e.0.items) e.1 (lookup (λ key. bytes_eq path key.items) es)
-    ∙ ap (λ t. cond (bytes_eq path e.0.items) e.1 t) (trace_in-lookup path es)
-
-pub trace_in-some : (path : List ℕ) (entries : Entries) (trace : Trace)
-    → Some trace ≡ lookup (λ key. bytes_eq path key.items) entries
-    → trace ≡ trace_in (traced_of entries) path
-trace_in-some path entries trace is = ap or_no_trace is ∙ trace_in-lookup path entries
-
-pub trace_in-none : (path : List ℕ) (entries : Entries)
-    → None ≡ lookup (λ key. bytes_eq path key.items) entries
-    → no_trace ≡ trace_in (traced_of entries) path
-trace_in-none path entries is = ap or_no_trace is ∙ trace_in-lookup path entries
+    unwrap_or-cond (bytes_eq path e.0.now) e.1 (lookup (λ key. bytes_eq path key.now) es)
+    ∙ ap (λ t. cond (bytes_eq path e.0.now) e.1 t) (trace_in-lookup path es)
 
 -- an insert of the trace after one more record notes it
-pub insert_entry-noted : (key : Vec ℕ Global) (touch : Touch) (entries : Entries)
-    → traced_of (insert_entry (λ a b. bytes_eq a.items b.items) entries key
-    (after (trace_in (traced_of entries) key.items) touch))
-    ≡ noted (traced_of entries) key.items touch
+insert_entry-noted : (key : Bor (List ℕ)) (touch : Touch) (entries : Entries)
+    → traced_of (insert_entry (λ a b. bytes_eq a.now b.now) entries key
+    (after (trace_in (traced_of entries) key.now) touch))
+    ≡ noted (traced_of entries) key.now touch
 insert_entry-noted key touch [] = refl
 insert_entry-noted key touch (e ∷ es) =
-    cases (bytes_eq key.items e.0.items)
+    cases (bytes_eq key.now e.0.now)
     (λ is. rw is refl)
-    (λ apart. rw apart (ap (λ r. (e.0.items, e.1) ∷ r) (insert_entry-noted key touch es)))
+    (λ apart. rw apart (ap (λ r. (e.0.now, e.1) ∷ r) (insert_entry-noted key touch es)))
+
+-- an insert notes one more record where the trace is that of a look-up after the record
+pub insert_entry-lookup : (new : Entries) (key : Bor (List ℕ)) (touch : Touch) (entries : Entries)
+    (before : Trace) → before
+    ≡ unwrap_or (lookup (λ other. bytes_eq key.now other.now) entries) no_trace
+    → new ≡ insert_entry (λ a b. bytes_eq a.now b.now) entries key (after before touch)
+    → traced_of new ≡ noted (traced_of entries) key.now touch
+insert_entry-lookup new key touch entries before was is =
+    ap traced_of (is ∙ ap (λ trace. insert_entry (λ a b. bytes_eq a.now b.now) entries key
+    (after trace touch)) (was ∙ trace_in-lookup key.now entries))
+    ∙ insert_entry-noted key touch entries
 
 abbrev with_traces : (List ℕ → Trace) → List (List ℕ) → List Traced
 with_traces traces paths = map (λ path. (path, traces path)) paths

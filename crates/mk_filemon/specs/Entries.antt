@@ -2,8 +2,7 @@
 use Rattle.std.specs.Prelude.{ℕ, Bool, true, false, not, ◌||◌, ◌&&◌, List, [], ◌∷◌, map, filter}
 use Rattle.std.specs.Prelude.{if◌then◌else◌}
 use Rattle.std.specs.Str.{bytes_eq}
-use Rattle.std.specs.declared.alloc.Global.{Global}
-use Rattle.std.specs.declared.vec.Vec.{Vec}
+use Rattle.std.specs.Borrow.{Bor}
 use Rattle.mk_filemon.specs.declared.trace.Touch.{Touch}
 use Rattle.mk_filemon.specs.declared.trace.Touch.TheVariants.{Found, Missed, Written, Gone}
 use Rattle.mk_filemon.specs.declared.trace.Trace.{Trace}
@@ -15,8 +14,8 @@ abbrev pub Traced : Type 0
 Traced = List ℕ × Trace
 
 -- what the entries of a map stand for
-abbrev pub traced_of : List (Vec ℕ Global × Trace) → List Traced
-traced_of entries = map (λ entry. (entry.0.items, entry.1)) entries
+abbrev pub traced_of : List (Bor (List ℕ) × Trace) → List Traced
+traced_of entries = map (λ entry. (entry.0.now, entry.1)) entries
 
 abbrev pub no_trace : Trace
 no_trace = record { found = false; missed = false; changed = false; written = false }

@@ -8,7 +8,7 @@ ghost use Rattle.mk_filemon.specs.Log as spec;
 use crate::escape::cut_at;
 
 /// What a line of a log tells.
-#[derive(Clone, Copy, Debug)]
+#[derive(Clone, Copy)]
 pub enum Kind {
     Reads,
     Misses,

@@ -13,8 +13,7 @@ fn parsed(text: &[u8]) -> Option<u64>
     digits.parse::<u64>().ok()
 }
 
-/// The number that a text is in decimal digits without leading zeros, below 2^64. Takes no memory.
-pub fn read_decimal(text: &[u8]) -> Option<u64>
+fn read_digits(text: &[u8]) -> Option<u64>
     ensures { result ≡ spec.number_in text.now }
 {
     let number = parsed(text)?;
@@ -22,6 +21,16 @@ pub fn read_decimal(text: &[u8]) -> Option<u64>
         return Some(number);
     }
     None
+}
+
+/// The number that a text is in decimal digits without leading zeros, below 2^64. Takes no memory.
+pub fn read_decimal(text: &[u8]) -> Option<u64>
+    ensures { result ≡ spec.number_in text.now }
+{
+    match text {
+        [digit] if digit.is_ascii_digit() => Some(u64::from(*digit - b'0')),
+        _ => read_digits(text),
+    }
 }
 
 /// Appends a number in decimal digits.

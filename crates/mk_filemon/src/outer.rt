@@ -9,11 +9,11 @@ use mk_bytes::{NoMemory, Texts};
 use std::alloc::Global;
 
 // The traces that records leave.
-fn traces_of(alloc: Global, records: &Recs) -> Result<Traces, NoMemory>
+fn traces_of<'r>(alloc: Global, records: &'r Recs) -> Result<Traces<'r>, NoMemory>
     ensures { IfOk result (λ traces.
         traces ≡ all_noted [] (spec.all_touches (spec.ops_of records.now))) }
 {
-    let mut traces = Traces::new(alloc);
+    let mut traces = Traces::new(alloc, records.len())?;
     for one in records.as_slice() {
         traces.note_op(&one.op)?;
     }
@@ -51,7 +51,7 @@ pub fn left_written(alloc: Global, records: &Recs) -> Result<Texts, NoMemory>
 }
 
 /// The paths that a job found outside, those that it missed there, and those that it left written.
-#[derive(Debug, Drop)]
+#[derive(Drop)]
 pub struct JobPaths {
     pub found: Texts,
     pub missed: Texts,

@@ -11,7 +11,7 @@ use mk_world::Op;
 use std::alloc::Global;
 
 /// A record of a job, with the number of its command line, counted from 1.
-#[derive(Debug, Drop)]
+#[derive(Drop)]
 pub struct Rec {
     pub line: u32,
     pub op: Op,

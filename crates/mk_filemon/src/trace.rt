@@ -10,7 +10,7 @@ use std::alloc::Global;
 use std::marker::Model;
 
 /// What a record says of one path.
-#[derive(Clone, Copy, Debug)]
+#[derive(Clone, Copy)]
 pub enum Touch {
     /// It was looked at, and stood.
     Found,
@@ -23,7 +23,7 @@ pub enum Touch {
 }
 
 /// What the records so far tell of one path.
-#[derive(Clone, Copy, Debug)]
+#[derive(Clone, Copy)]
 pub struct Trace {
     /// It was found before it was changed.
     pub found: bool,
@@ -35,7 +35,7 @@ pub struct Trace {
 }
 
 /// Which paths are asked for.
-#[derive(Clone, Copy, Debug)]
+#[derive(Clone, Copy)]
 pub enum Asked {
     Outer,
     Found,
@@ -98,15 +98,14 @@ fn tells(asked: Asked, trace: Trace) -> bool
     }
 }
 
-/// The paths that records name, in the order of first record, each with its trace. One more record
-/// takes about constant time.
+/// The paths that records name, in the order of first record, each with its trace. The paths are lent
+/// by the records. One more record takes about constant time.
 #[derive(Drop)]
-pub struct Traces {
-    alloc: Global,
-    traces: IndexMap<Vec<u8>, Trace>,
+pub struct Traces<'r> {
+    traces: IndexMap<&'r [u8], Trace>,
 }
 
-impl Model for Traces {
+impl<'r> Model for Traces<'r> {
     ghost use Rattle.std.specs.Prelude.{List};
     ghost use Rattle.mk_filemon.specs.Entries.{Traced, traced_of};
 
@@ -115,36 +114,25 @@ impl Model for Traces {
     ghost view = { λ table. traced_of table.traces.entries };
 }
 
-impl Traces {
-    pub fn new(alloc: Global) -> Traces
-        ensures { result ≡ [] }
+impl<'r> Traces<'r> {
+    /// An empty table with room for this many paths.
+    pub fn new(alloc: Global, room: usize) -> Result<Traces<'r>, NoMemory>
+        ensures { IfOk result (λ table. table ≡ []) }
     {
-        Traces {
-            alloc,
-            traces: IndexMap::new(alloc),
-        }
+        let traces = IndexMap::with_capacity(alloc, room)?;
+        Ok(Traces { traces })
     }
 
-    fn trace_of(&self, path: &[u8]) -> Trace
-        ensures { result ≡ spec.trace_in self.now path.now }
-    {
-        match self.traces.get(path) {
-            Some(trace) => *trace,
-            None => no_trace(),
-        }
-    }
-
-    fn note(&mut self, path: &Text, touch: Touch) -> Result<(), NoMemory>
+    fn note(&mut self, path: &'r Text, touch: Touch) -> Result<(), NoMemory>
         ensures { OnOk result (self.new ≡ spec.noted self.old path.now touch) }
     {
-        let trace = after(self.trace_of(path.bytes()), touch);
-        let path = Vec::from_slice(self.alloc, path.bytes())?;
-        self.traces.insert(path, trace)?;
+        let trace = self.traces.entry(path.bytes())?.or_insert(no_trace());
+        *trace = after(*trace, touch);
         Ok(())
     }
 
     /// Notes what a record says of its paths.
-    pub fn note_op(&mut self, op: &Op) -> Result<(), NoMemory>
+    pub fn note_op(&mut self, op: &'r Op) -> Result<(), NoMemory>
         ensures { OnOk result (self.new ≡ spec.all_noted self.old (touches op.now)) }
     {
         match op {
@@ -160,6 +148,13 @@ impl Traces {
         }
     }
 
+    fn how_many(&self, asked: Asked) -> usize {
+        self.traces
+            .values()
+            .filter(|trace| tells(asked, **trace))
+            .count()
+    }
+
     /// The paths that are asked for, in order, without those that begin with one of the words.
     pub fn paths_that(
         &self,
@@ -169,10 +164,10 @@ impl Traces {
     ) -> Result<Texts, NoMemory>
         ensures { IfOk result (λ paths. paths ≡ spec.paths_that ignored.now asked self.now) }
     {
-        let mut paths = Items::new(alloc, 0)?;
+        let mut paths = Items::new(alloc, self.how_many(asked))?;
         for (path, trace) in self.traces.iter() {
-            if tells(asked, *trace) && !is_ignored(ignored, path.as_slice()) {
-                paths.push(Text::from_bytes(alloc, path.as_slice())?)?;
+            if tells(asked, *trace) && !is_ignored(ignored, *path) {
+                paths.push(Text::from_bytes(alloc, *path)?)?;
             }
         }
         Ok(paths)

@@ -4,7 +4,7 @@
 use mk_bytes::Texts;
 
 /// The options of a build (make(1), "OPTIONS"), and the targets that it is asked for.
-#[derive(Debug, Drop)]
+#[derive(Drop)]
 pub struct Flags {
     /// `-j`: how many jobs may run at once, 1 to 256.
     pub jobs: u32,

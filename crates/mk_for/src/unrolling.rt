@@ -10,7 +10,7 @@ use mk_lines::{LogLine, LogLines};
 use std::alloc::Global;
 
 /// Why a loop has no turns.
-#[derive(Clone, Copy, Debug, PartialEq, Eq)]
+#[derive(Clone, Copy, PartialEq, Eq)]
 pub enum ForFault {
     /// There are so many words, which is no multiple of the number of names, the second.
     Count(usize, usize),

@@ -11,7 +11,7 @@ use mk_bytes::{NoMemory, without_blanks_before};
 const MAX_LEN: usize = 1_048_576;
 
 /// Why a text has no logical lines.
-#[derive(Clone, Copy, Debug, PartialEq, Eq)]
+#[derive(Clone, Copy, PartialEq, Eq)]
 pub enum LineFault {
     /// A logical line is longer than 1,048,576 bytes. The number is that of its first physical
     /// line, counted from 1.

@@ -14,7 +14,7 @@ use std::borrow::CowSlice;
 use std::marker::Model;
 
 /// A logical line.
-#[derive(Debug, Drop)]
+#[derive(Drop)]
 pub struct LogLine {
     /// The number of its first physical line, counted from 1.
     pub first: u32,
@@ -41,7 +41,7 @@ pub fn logical_lines(alloc: Global, text: &[u8]) -> Result<LogLines, LineFault>
 }
 
 /// A logical line of a text that is being read. Contracts see the line.
-#[derive(Debug, Drop)]
+#[derive(Drop)]
 pub struct LineRef<'t> {
     first: u32,
     // A part of the text, or the bytes of several physical lines, joined.

@@ -6,7 +6,7 @@ use mk_world::{Lines, Time};
 /// that are taken off a command line, only `text` and `ignore` of them are set, the names of the
 /// exports are sorted and distinct, made of letters, digits and `_` with no digit first, and the
 /// records name lines.
-#[derive(Debug, Drop)]
+#[derive(Drop)]
 pub struct Meta {
     /// The time at which the job began.
     pub stamp: Time,

@@ -81,6 +81,17 @@ fn words_or_text(
     cut_words(alloc, region, val.pieces.as_slice())
 }
 
+/// The words of [`words_of`](crate::words_of), as pieces: a printed text that is one word is placed in the
+/// region where it is no piece yet. No word is copied.
+pub fn word_pieces(alloc: Global, region: &mut Region, val: &Val) -> Result<Vec<Piece>, NoMemory>
+    requires { end_of val.now ≤ length region.old.bytes }
+    ensures shown { IfOk result (λ words. Shows region.new.bytes words.items
+        (state.words_of (seen region.old.bytes val.now))) }
+    ensures begins { Begins region.old.bytes region.new.bytes }
+{
+    words_or_text(alloc, region, val, false)
+}
+
 // What becomes of words that are chosen, cut or ordered.
 fn picked(
     alloc: Global,

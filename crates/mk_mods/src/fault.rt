@@ -2,7 +2,7 @@ use mk_bytes::NoMemory;
 use std::alloc::{AllocError, AllocFailed};
 
 /// Why a modifier is refused.
-#[derive(Clone, Copy, Debug, PartialEq, Eq)]
+#[derive(Clone, Copy, PartialEq, Eq)]
 pub enum ModFault {
     /// The printed text would pass 4,194,304 bytes.
     TooLong,

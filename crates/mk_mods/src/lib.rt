@@ -20,8 +20,9 @@ mod replace;
 mod results;
 mod val;
 
-pub use chain::apply;
+pub use chain::{apply, word_pieces};
 pub use fault::ModFault;
 pub use modifier::Mod;
+pub use piece::shown;
 pub use results::{Results, with_results};
 pub use val::{Separator, Val, placed_anew, text, with_items, words_of};

@@ -1,7 +1,7 @@
 use mk_bytes::Text;
 
 /// A modifier with its arguments, which are expanded.
-#[derive(Debug, Drop)]
+#[derive(Drop)]
 pub enum Mod {
     /// `:Mpattern`: the words that match.
     Keep(Text),

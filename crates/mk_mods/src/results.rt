@@ -17,7 +17,7 @@ use std::alloc::Global;
 use std::marker::Model;
 
 /// Results so far. Contracts see the state whose items they are.
-#[derive(Debug, Drop)]
+#[derive(Drop)]
 pub struct Results {
     items: Texts,
     separator: Separator,

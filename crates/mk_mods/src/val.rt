@@ -11,7 +11,7 @@ use mk_pool::{Piece, Region};
 use std::alloc::Global;
 
 /// What stands between two items in the printed text.
-#[derive(Clone, Copy, Debug, PartialEq, Eq)]
+#[derive(Clone, Copy, PartialEq, Eq)]
 pub enum Separator {
     /// A space, left out beside a newline: as it is until `:ts` sets another.
     FirstSpace,
@@ -20,7 +20,7 @@ pub enum Separator {
 }
 
 /// The state of a chain of modifiers. Its items are pieces of a region, which each call is lent.
-#[derive(Debug, Drop)]
+#[derive(Drop)]
 pub struct Val {
     pub(crate) pieces: Vec<Piece>,
     pub(crate) separator: Separator,

@@ -3,7 +3,7 @@ use mk_bytes::Items;
 use mk_world::{Time, When};
 
 /// The age of a source.
-#[derive(Clone, Copy, Debug, PartialEq, Eq)]
+#[derive(Clone, Copy, PartialEq, Eq)]
 pub enum Age {
     /// Older than every target.
     Old,
@@ -13,7 +13,7 @@ pub enum Age {
 }
 
 /// Why a target is out of date. Places count from 0.
-#[derive(Clone, Copy, Debug, PartialEq, Eq)]
+#[derive(Clone, Copy, PartialEq, Eq)]
 pub enum Why {
     Always,
     Missing,
@@ -38,7 +38,7 @@ pub type Ages = Items<Age>;
 pub type Whens = Items<When>;
 
 /// What counts for a node.
-#[derive(Clone, Copy, Debug)]
+#[derive(Clone, Copy)]
 pub struct NodeMode {
     /// It is made whatever stands there.
     pub always: bool,
@@ -58,7 +58,7 @@ pub struct NodeMode {
 
 /// What was seen at the looks for a node: its file, its meta file, its sources, and the paths that
 /// [`crate::looked_at`] gives.
-#[derive(Debug, Drop)]
+#[derive(Drop)]
 pub struct Times {
     pub target: When,
     pub meta: When,

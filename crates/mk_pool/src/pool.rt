@@ -12,12 +12,12 @@ pub const MAX_NAMES: usize = 1_048_576;
 
 /// A name of a pool. Names are handed out as 0, 1, 2 and so on in the order of first interning, so
 /// each is below the pool's length and can be an index into what is kept for each name.
-#[derive(Clone, Copy, Debug, PartialEq, Eq)]
+#[derive(Clone, Copy, PartialEq, Eq)]
 pub struct Name(pub u32);
 
 /// The names of nodes, one to one with bytes. Contracts see the list of the texts that it holds, in
 /// the order of first interning; no two of them are the same, and a name is a place in that list.
-#[derive(Debug, Drop)]
+#[derive(Drop)]
 pub struct Pool {
     texts: IndexSet<Vec<u8>>,
 }
@@ -100,8 +100,8 @@ impl Pool {
         Ok(self.add(bytes)?)
     }
 
-    // Takes in bytes that are not held.
-    fn add(&mut self, bytes: &[u8]) -> Result<Name, NoMemory>
+    /// Takes in bytes that are not held, as the last name. After a refusal the pool is as before.
+    pub fn add(&mut self, bytes: &[u8]) -> Result<Name, NoMemory>
         requires absent { spec.is_held self.old bytes.now ≡ false }
         requires room { length self.old < MAX_NAMES }
         ensures name { IfOk result (λ name. name.0 ≡ length self.old) }

@@ -10,7 +10,7 @@ const MAX_LEN: usize = 0xffff_ffff;
 const START: &[u8] = b"./";
 
 /// Where a text lies in a region: from the byte at `start` to before the byte at `end`.
-#[derive(Clone, Copy, Debug, PartialEq, Eq)]
+#[derive(Clone, Copy, PartialEq, Eq)]
 pub struct Piece {
     pub start: usize,
     pub end: usize,
@@ -20,7 +20,7 @@ pub struct Piece {
 /// that these two texts always have a piece, and stays below 2^32 bytes. It has no memory before
 /// the first room is made. Contracts see its `bytes`, and in `spare` how many more it takes without
 /// asking for memory.
-#[derive(Debug, Drop)]
+#[derive(Drop)]
 pub struct Region {
     // None at all while the region is fresh: `./` are written when the first room is made.
     bytes: Vec<u8>,

@@ -17,8 +17,9 @@ use std::{str, thread};
 // The shell of the system, whatever `PATH` a makefile gives.
 const SHELL: &str = "/bin/sh";
 
-// Pauses between two rounds of questions, in microseconds.
-const FIRST_PAUSE: u64 = 50;
+// Pauses between two rounds of questions, in microseconds. Each is a quarter longer than the one before, so
+// that no child is found much later than it ended, by the time that it took.
+const FIRST_PAUSE: u64 = 10;
 
 const LONGEST_PAUSE: u64 = 2_000;
 
@@ -174,7 +175,7 @@ fn next_ended<R: Clock, P: OpenProcess + Drop>(
             return Ok(found);
         }
         thread::sleep(rt, Duration::from_micros(pause));
-        pause = pause.saturating_mul(2).min(LONGEST_PAUSE);
+        pause = pause.saturating_add(pause / 4).min(LONGEST_PAUSE);
     }
     Err(Refusal::Outside)
 }

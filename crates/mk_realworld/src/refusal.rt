@@ -10,7 +10,7 @@ use std::io::{Error, ErrorKind};
 use std::str::Utf8Error;
 
 /// Why something is not done.
-#[derive(Clone, Copy, Debug, PartialEq, Eq)]
+#[derive(Clone, Copy, PartialEq, Eq)]
 pub enum Refusal {
     /// Memory ran out.
     NoMemory,

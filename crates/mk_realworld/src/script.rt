@@ -7,7 +7,7 @@ use mk_bytes::{NoMemory, Text};
 use std::alloc::Global;
 
 /// Which streams of a command are its output.
-#[derive(Clone, Copy, Debug, PartialEq, Eq)]
+#[derive(Clone, Copy, PartialEq, Eq)]
 pub enum Streams {
     /// Standard output and standard error, as they come.
     Both,
@@ -16,7 +16,7 @@ pub enum Streams {
 }
 
 /// The files of a child: what it prints, and the log of a recorder that the command may run.
-#[derive(Debug, Drop)]
+#[derive(Drop)]
 pub struct ChildFiles {
     pub output: Text,
     pub log: Text,

@@ -142,7 +142,7 @@ impl<R: Files + Processes + Clock + AllocGlobal> World for RealWorld<R> {
     }
 
     /// Waits for an only child; of several, the oldest that has ended is taken in, and where none
-    /// has, all are asked again after pauses of 50 microseconds and more, up to 2 milliseconds. A
+    /// has, all are asked again after pauses of 10 microseconds and more, up to 2 milliseconds. A
     /// child that a signal ended has the status 255. A command that removed its own output file is
     /// a counted fault.
     fn wait_any(

@@ -63,9 +63,23 @@ fn in_common(first: &[u8], second: &[u8]) -> usize
     most
 }
 
-// How many bytes a file has in common with these from its beginning.
-fn kept_of<F: Read>(buffer: &mut [u8], file: &mut F, bytes: &[u8]) -> Result<usize, Refusal>
-    ensures { IfOk result (λ count. count ≤ length bytes.now) }
+// The beginning of a file that was read up to where it differs from other bytes.
+#[derive(Clone, Copy)]
+struct Beginning {
+    // How many bytes it has in common with them.
+    same: usize,
+    // Whether it has no bytes behind these.
+    is_all: bool,
+}
+
+// What a file has in common with these bytes from its beginning. Where that is all of it, its place is
+// behind that.
+fn beginning_of<F: Read>(
+    buffer: &mut [u8],
+    file: &mut F,
+    bytes: &[u8],
+) -> Result<Beginning, Refusal>
+    ensures { IfOk result (λ beginning. beginning.same ≤ length bytes.now) }
 {
     let mut rest = bytes;
     for _ in 0..u64::MAX {
@@ -77,28 +91,37 @@ fn kept_of<F: Read>(buffer: &mut [u8], file: &mut F, bytes: &[u8]) -> Result<usi
         let same = in_common(&buffer[..count], rest);
         rest = &rest[same..];
         if count == 0 || same < count {
-            return Ok(bytes.len().saturating_sub(rest.len()));
+            return Ok(Beginning {
+                same: bytes.len().saturating_sub(rest.len()),
+                is_all: count == 0,
+            });
         }
     }
     Err(Refusal::Outside)
 }
 
-// Cuts a file to what it has in common with these bytes, and writes what follows, the last byte at
-// least, so that its time is new.
+// Cuts a file to what it has in common with these bytes, where it has more, and writes what follows,
+// the last byte at least, so that its time is new.
 fn rewrite<F: Read + Write + Seek + OpenFile>(
     buffer: &mut [u8],
     file: &mut F,
     bytes: &[u8],
 ) -> Result<(), Refusal> {
-    let same = kept_of(buffer, file, bytes)?;
+    let Beginning { same, is_all } = beginning_of(buffer, file, bytes)?;
     let kept = same.min(bytes.len().saturating_sub(1));
-    file.set_len(kept as u64)?;
-    file.seek(SeekFrom::Start(kept as u64))?;
+    if !is_all {
+        file.set_len(kept as u64)?;
+    }
+    if !is_all || kept < same {
+        file.seek(SeekFrom::Start(kept as u64))?;
+    }
     file.write_all(&bytes[kept..])?;
     Ok(())
 }
 
-// Writes a file, and gives its time. It is closed before it is asked for its time.
+// Writes a file, and gives its time. Its time is asked for before, since a system whose clock for files is
+// coarse may give a file a time of its own where the last one was asked for; and it is closed before it
+// is asked for its new time.
 fn write_once<R: Files>(
     rt: &R,
     buffer: &mut [u8],
@@ -106,6 +129,7 @@ fn write_once<R: Files>(
     bytes: &[u8],
 ) -> Result<Time, Refusal> {
     let mut file = open_or_make(rt, str::from_utf8(path)?)?;
+    file.metadata()?;
     rewrite(buffer, &mut file, bytes)?;
     drop(file);
     match file_time(rt, path)? {

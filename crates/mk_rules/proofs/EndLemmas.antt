@@ -1,15 +1,15 @@
 -- Marks of all targets, node by node.
-use Rattle.std.proofs.Common.{◌≡◌, ◌<◌, ◌∙◌, ℕ, zero, suc, Bool, true, false, List, [], ◌∷◌, length, map, set, get_or}
+use Rattle.std.proofs.Common.{◌≡◌, ◌<◌, ◌∙◌, ℕ, zero, suc, Bool, true, false, List, [], ◌∷◌, length, map, set}
 use Rattle.std.proofs.Common.{refl, sym, ap, arith}
 use Rattle.std.proofs.lemmas.Bool.{cond_both}
 use Rattle.std.proofs.lemmas.List.{get_or-set_same, set-get_or, length-map}
 use Rattle.mk_graph.specs.Macros.{all_with_macros, graph_with_macros, links_of, macros_of, with_macros}
-use Rattle.mk_graph.specs.Nodes.{Node, names_of, new_node, node_at, with_mark}
+use Rattle.mk_graph.specs.Nodes.{Node, names_of, new_node, node_at}
 use Rattle.mk_graph.specs.View.{nodes_of}
 use Rattle.mk_graph.specs.declared.links.Links.{Links}
 use Rattle.mk_graph.specs.declared.attr.Attr.{Attr}
 use Rattle.mk_graph.specs.declared.attr.Attr.TheVariants as attr
-use Rattle.mk_rules.specs.Ends.{also, marks_everywhere, node_also, node_everywhere, target_also}
+use Rattle.mk_rules.specs.Ends.{also, node_also, node_everywhere, target_also}
 use Rattle.mk_rules.specs.declared.rules.Everywhere.{Everywhere}
 
 set-set : {A : Type 0} (l : List A) (i : ℕ) (a b : A) → set (set l i a) i b ≡ set l i b

@@ -1,5 +1,5 @@
 -- What the makefiles leave behind their last line.
-use Rattle.std.specs.Prelude.{ℕ, Bool, true, false, List, [], ◌∷◌, map, set, if◌then◌else◌}
+use Rattle.std.specs.Prelude.{ℕ, Bool, true, false, List, map, if◌then◌else◌}
 use Rattle.mk_graph.specs.Macros.{graph_with_macros}
 use Rattle.mk_graph.specs.Marks.{marked}
 use Rattle.mk_graph.specs.Nodes.{Node, node_at, with_mark}

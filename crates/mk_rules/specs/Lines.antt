@@ -7,7 +7,6 @@ use Rattle.mk_depline.specs.Names.{is_among, is_attribute}
 use Rattle.mk_depline.specs.declared.line.DepLine.{DepLine}
 use Rattle.mk_depline.specs.declared.name.Special.{Special}
 use Rattle.mk_depline.specs.declared.name.Special.TheVariants as special
-use Rattle.mk_graph.specs.Marks.{has}
 use Rattle.mk_graph.specs.Nodes.{Node, node_at, number_of, with_mark}
 use Rattle.mk_graph.specs.declared.attr.Attr.{Attr}
 use Rattle.mk_graph.specs.declared.attr.Attr.TheVariants as attr

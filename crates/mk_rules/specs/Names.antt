@@ -1,5 +1,5 @@
 -- Names of a dependency line as nodes of the graph.
-use Rattle.std.specs.Prelude.{ℕ, ◌+◌, ◌==◌, ◌&&◌, Bool, not, List, [], ◌∷◌, ◌++◌, length, unwrap_or, Option}
+use Rattle.std.specs.Prelude.{ℕ, ◌==◌, ◌&&◌, Bool, not, List, [], ◌∷◌, ◌++◌, length, unwrap_or}
 use Rattle.std.specs.Prelude.{Result, Ok, Err, if◌then◌else◌}
 use Rattle.mk_bytes.specs.Agrees.{◌>>=◌}
 use Rattle.mk_graph.specs.Nodes.{Node, is_named, number_of, with_node, with_source, with_order, with_mark}

@@ -1,13 +1,9 @@
 -- What dependency lines leave.
 use denote.Ref.{Bor}
-use Rattle.std.specs.Prelude.{◌≡◌, ℕ, ◌==◌, ◌&&◌, ◌||◌, Bool, true, false, not, List, [], ◌∷◌, ◌++◌, length, Option, Some, None}
-use Rattle.std.specs.Prelude.{Result, Ok, Err, if◌then◌else◌, nat_eq}
-use Rattle.std.specs.List.{list_any}
-use Rattle.mk_depline.specs.Names.{is_among, is_attribute}
-use Rattle.mk_graph.specs.Marks.{has}
-use Rattle.mk_graph.specs.Nodes.{Node, node_at, with_command, with_mark}
+use Rattle.std.specs.Prelude.{ℕ, ◌==◌, ◌||◌, Bool, false, not, List, [], ◌∷◌, length, Option, Some, None}
+use Rattle.std.specs.Prelude.{if◌then◌else◌, nat_eq}
+use Rattle.mk_graph.specs.Nodes.{Node, node_at, with_command}
 use Rattle.mk_graph.specs.Numbers.{AreBelow}
-use Rattle.mk_graph.specs.declared.attr.Attr.TheVariants as attr
 use Rattle.mk_graph.specs.declared.attr.Marks.{Marks}
 use Rattle.mk_rules.specs.declared.rules.Everywhere.{Everywhere}
 use Rattle.indexmap.specs.IndexSet.{insert_key}

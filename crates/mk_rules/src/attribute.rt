@@ -8,6 +8,15 @@ use mk_graph::Attr;
 pub fn attr_named(name: &[u8]) -> Option<Attr>
     ensures { result ≡ spec.attr_named name.now }
 {
+    match name {
+        [b'.', ..] => dotted_named(name),
+        _ => None,
+    }
+}
+
+fn dotted_named(name: &[u8]) -> Option<Attr>
+    ensures { result ≡ spec.attr_named name.now }
+{
     if name == b".PHONY".as_slice() {
         return Some(Attr::Phony);
     }

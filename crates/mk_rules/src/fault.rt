@@ -2,7 +2,7 @@ use mk_bytes::NoMemory;
 use mk_pool::PoolFault;
 
 /// Why a dependency line is refused.
-#[derive(Clone, Copy, Debug, PartialEq, Eq)]
+#[derive(Clone, Copy, PartialEq, Eq)]
 pub enum RuleFault {
     /// A target stood with the other operator before.
     Operators,

@@ -18,6 +18,9 @@ use mk_depline::{DepLine, Special};
 use mk_graph::{Attr, Graph, Nodes};
 use std::alloc::Global;
 
+// How many takers a set may hold whose memory is used again.
+const MAX_KEPT: usize = 16;
+
 // Whether a target stood with the other operator.
 fn stood_otherwise(graph: &Graph, remake: bool, name: &[u8]) -> bool
     ensures { result ≡ spec.stood_otherwise graph.now remake name.now }
@@ -43,7 +46,7 @@ fn take_in(graph: &Graph, takers: &mut IndexSet<u32>, n: u32) -> Result<(), NoMe
     requires node { n < length graph.now }
     requires takers { AreBelow (length graph.now) takers.old.keys }
     ensures taken { OnOk result (takers.new.keys ≡ takers_with graph.now takers.old.keys n) }
-    ensures within { OnOk result (AreBelow (length graph.now) takers.new.keys) }
+    ensures within { AreBelow (length graph.now) takers.new.keys }
 {
     if graph.commands(n).is_empty() {
         takers.insert(n)?;
@@ -51,17 +54,28 @@ fn take_in(graph: &Graph, takers: &mut IndexSet<u32>, n: u32) -> Result<(), NoMe
     Ok(())
 }
 
-// The targets that take the commands of a group: those that have none yet, each once.
-fn takers_among(alloc: Global, graph: &Graph, targets: &[u32]) -> Result<IndexSet<u32>, NoMemory>
-    requires { AreBelow (length graph.now) targets.now }
-    ensures takers { IfOk result (λ takers. takers.keys ≡ takers_among graph.now [] targets.now) }
-    ensures within { IfOk result (λ takers. AreBelow (length graph.now) takers.keys) }
+// Forgets those that took commands. A large set is given up, since emptying it goes over all its room.
+fn forget(alloc: Global, takers: &mut IndexSet<u32>)
+    ensures { takers.new.keys ≡ [] }
 {
-    let mut takers = IndexSet::new(alloc);
-    for n in targets {
-        take_in(graph, &mut takers, *n)?;
+    if takers.len() > MAX_KEPT {
+        *takers = IndexSet::new(alloc);
+    } else {
+        takers.clear();
     }
-    Ok(takers)
+}
+
+// Takes in the targets that take the commands of a group: those that have none yet, each once.
+fn take_all(graph: &Graph, takers: &mut IndexSet<u32>, targets: &[u32]) -> Result<(), NoMemory>
+    requires targets { AreBelow (length graph.now) targets.now }
+    requires none { takers.old.keys ≡ [] }
+    ensures takers { OnOk result (takers.new.keys ≡ takers_among graph.now [] targets.now) }
+    ensures within { AreBelow (length graph.now) takers.new.keys }
+{
+    for n in targets {
+        take_in(graph, takers, *n)?;
+    }
+    Ok(())
 }
 
 // Adds a node to those that stood, if it may be a main target.
@@ -142,7 +156,8 @@ impl Rules {
         add_all_sources(&mut self.graph, targets, sources.as_slice())?;
         take_attributes(&mut self.graph, targets, &line.sources);
         stand_all(&mut self.graph, &mut self.targets, listed, targets)?;
-        self.group = takers_among(self.alloc, &self.graph, targets)?;
+        forget(self.alloc, &mut self.group);
+        take_all(&self.graph, &mut self.group, targets)?;
         if line.remake {
             mark_all(&mut self.graph, Attr::Remake, targets);
         }

@@ -15,7 +15,7 @@ use mk_graph::{Attr, Graph, Nodes};
 use std::alloc::Global;
 
 /// The sources of a line so far, and how many of them stand before its last `.WAIT`.
-#[derive(Debug, Drop)]
+#[derive(Drop)]
 pub struct Sources {
     pub nodes: Nodes,
     pub waited: usize,
@@ -54,7 +54,7 @@ pub fn meet_all(alloc: Global, graph: &mut Graph, words: &Texts) -> Result<Nodes
     ensures longer { length graph.old ≤ length graph.new }
 {
     let mut sources = Sources {
-        nodes: Items::new(alloc, 0)?,
+        nodes: Items::new(alloc, words.len())?,
         waited: 0,
     };
     for word in words.as_slice() {

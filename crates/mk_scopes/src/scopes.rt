@@ -11,14 +11,14 @@ use std::marker::Model;
 
 /// What a process is given by its environment: its variables, of which the last of a name counts,
 /// and its current directory.
-#[derive(Debug, Drop)]
+#[derive(Drop)]
 pub struct Env {
     pub vars: Pairs,
     pub cwd: Text,
 }
 
 /// The classes that are assigned to. The command line's variables stand above the global ones.
-#[derive(Clone, Copy, Debug, PartialEq, Eq)]
+#[derive(Clone, Copy, PartialEq, Eq)]
 pub enum Class {
     Global,
     Command,

@@ -2,7 +2,7 @@ use mk_bytes::Texts;
 use mk_graph::Nodes;
 
 /// How a name is made by suffix rules.
-#[derive(Debug, Drop)]
+#[derive(Drop)]
 pub struct Chain {
     /// The files, from the found source to the name itself.
     pub names: Texts,

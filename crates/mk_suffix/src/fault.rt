@@ -2,7 +2,7 @@ use mk_bytes::NoMemory;
 use mk_world::WorldFault;
 
 /// Why there is no answer.
-#[derive(Clone, Copy, Debug, PartialEq, Eq)]
+#[derive(Clone, Copy, PartialEq, Eq)]
 pub enum SuffixFault {
     /// A call of the world failed.
     Failed,

@@ -2,7 +2,7 @@ use mk_bytes::{Items, Pairs, Text};
 
 /// A command: its text, the directory that it runs in, and the variables that its environment is
 /// given.
-#[derive(Debug, Drop)]
+#[derive(Drop)]
 pub struct Cmd {
     pub text: Text,
     pub cwd: Text,
@@ -10,7 +10,7 @@ pub struct Cmd {
 }
 
 /// One command line of a target, without its prefix bytes.
-#[derive(Debug, Drop)]
+#[derive(Drop)]
 pub struct TaskLine {
     pub text: Text,
     /// A status other than 0 does not count.
@@ -27,7 +27,7 @@ pub struct TaskLine {
 pub type Lines = Items<TaskLine>;
 
 /// What it takes to make a target.
-#[derive(Debug, Drop)]
+#[derive(Drop)]
 pub struct Task {
     pub lines: Lines,
     pub cwd: Text,

@@ -4,7 +4,7 @@ use crate::step::{Deed, Deeds};
 use mk_bytes::{Items, Text};
 
 /// A file with the time of its last change.
-#[derive(Debug, Drop)]
+#[derive(Drop)]
 pub struct File {
     pub path: Text,
     pub bytes: Text,
@@ -15,7 +15,7 @@ pub struct File {
 pub type Bases = Items<File>;
 
 /// A step and its time.
-#[derive(Debug, Drop)]
+#[derive(Drop)]
 pub struct Timed {
     pub deed: Deed,
     pub time: u64,
@@ -25,7 +25,7 @@ pub struct Timed {
 pub type Timeds = Items<Timed>;
 
 /// One thing that happened. Each change has a time that is later than all before it.
-#[derive(Debug, Drop)]
+#[derive(Drop)]
 pub enum Happening {
     /// Somebody else changed a file, to these bytes or to missing.
     Edit {
@@ -88,14 +88,14 @@ pub enum Happening {
 pub type Happenings = Items<Happening>;
 
 /// What a world tells of itself: its files at the beginning, and what has happened since.
-#[derive(Debug, Drop)]
+#[derive(Drop)]
 pub struct History {
     pub base: Bases,
     pub events: Happenings,
 }
 
 /// A child that runs, and what it has done so far.
-#[derive(Debug, Drop)]
+#[derive(Drop)]
 pub struct Child {
     pub ticket: u32,
     pub owner: u64,

@@ -3,7 +3,7 @@ use crate::time::Ticket;
 use mk_bytes::{Items, Text};
 
 /// What a command asks for next.
-#[derive(Debug, Drop)]
+#[derive(Drop)]
 pub enum Request {
     /// The bytes of a path, or that it is missing.
     Look { path: Text },
@@ -16,7 +16,7 @@ pub enum Request {
 }
 
 /// How a request is answered.
-#[derive(Debug, Drop)]
+#[derive(Drop)]
 pub enum Answer {
     /// The file of a look stands, with these bytes.
     Found { bytes: Text },
@@ -32,14 +32,14 @@ pub enum Answer {
 pub type Answers = Items<Answer>;
 
 /// What a command does, by the answers so far.
-#[derive(Debug, Drop)]
+#[derive(Drop)]
 pub enum Next {
     More { request: Request },
     Over { status: u8, output: Text },
 }
 
 /// What one step did to the files, with all bytes that it read, wrote or moved.
-#[derive(Debug, Drop)]
+#[derive(Drop)]
 pub enum Deed {
     Read { path: Text, bytes: Text },
     Miss { path: Text },
@@ -52,7 +52,7 @@ pub enum Deed {
 pub type Deeds = Items<Deed>;
 
 /// What is recorded of a step: what it did, without bytes.
-#[derive(Debug, Drop)]
+#[derive(Drop)]
 pub enum Op {
     Read(Text),
     Miss(Text),
@@ -66,7 +66,7 @@ pub type Ops = Items<Op>;
 
 /// A child that was taken in, or a command that was run to its end: its exit status, what it printed,
 /// and the records of its steps, where there are any.
-#[derive(Debug, Drop)]
+#[derive(Drop)]
 pub struct Ended {
     pub ticket: Ticket,
     pub status: u8,

@@ -1,29 +1,9 @@
-use Rattle.std.proofs.Common.{◌<◌, ◌^◌, sym, ◌∙◌, ap, arith}
-use Rattle.std.proofs.lemmas.Bool.{false≢true}
-use Rattle.std.specs.Str.{bytes_eq}
-use Rattle.mk_filemon.specs.Escapes.{number_in}
-use Rattle.mk_filemon.proofs.RecordLemmas.{number_in-decimal, number_in-none, number_in-other}
-use Rattle.mk_filemon.proofs.PathLemmas.{same_bytes, bytes_eq-same}
+use Rattle.std.proofs.Common.{Some, ap, ◌∙◌, arith}
+use Rattle.mk_filemon.proofs.RecordLemmas.{number_in-digit}
 use Rattle.mk_filemon.proofs.number.read_decimal.Goals as goal
 
-pub returns-in_err-number : goal.returns-in_err-number
-returns-in_err-number c =
-    c.from_residual.ensures
-    ∙ number_in-none c.args.text.now c.parsed.result c.parsed.ensures c.in_err-number.was
-
-pub returns-then-eq : goal.returns-then-eq
-returns-then-eq c =
-    let number = c.in_ok-number.number in
-    let small : number < 2 ^ 64 = omega arith in
-    let same = same_bytes c.as_bytes.result.now c.args.text.now (sym c.eq.ensures ∙ c.if-eq.true) in
-    sym (ap number_in (sym same ∙ c.as_bytes.ensures.value ∙ c.format.ensures.text)
-    ∙ number_in-decimal number small)
-
-pub returns : goal.returns
-returns c =
-    let number = c.in_ok-number.number in
-    number_in-other c.args.text.now c.parsed.result number c.parsed.ensures c.in_ok-number.was
-    (λ same. false≢true (sym c.if-eq.false ∙ c.eq.ensures
-    ∙ ap (λ text. bytes_eq text c.args.text.now)
-    (c.as_bytes.ensures.value ∙ c.format.ensures.text ∙ same)
-    ∙ bytes_eq-same c.args.text.now))
+pub returns-in-len1 : goal.returns-in-len1
+returns-in-len1 c =
+    let digit = c.if-is_ascii_digit.ensures.cases in
+    ap Some c.from.ensures
+    ∙ number_in-digit c.args.text.now (omega arith) (omega arith) (omega arith)

@@ -1,4 +1,4 @@
-use Rattle.std.proofs.Common.{◌≡◌, ◌≢◌, length, sym, arith}
+use Rattle.std.proofs.Common.{◌≢◌, length, sym, arith}
 use Rattle.std.proofs.lemmas.Bool.Decides.{nat_tests}
 use Rattle.mk_rules.proofs.ModeLemmas.{any_case_lengths}
 use Rattle.mk_rules.proofs.mode.is_in_any_case.Goals as goal

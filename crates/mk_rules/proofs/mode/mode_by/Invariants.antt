@@ -1,4 +1,4 @@
-use Rattle.std.proofs.Common.{◌≡◌, ◌≤◌, ◌<◌, length, drop, take, [], Ok}
+use Rattle.std.proofs.Common.{◌≡◌, drop}
 use Rattle.mk_rules.specs.Modes as spec
 use Rattle.mk_rules.proofs.mode.mode_by.Given as goal
 

@@ -1,4 +1,4 @@
-use Rattle.std.proofs.Common.{◌≡◌, ◌≤◌, ◌<◌, length, drop, take, [], Ok}
+use Rattle.std.proofs.Common.{◌≡◌, ◌≤◌, length, drop, []}
 use Rattle.mk_graph.specs.Numbers.{AreBelow}
 use Rattle.mk_rules.specs.Names as spec
 use Rattle.mk_rules.proofs.names.all_named.Given as goal

@@ -1,7 +1,7 @@
-use Rattle.std.proofs.Common.{◌≡◌, ◌≤◌, ◌<◌, length, drop, take, [], Ok}
+use Rattle.std.proofs.Common.{◌≡◌, length, drop, []}
 use Rattle.mk_graph.specs.Numbers.{AreBelow}
 use Rattle.mk_rules.specs.Rules.{takers_among}
-use Rattle.mk_rules.proofs.line.takers_among.Given as goal
+use Rattle.mk_rules.proofs.line.take_all.Given as goal
 
 -- those that are left, behind the takers so far
 abbrev pub invariant-loop-n : goal.invariant-loop-n
