@@ -8,8 +8,10 @@ use Rattle.mk_ast.specs.declared.tree.ModTree.{ModTree, IfUndefined, IfDefined, 
 use Rattle.mk_ast.specs.declared.tree.ModTree.{Each, the_lemmas}
 use Rattle.mk_ast.specs.declared.tree.Part.{Part}
 use Rattle.mk_ast.proofs.Views.{views}
+use Rattle.mk_mods.specs.Pieces.{bytes_of, texts_of}
 use Rattle.mk_mods.specs.Results.{with_result}
 use Rattle.mk_mods.specs.State.{State, plain, text_of}
+use Rattle.mk_pool.specs.declared.region.Piece.{Piece}
 use Rattle.mk_expand.specs.Chains.{Chain, modified, given_modified, word_modified, all_modified}
 use Rattle.mk_expand.specs.Chains.{chained, chain_of, each_behind, found_as, given}
 use Rattle.mk_expand.specs.ModFaults.{with_fault}
@@ -73,26 +75,25 @@ chained-default find c p name found text undefined =
     rw undefined (given-found find c name found value.answer value.names)
 
 pub each_behind-word : (find : Finder) (c : Context) (p : Progress) (name : List ℕ) (body : Tree)
-    (results : State) (words : List (List ℕ)) (i : ℕ) (word : List ℕ)
-    → i < length words → word ≡ get_or words i word
-    → each_behind find c p name body results (drop i words)
-    ≡ (tree_value find (while_bound c name word) p body
+    (results : State) (region : List ℕ) (words : List Piece) (i : ℕ) (none : Piece)
+    → i < length words
+    → each_behind find c p name body results (texts_of region (drop i words))
+    ≡ (tree_value find (while_bound c name (bytes_of region (get_or words i none))) p body
     >>= λ v. tried (with_fault (with_result results v.0)) v.1
-    >>= λ more. each_behind find c more.1 name body more.0 (drop (i + 1) words))
+    >>= λ more. each_behind find c more.1 name body more.0 (texts_of region (drop (i + 1) words)))
 unfolding each_behind
-each_behind-word find c p name body results words i word within is =
-    ap (λ (rest : List (List ℕ)). each_behind find c p name body results rest)
-    (drop_more words i word within)
-    ∙ ap (λ (one : List ℕ). each_behind find c p name body results (one ∷ drop (i + 1) words))
-    (sym is)
+each_behind-word find c p name body results region words i none within =
+    ap (λ (rest : List Piece). each_behind find c p name body results (texts_of region rest))
+    (drop_more words i none within)
 
 pub each_behind-end : (find : Finder) (c : Context) (p : Progress) (name : List ℕ) (body : Tree)
-    (results : State) (words : List (List ℕ)) (i : ℕ)
+    (results : State) (region : List ℕ) (words : List Piece) (i : ℕ)
     → length words ≤ i
-    → each_behind find c p name body results (drop i words) ≡ gives results p
+    → each_behind find c p name body results (texts_of region (drop i words)) ≡ gives results p
 unfolding each_behind
-each_behind-end find c p name body results words i past =
-    at_drop_all (λ (rest : List (List ℕ)). each_behind find c p name body results rest) words i past
+each_behind-end find c p name body results region words i past =
+    at_drop_all (λ (rest : List Piece). each_behind find c p name body results (texts_of region rest))
+    words i past
 
 -- the other modifiers are those of words
 pub modified-words : (find : Finder) (c : Context) (p : Progress) (name : List ℕ) (chain : Chain)

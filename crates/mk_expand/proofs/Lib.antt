@@ -4,6 +4,7 @@ mod ConditionRows
 pub mod FactLemmas
 pub mod FaultLemmas
 pub mod HeldLemmas
+pub mod LentLemmas
 pub mod LookLemmas
 pub mod NameLemmas
 pub mod NeverLemmas

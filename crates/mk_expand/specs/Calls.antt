@@ -19,7 +19,7 @@ here variables locals lists run keep answers = record {
   cwd = variables.cwd;
   lists = lists;
   answers = answers;
-  bound = run.bound;
+  bound = run.bound.items;
   open_names = run.open_names;
   keep = keep;
 }
@@ -44,13 +44,13 @@ Evaluates run asked view result defined =
 -- what a call leaves of a run as it was
 pub record Keeps (old new : Run) : Type 0 where
   pub open_names : new.open_names ≡ old.open_names
-  pub bound : new.bound ≡ old.bound
+  pub bound : new.bound.items ≡ old.bound.items
   pub region : new.region.bytes ≡ old.region.bytes
 
 -- the same of a call that may place bytes in the region
 pub record Extends (old new : Run) : Type 0 where
   pub open_names : new.open_names ≡ old.open_names
-  pub bound : new.bound ≡ old.bound
+  pub bound : new.bound.items ≡ old.bound.items
   pub begins : Begins old.region.bytes new.region.bytes
 
 -- What a call asks of the facts: they lead from one to the other, the lists stay, questions are only
@@ -65,4 +65,4 @@ pub record Asks {A : Type 0} (leads : Type 0) (old_lists new_lists : Lists) (old
 
 -- a run before its first reference
 abbrev pub IsFirst : Run → Type 0
-IsFirst run = (run.open_names ≡ []) × (run.bound ≡ []) × (run.references ≡ 0)
+IsFirst run = (run.open_names ≡ []) × (run.bound.items ≡ []) × (run.references ≡ 0)

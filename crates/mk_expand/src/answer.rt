@@ -10,21 +10,22 @@ ghost use Rattle.mk_expand.specs.Facts.{Means, is_fact};
 ghost use Rattle.mk_expand.specs.Names.{is_defined, last_value, raw_in};
 ghost use Rattle.mk_expand.specs.declared.fault.ExpandFault.TheVariants.{NoMemory as no_memory};
 
+use crate::bound::{Binding, last_value};
 use crate::chain::Found;
 use crate::evaluation::Run;
 use crate::facts::Facts;
 use crate::fault::ExpandFault;
 use crate::local::is_local;
-use crate::name::{Names, known, last_value};
+use crate::name::{Names, known};
 use crate::trim::{is_white_alone, trimmed};
 use mk_ast::Part;
-use mk_bytes::{Pairs, Text, clean_path};
+use mk_bytes::{Text, clean_path};
 use mk_cond::Fun;
 use std::alloc::Global;
 
 // Whether a name has a raw value. No value is put together for it.
 #[tactic(auto, using(crate::proofs::NameLemmas::has_value_in))]
-fn is_defined(names: &Names<'_>, bound: &Pairs, name: &[u8]) -> bool
+fn is_defined(names: &Names<'_>, bound: &[Binding], name: &[u8]) -> bool
     ensures { result ≡ is_defined (last_value bound.now name.now)
         (raw_in names.now.scopes.now names.now.locals.now name.now) }
 {
@@ -83,7 +84,7 @@ pub fn answer_of<F: Facts>(
         (F.asked facts.new) (F.faults facts.old) (F.faults facts.new) result }
 {
     match fun {
-        Fun::Defined => Ok(is_defined(names, &run.bound, trimmed(value))),
+        Fun::Defined => Ok(is_defined(names, run.bound.as_slice(), trimmed(value))),
         Fun::Empty => Ok(is_white_alone(value)),
         Fun::Make => ask(names.alloc, facts, fun, trimmed(value)),
         Fun::Exists => ask_path(names, facts, fun, trimmed(value)),

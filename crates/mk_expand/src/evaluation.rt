@@ -7,6 +7,7 @@ ghost use Rattle.mk_expand.specs.Steps.{named};
 ghost use Rattle.mk_expand.specs.Value as spec;
 ghost use Rattle.mk_expand.specs.Value.{found_at};
 
+use crate::bound::{Binding, lent_word};
 use crate::chain::{Found, append_found, nothing_found, plain_found};
 use crate::facts::Facts;
 use crate::fault::ExpandFault;
@@ -15,7 +16,7 @@ use crate::modifiers::chained;
 use crate::name::{Names, is_among, known, raw_above};
 use crate::plain::{double, has_dollar, plain_bytes, plain_value};
 use mk_ast::{ModTrees, Part, Tree, parse};
-use mk_bytes::{Pairs, Text, Texts};
+use mk_bytes::{Text, Texts};
 use mk_pool::Region;
 
 /// How far an evaluation is: the variables whose values are being expanded, the variables of `:@`
@@ -24,7 +25,7 @@ use mk_pool::Region;
 #[derive(Drop)]
 pub struct Run {
     pub open_names: Texts,
-    pub bound: Pairs,
+    pub bound: Vec<Binding>,
     pub references: u32,
     pub region: Region,
 }
@@ -154,6 +155,10 @@ fn append_reference<F: Facts>(
     ensures facts { Asks (F.leads facts.old facts.new) (F.lists facts.old) (F.lists facts.new) (F.asked facts.old)
         (F.asked facts.new) (F.faults facts.old) (F.faults facts.new) result }
 {
+    if let Some(word) = lent_word(&run.open_names, run.bound.as_slice(), part) {
+        open_reference(&mut run.references, room)?;
+        return append(text, word);
+    }
     let found = found(names, run, facts, room, keep, part)?;
     append_found(names.alloc, text, keep, &found, part)
 }
@@ -279,7 +284,7 @@ fn variable<F: Facts>(
     if is_among(&run.open_names, name) {
         return Err(ExpandFault::Recursive(Text::from_bytes(names.alloc, name)?));
     }
-    if let Some(raw) = raw_above(names, &run.bound, name)? {
+    if let Some(raw) = raw_above(names, run.bound.as_slice(), name)? {
         if !has_dollar(raw.bytes()) {
             return plain_found(raw);
         }

@@ -10,7 +10,7 @@ use mk_cond::Fun;
 use std::alloc::Global;
 
 /// A path that `exists` was asked of, and the answer.
-#[derive(Debug, Drop)]
+#[derive(Drop)]
 pub struct Asked {
     /// The clean path.
     pub path: Text,
@@ -19,7 +19,7 @@ pub struct Asked {
 }
 
 /// Why a fact is not told.
-#[derive(Clone, Copy, Debug, PartialEq, Eq)]
+#[derive(Clone, Copy, PartialEq, Eq)]
 pub enum FactFault {
     /// The outside failed, and was counted.
     Failed,

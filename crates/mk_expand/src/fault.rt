@@ -6,7 +6,7 @@ use mk_mods::ModFault;
 
 /// Why a text has no value, or a condition no truth: the first fault, where a text is read as a whole
 /// before any of it is evaluated, and is evaluated from left to right.
-#[derive(Debug, Drop)]
+#[derive(Drop)]
 pub enum ExpandFault {
     /// A reference names this variable, whose own value is being expanded.
     Recursive(Text),

@@ -5,6 +5,7 @@
 #![tactic(auto)]
 
 mod answer;
+mod bound;
 mod chain;
 mod conditions;
 mod evaluation;

@@ -13,7 +13,7 @@ use std::alloc::Global;
 /// What the local names stand for. They stand above all variables where there are `some`, and else
 /// they are names like others. A short name with `D` or `F` behind it, as `@D`, is one of them too:
 /// it stands for the heads or the tails of the words.
-#[derive(Debug, Drop)]
+#[derive(Drop)]
 pub struct Locals {
     /// `.TARGET` and `@`: the target.
     pub target: Text,

@@ -8,8 +8,9 @@ ghost use Rattle.mk_expand.specs.Names.{while_bound};
 ghost use Rattle.mk_expand.specs.Parts.{tree_value};
 ghost use Rattle.mk_expand.specs.Value.{found_at};
 ghost use Rattle.mk_expand.specs.View.{chain_view};
-ghost use Rattle.mk_mods.specs.Pieces.{end_of};
+ghost use Rattle.mk_mods.specs.Pieces.{end_of, texts_of};
 
+use crate::bound::{Binding, bind, unbind};
 use crate::chain::{Chain, Found, compacted, given};
 use crate::conditions::truth_of;
 use crate::evaluation::{Run, tree_value};
@@ -18,9 +19,10 @@ use crate::fault::ExpandFault;
 use crate::name::Names;
 use crate::words::modifier;
 use mk_ast::{ModTree, ModTrees, Tree};
-use mk_bytes::{Pair, Text};
+use mk_bytes::Text;
 use mk_cond::{Form, parse_cond};
-use mk_mods::{Results, Val, apply, text, with_results, words_of};
+use mk_mods::{Results, Val, apply, shown, text, with_results, word_pieces};
+use mk_pool::Piece;
 
 // The text of a `:U`, where that is the one modifier.
 #[tactic(auto, using(mk_ast::proofs::Views::views))]
@@ -319,7 +321,7 @@ fn each<F: Facts>(
         (F.asked facts.new) (F.faults facts.old) (F.faults facts.new) result }
     ensures within { IfOk result (λ chain. end_of chain.val ≤ length run.new.region.bytes) }
 {
-    let words = words_of(names.alloc, &run.region, &chain.val)?;
+    let words = word_pieces(names.alloc, &mut run.region, &chain.val)?;
     let none = Results::new(names.alloc, &chain.val)?;
     let results = each_behind(
         names,
@@ -347,50 +349,50 @@ fn each_behind<F: Facts>(
     variable: &[u8],
     body: &Tree,
     results: Results,
-    words: &[Text],
+    words: &[Piece],
 ) -> Result<Results, ExpandFault>
     ensures value { Evaluates run.new (F.asked facts.new) (λ given. given) result
         (λ answers. spec.each_behind (found_at room)
         (here names.now.scopes.now names.now.locals.now (F.lists facts.old) run.old false answers)
-        (at run.old (F.asked facts.old)) variable.now (tree_view body.now) results words.now) }
+        (at run.old (F.asked facts.old)) variable.now (tree_view body.now) results
+        (texts_of run.old.region.bytes words.now)) }
     ensures run { OnOk result (Keeps run.old run.new) }
     ensures facts { Asks (F.leads facts.old facts.new) (F.lists facts.old) (F.lists facts.new) (F.asked facts.old)
         (F.asked facts.new) (F.faults facts.old) (F.faults facts.new) result }
 {
     let mut results = results;
+    let mut binding = Binding::new(names.alloc, variable)?;
     for word in words {
-        let result = word_result(names, run, facts, room, variable, body, word)?;
+        binding.stand_for(shown(&run.region, *word))?;
+        let (result, again) = word_result(names, run, facts, room, binding, body)?;
+        binding = again;
         results.add(result)?;
     }
     Ok(results)
 }
 
-// The body of `:@` for a word, for which its variable stands.
+// The body of `:@` for the word for which its variable stands, and that variable again.
 #[cycle(value)]
 fn word_result<F: Facts>(
     names: &Names<'_>,
     run: &mut Run,
     facts: &mut F,
     room: usize,
-    variable: &[u8],
+    binding: Binding,
     body: &Tree,
-    word: &Text,
-) -> Result<Text, ExpandFault>
-    ensures value { Evaluates run.new (F.asked facts.new) (λ given. given) result
+) -> Result<(Text, Binding), ExpandFault>
+    ensures value { Evaluates run.new (F.asked facts.new) (λ given. given.0) result
         (λ answers. tree_value (found_at room) (while_bound
         (here names.now.scopes.now names.now.locals.now (F.lists facts.old) run.old false answers)
-        variable.now word.now) (at run.old (F.asked facts.old)) (tree_view body.now)) }
+        binding.name binding.value) (at run.old (F.asked facts.old)) (tree_view body.now)) }
+    ensures binding { IfOk result (λ given. given.1 ≡ binding) }
     ensures run { OnOk result (Keeps run.old run.new) }
     ensures facts { Asks (F.leads facts.old facts.new) (F.lists facts.old) (F.lists facts.new) (F.asked facts.old)
         (F.asked facts.new) (F.faults facts.old) (F.faults facts.new) result }
 {
-    run.bound.push(Pair {
-        name: Text::from_bytes(names.alloc, variable)?,
-        value: word.copy(names.alloc)?,
-    })?;
+    bind(&mut run.bound, binding)?;
     let result = tree_value(names, run, facts, room, false, body)?;
-    run.bound.drop_last();
-    Ok(result)
+    Ok((result, unbind(&mut run.bound)))
 }
 
 // A chain behind a modifier of words.

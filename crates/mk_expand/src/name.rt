@@ -5,9 +5,10 @@ ghost use Rattle.mk_bytes.specs.Agrees.{Agrees};
 ghost use Rattle.mk_expand.specs.Names as spec;
 ghost use Rattle.mk_expand.specs.declared.fault.ExpandFault.TheVariants.{NoMemory as no_memory};
 
+use crate::bound::{Binding, last_value};
 use crate::fault::ExpandFault;
 use crate::local::{Locals, local_raw};
-use mk_bytes::{Pairs, Text, Texts};
+use mk_bytes::{Text, Texts};
 use mk_scopes::Scopes;
 use std::alloc::Global;
 
@@ -35,26 +36,17 @@ pub fn known<'s>(scopes: &'s Scopes, name: &[u8]) -> Option<&'s Text>
     scopes.get(name)
 }
 
-/// The value of a name among those of `:@`. The last of a name counts.
-pub fn last_value<'b>(bound: &'b Pairs, name: &[u8]) -> Option<&'b Text>
-    ensures { option_copied result ≡ spec.last_value bound.now name.now }
-{
-    let mut found = None;
-    for pair in bound.as_slice() {
-        if name == pair.name.bytes() {
-            found = Some(&pair.value);
-        }
-    }
-    found
-}
-
 /// The raw value of a variable of `:@`, or else of a local name.
-pub fn raw_above(names: &Names<'_>, bound: &Pairs, name: &[u8]) -> Result<Option<Text>, ExpandFault>
+pub fn raw_above(
+    names: &Names<'_>,
+    bound: &[Binding],
+    name: &[u8],
+) -> Result<Option<Text>, ExpandFault>
     ensures { Agrees no_memory (λ raw. raw) result
         (spec.raw_above names.now.locals.now bound.now name.now) }
 {
     match last_value(bound, name) {
-        Some(value) => Ok(Some(value.copy(names.alloc)?)),
+        Some(word) => Ok(Some(Text::from_bytes(names.alloc, word)?)),
         None => local_raw(names.alloc, names.locals, name),
     }
 }

@@ -33,7 +33,7 @@ fn first_run(alloc: Global) -> Result<Run, NoMemory>
 {
     Ok(Run {
         open_names: Items::new(alloc, 0)?,
-        bound: Items::new(alloc, 0)?,
+        bound: Vec::new(alloc),
         references: 0,
         region: Region::new(alloc)?,
     })

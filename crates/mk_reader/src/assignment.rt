@@ -12,7 +12,7 @@ use mk_cli::AssignOp;
 use mk_directive::is_white;
 
 /// The parts of an assignment.
-#[derive(Clone, Copy, Debug)]
+#[derive(Clone, Copy)]
 pub struct Parts<'t> {
     pub name: &'t [u8],
     pub op: AssignOp,

@@ -13,7 +13,7 @@ use mk_world::{SinkFault, WorldFault};
 use std::alloc::Global;
 
 /// What is wrong with a line of a makefile, or with an assignment of the command line.
-#[derive(Debug, Drop)]
+#[derive(Drop)]
 pub enum What {
     /// The logical line is longer than 1,048,576 bytes.
     TooLong,
@@ -113,7 +113,7 @@ impl From<AstFault> for Refusal {
 }
 
 /// How a call of the outside failed.
-#[derive(Clone, Copy, Debug, PartialEq, Eq)]
+#[derive(Clone, Copy, PartialEq, Eq)]
 pub enum Outside {
     /// The world failed, and has counted it.
     World,
@@ -124,7 +124,7 @@ pub enum Outside {
 }
 
 /// Why a line is refused.
-#[derive(Debug, Drop)]
+#[derive(Drop)]
 pub enum Refusal {
     /// The first thing that is wrong.
     Wrong(What),
@@ -203,7 +203,7 @@ impl From<SinkFault> for Refusal {
 }
 
 /// Why the makefiles of a run could not be read.
-#[derive(Debug, Drop)]
+#[derive(Drop)]
 pub enum ReadFault {
     /// The makefile of this name, as the command line has it, is missing.
     NoFile(Text),
@@ -233,7 +233,7 @@ impl From<NoMemory> for ReadFault {
 }
 
 /// A fault of the makefiles or of the command line.
-#[derive(Debug, Drop)]
+#[derive(Drop)]
 pub enum Fault {
     /// As `ReadFault::NoFile`.
     NoFile(Text),
@@ -259,7 +259,7 @@ impl From<Fault> for ReadFault {
 }
 
 /// Why reading stops.
-#[derive(Debug, Drop)]
+#[derive(Drop)]
 pub enum Stop {
     /// A fault of the makefiles or of the command line.
     Fault(Fault),

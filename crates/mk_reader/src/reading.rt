@@ -3,6 +3,8 @@ ghost use Rattle.std.specs.Prelude.{◌≡◌, ◌≤◌, ◌^◌, ◌<◌, [], 
 ghost use Rattle.mk_bytes.specs.Paths.{is_clean_directory};
 ghost use Rattle.mk_reader.specs.Reading as spec;
 ghost use Rattle.mk_reader.specs.Modes as modes;
+ghost use Rattle.mk_reader.specs.Moments.{moment_of};
+ghost use Rattle.mk_reader.specs.Orders.{first_moment};
 ghost use Rattle.mk_reader.specs.Results.{Ended, Found, LooksBy, ReadBy, Went};
 ghost use Rattle.mk_reader.specs.Ties.{Gave, outer};
 ghost use Rattle.mk_reader.specs.declared.fault.ReadFault.TheVariants.{
@@ -184,6 +186,26 @@ impl<'a, W: World, S: Sink> Reader<'a, W, S> {
     }
 }
 
+// The state before the first line.
+fn first_state(alloc: Global, env: &Env, order: &Order) -> Result<State, NoMemory>
+    requires { IsTrue (is_clean_directory env.now.cwd) }
+    ensures moment { IfOk result (λ state.
+        moment_of state order.now ≡ first_moment env.now order.now) }
+    ensures asked { IfOk result (λ state. state.notes.items ≡ []) }
+{
+    let scopes = Scopes::new(alloc, env, order.env_first)?;
+    let rules = Rules::new(alloc)?;
+    Ok(State {
+        made: Draft {
+            scopes,
+            rules,
+            file: Text::new(alloc),
+        },
+        in_group: false,
+        notes: Vec::new(alloc),
+    })
+}
+
 // What makefiles leave.
 fn made_of(draft: Draft, mode: Mode) -> Result<Made, NoMemory>
     ensures { IfOk result (λ made. made ≡ modes.made_by draft mode) }
@@ -227,15 +249,7 @@ pub fn read<W: World, S: Sink>(
     ensures sink_cause { HasCause sink_failed (S.faults err.old) (S.faults err.new) result }
     ensures idle { W.runs world.new [] }
 {
-    let mut state = State {
-        made: Draft {
-            scopes: Scopes::new(alloc, env, order.env_first)?,
-            rules: Rules::new(alloc)?,
-            file: Text::new(alloc),
-        },
-        in_group: false,
-        notes: Vec::new(alloc),
-    };
+    let mut state = first_state(alloc, env, order)?;
     let mut count = 0;
     let mut reader = Reader::new(world, err, &mut state, order);
     let mode = reader.read_to_end(alloc, &mut count)?;

@@ -1,24 +1,27 @@
-use Rattle.std.proofs.Common.{◌≡◌, ◌+◌, ◌<◌, take, false, [], Ok, refl, sym, ap, ◌∙◌, inr, rules, arith}
+use Rattle.std.proofs.Common.{◌≡◌, ◌+◌, ◌-◌, ◌<◌, take, false, [], Ok, refl, sym, ap, ◌∙◌, inr, rules, arith}
 use Rattle.std.proofs.lemmas.Grind.{common_steps}
 use Rattle.std.proofs.lemmas.Result.{err_from_is_err_and}
 use Rattle.mk_ast.proofs.Views as trees
 use Rattle.mk_ast.proofs.Views.{view-Short, view-Keep, view-Without, view-Select, view-Choose}
 use Rattle.mk_ast.specs.Tree.{range_to}
-use Rattle.mk_ast.specs.View.{mod_view, tree_view}
+use Rattle.mk_ast.specs.View.{mod_view, part_view, tree_view}
 use Rattle.mk_ast.specs.declared.tree.ModTree.{the_lemmas as mod_lemmas}
+use Rattle.mk_bytes.specs.declared.pair.Pair.{Pair}
 use Rattle.mk_cond.specs.View.{side_view}
 use Rattle.mk_mods.proofs.PieceLemmas.{Begins-refl}
 use Rattle.mk_expand.specs.Calls.{at, here}
 use Rattle.mk_expand.specs.Value.{found_at}
 use Rattle.mk_expand.specs.View.{chain_view}
+use Rattle.mk_expand.specs.declared.chain.Found.{Found}
 use Rattle.mk_expand.proofs.ChainLemmas.{all_modified-mod, all_modified-end, each_behind-word}
 use Rattle.mk_expand.proofs.ChainLemmas.{each_behind-end, modified-words, modified-given}
 use Rattle.mk_expand.proofs.ChainLemmas.{chained-default}
 use Rattle.mk_expand.proofs.FactLemmas.{earlier, never_fails, ok_never, Asks-none, Asks-err, Asks-ok, Asks-then}
 use Rattle.mk_expand.proofs.FactLemmas.{Keeps-then, Extends-then, fault_of_all, gives_at, outside}
 use Rattle.mk_expand.proofs.FaultLemmas.{never-appended, never-raw_above, err_never, fault_never}
-use Rattle.mk_expand.specs.Evaluators.{gives}
+use Rattle.mk_expand.specs.Evaluators.{Counted, gives, progress}
 use Rattle.mk_expand.specs.Outer.{leaf_truth, step_size, weight}
+use Rattle.mk_expand.proofs.LentLemmas.{gives-lent, gives-not}
 use Rattle.mk_expand.proofs.NameLemmas.{raw_of-above, raw_of-fault}
 use Rattle.mk_expand.proofs.OuterLemmas.{fault_inside, round_all-inside, round_all-push, weight-push}
 use Rattle.mk_expand.proofs.PlainLemmas.{opened_value-plain}
@@ -233,27 +236,33 @@ pub modifiers::each_behind-loop-word-init : goal.modifiers::each_behind-loop-wor
 modifiers::each_behind-loop-word-init g t c =
     record {
       value = λ answers by. refl;
+      name = ap (λ (one : Pair). one.name) c.in_ok-binding.ensures;
       run = record { open_names = refl; bound = refl; region = refl };
       facts = Asks-none (g.met.F.Facts.stays _) _ _ _ (Ok tt) (ok_never tt);
     }
 
 pub modifiers::each_behind-returns-in_err-result-clause-value : goal.modifiers::each_behind-returns-in_err-result-clause-value
 modifiers::each_behind-returns-in_err-result-clause-value g t c =
-    let p = err_from_is_err_and c.from_residual.result c.from_residual.ensures.1 in
+    let p = err_from_is_err_and c.from_residual-in_err-result.result c.from_residual-in_err-result.ensures.1 in
     let l = c.loop-word in
     rw (p.1, p.2) (λ answers by.
     let before = earlier _ _ answers c.in_err-result.ensures.facts.asked by in
     let step = each_behind-word (found_at c.args.room) (here c.args.names.now.scopes.now c.args.names.now.locals.now
     (g.F.Facts.lists l.facts) l.run false answers)
     (at l.run (g.F.Facts.asked l.facts)) c.args.variable.now
-    (tree_view c.args.body.now) l.results c.args.words.now l.word-index c.word-item.result
-    c.loop-word-test.true c.word-item.is in
-    rw (← l.invariant.value answers before, step)
-    (fault_of_all c.in_err-result.field-0.0 _ _ (c.in_err-result.ensures.value answers by)))
+    (tree_view c.args.body.now) l.results c.args.run.now.region.bytes c.args.words.now l.word-index
+    (record { start = 0; end = 0 }) c.loop-word-test.true in
+    let word = rw (
+      c.in_ok-stand_for.ensures,
+      l.invariant.name,
+      c.shown.ensures.value,
+      l.invariant.run.region,
+    ) at (c.in_err-result.ensures.value answers by) in
+    rw (← l.invariant.value answers before, step) (fault_of_all c.in_err-result.field-0.0 _ _ word))
 
 pub modifiers::each_behind-returns-in_err-result-clause-facts : goal.modifiers::each_behind-returns-in_err-result-clause-facts
 modifiers::each_behind-returns-in_err-result-clause-facts g t c =
-    let p = err_from_is_err_and c.from_residual.result c.from_residual.ensures.1 in
+    let p = err_from_is_err_and c.from_residual-in_err-result.result c.from_residual-in_err-result.ensures.1 in
     rw (p.1, p.2)
     (Asks-then (g.met.F.Facts.goes_on _ _ _) c.loop-word.invariant.facts (Asks-err c.in_err-result.ensures.facts))
 
@@ -265,8 +274,8 @@ modifiers::each_behind-returns-in_err-add-clause-value g t c =
     let step = each_behind-word (found_at c.args.room) (here c.args.names.now.scopes.now c.args.names.now.locals.now
     (g.F.Facts.lists l.facts) l.run false answers)
     (at l.run (g.F.Facts.asked l.facts)) c.args.variable.now
-    (tree_view c.args.body.now) l.results c.args.words.now l.word-index c.word-item.result
-    c.loop-word-test.true c.word-item.is in
+    (tree_view c.args.body.now) l.results c.args.run.now.region.bytes c.args.words.now l.word-index
+    (record { start = 0; end = 0 }) c.loop-word-test.true in
     let inv = l.invariant.value answers before in
     let word = c.in_ok-result.ensures.value answers by in
     search rules
@@ -280,17 +289,25 @@ modifiers::each_behind-loop-word-preserved g t c =
           let step = each_behind-word (found_at c.args.room) (here c.args.names.now.scopes.now c.args.names.now.locals.now
           (g.F.Facts.lists l.facts) l.run false answers)
           (at l.run (g.F.Facts.asked l.facts)) c.args.variable.now
-          (tree_view c.args.body.now) l.results c.args.words.now l.word-index c.word-item.result
-          c.loop-word-test.true c.word-item.is in
+          (tree_view c.args.body.now) l.results c.args.run.now.region.bytes c.args.words.now l.word-index
+          (record { start = 0; end = 0 }) c.loop-word-test.true in
+          let word = rw (
+            c.in_ok-stand_for.ensures,
+            l.invariant.name,
+            c.shown.ensures.value,
+            l.invariant.run.region,
+          ) at (c.in_ok-result.ensures.value answers by) in
           rw (
             ← l.invariant.value answers before,
             step,
-            c.in_ok-result.ensures.value answers by,
+            word,
             c.in_ok-add.ensures,
             c.in_ok-result.ensures.run.open_names,
             c.in_ok-result.ensures.run.bound,
             c.in_ok-result.ensures.facts.lists,
           ) refl;
+      name = ap (λ (one : Pair). one.name) (c.in_ok-result.ensures.binding ∙ c.in_ok-stand_for.ensures)
+          ∙ l.invariant.name;
       run = Keeps-then _ _ _ l.invariant.run c.in_ok-result.ensures.run;
       facts = Asks-then (g.met.F.Facts.goes_on _ _ _) l.invariant.facts (Asks-ok tt c.in_ok-result.ensures.facts);
     }
@@ -301,7 +318,7 @@ modifiers::each_behind-returns-clause-value g t c =
     λ answers by.
     let done = each_behind-end (found_at c.args.room) (here c.args.names.now.scopes.now c.args.names.now.locals.now
     (g.F.Facts.lists l.facts) l.run false answers)
-    (at l.run (g.F.Facts.asked l.facts)) c.args.variable.now (tree_view c.args.body.now) l.results c.args.words.now l.word-index
+    (at l.run (g.F.Facts.asked l.facts)) c.args.variable.now (tree_view c.args.body.now) l.results c.args.run.now.region.bytes c.args.words.now l.word-index
     c.loop-word-test.false in
     sym (l.invariant.value answers by) ∙ ap (λ one. one.answer) done
 
@@ -336,6 +353,33 @@ evaluation::found-returns-clause-value g t c =
     λ answers by.
     rw (found-may c.args.room c.args.run.now.references c.open_reference.new.references _ _ _
     c.in_ok-open_reference.ensures.ok) (c.found_inside.ensures.value answers by)
+
+pub evaluation::append_reference-returns-in_err-open_reference-clause-value : goal.evaluation::append_reference-returns-in_err-open_reference-clause-value
+evaluation::append_reference-returns-in_err-open_reference-clause-value g t c =
+    let p = err_from_is_err_and c.from_residual.result c.from_residual.ensures.1 in
+    rw (p.1, p.2, c.in_err-open_reference.ensures.refused) (λ answers by.
+    let here = here c.args.names.now.scopes.now c.args.names.now.locals.now
+    (g.F.Facts.lists c.args.facts.now) c.args.run.now c.args.keep answers in
+    let p = at c.args.run.now (g.F.Facts.asked c.args.facts.now) in
+    let none = found-not c.args.room c.args.run.now.references (g.F.Facts.asked c.args.facts.now) here
+    (part_view c.args.part.now) _ c.in_err-open_reference.ensures.err in
+    inr (gives-not (found_at c.args.room) here p c.args.text.now (part_view c.args.part.now) _ none))
+
+pub evaluation::append_reference-returns-in-Some-clause-value : goal.evaluation::append_reference-returns-in-Some-clause-value
+evaluation::append_reference-returns-in-Some-clause-value g t c =
+    λ answers by.
+    let here = here c.args.names.now.scopes.now c.args.names.now.locals.now
+    (g.F.Facts.lists c.args.facts.now) c.args.run.now c.args.keep answers in
+    let asked = g.F.Facts.asked c.args.facts.now in
+    let p = at c.args.run.now asked in
+    let q = progress c.open_reference.new.references asked in
+    let one = part_view c.args.part.now in
+    let may = found-may c.args.room c.args.run.now.references c.open_reference.new.references asked here one
+    c.in_ok-open_reference.ensures.ok in
+    let lent = c.in-Some.ensures (found_at (c.args.room - 1)) here q refl (sym c.as_slice.ensures.value) in
+    gives-lent (found_at c.args.room) here p q c.args.text.now one c.in-Some.word.now
+    (λ done. c.append.new.text) c.append.result
+    (ap (λ (found : Counted Found). found.answer) may ∙ lent) c.append.ensures
 
 pub words::suffix-returns-in_err-new-clause-value : goal.words::suffix-returns-in_err-new-clause-value
 words::suffix-returns-in_err-new-clause-value g t c =
@@ -419,9 +463,9 @@ evaluation::variable-returns-then-not-has_dollar-clause-value g t c =
     (g.F.Facts.lists c.args.facts.now) c.args.run.now c.args.keep answers in
     let p = at c.args.run.now (g.F.Facts.asked c.args.facts.now) in
     let name = c.args.name.now in
-    let above = rw c.in-Some.is at c.in_ok-raw.ensures in
+    let above = rw (c.as_slice.ensures.value, c.in-Some.is) at c.in_ok-raw.ensures in
     let raw_is = raw_of-above c.args.names.now.scopes.now c.args.names.now.locals.now
-    c.args.run.now.bound name raw above in
+    c.args.run.now.bound.items name raw above in
     rw (ap (λ one. one.answer) (variable-plain (found_at c.args.room) here p name raw among raw_is plain))
     (gives_at (λ found. found) p c.plain_found.result _ c.plain_found.ensures)
 
@@ -434,15 +478,15 @@ evaluation::variable-returns-in_err-raw-clause-value g t c =
     (g.F.Facts.lists c.args.facts.now) c.args.run.now c.args.keep answers in
     variable-fault (found_at c.args.room) here (at c.args.run.now (g.F.Facts.asked c.args.facts.now))
     c.args.name.now _ among
-    (raw_of-fault c.args.names.now.scopes.now c.args.names.now.locals.now c.args.run.now.bound
-    c.args.name.now _ c.in_err-raw.ensures))
+    (raw_of-fault c.args.names.now.scopes.now c.args.names.now.locals.now c.args.run.now.bound.items
+    c.args.name.now _ (rw c.as_slice.ensures.value at c.in_err-raw.ensures)))
 
 pub evaluation::variable-returns-in_err-raw-clause-facts : goal.evaluation::variable-returns-in_err-raw-clause-facts
 evaluation::variable-returns-in_err-raw-clause-facts g t c =
     let p = err_from_is_err_and c.from_residual-in_err-raw.result c.from_residual-in_err-raw.ensures.1 in
     rw (p.1, p.2)
     (Asks-none (g.met.F.Facts.stays _) _ _ _ _ (err_never _ (fault_never _ _ c.in_err-raw.ensures
-    (never-raw_above c.args.names.now.locals.now c.args.run.now.bound c.args.name.now))))
+    (never-raw_above c.args.names.now.locals.now c.as_slice.result.now c.args.name.now))))
 
 pub words::modifier-returns-in_err-tree_value-in-Keep-clause-value : goal.words::modifier-returns-in_err-tree_value-in-Keep-clause-value
 words::modifier-returns-in_err-tree_value-in-Keep-clause-value g t c =

@@ -1,7 +1,7 @@
 use Rattle.std.proofs.Common.{◌≡◌, ◌+◌, ◌*◌, ◌≤◌, drop, length, false, Ok}
 use Rattle.mk_ast.specs.View.{mods_view, tree_view}
 use Rattle.mk_cond.specs.View.{cond_view}
-use Rattle.mk_mods.specs.Pieces.{end_of}
+use Rattle.mk_mods.specs.Pieces.{end_of, texts_of}
 use Rattle.mk_expand.specs.Calls.{Asks, Extends, Keeps, at, here}
 use Rattle.mk_expand.specs.Chains.{all_modified, each_behind}
 use Rattle.mk_expand.specs.Conditions.{truth_of}
@@ -187,10 +187,13 @@ invariant-modifiers::each_behind-loop-word g l = record {
   value : (answers : Answers) → AnsweredBy answers (g.F.Facts.asked l.facts)
       → (each_behind (found_at l.room)
       (here l.names.scopes.now l.names.locals.now (g.F.Facts.lists l.facts) l.run false answers)
-      (at l.run (g.F.Facts.asked l.facts)) l.variable (tree_view l.body) l.results (drop l.word-index l.words)).answer
+      (at l.run (g.F.Facts.asked l.facts)) l.variable (tree_view l.body) l.results
+      (texts_of l.initial.run.region.bytes (drop l.word-index l.words))).answer
       ≡ (each_behind (found_at l.room)
       (here l.names.scopes.now l.names.locals.now (g.F.Facts.lists l.initial.facts) l.initial.run false answers)
-      (at l.initial.run (g.F.Facts.asked l.initial.facts)) l.variable (tree_view l.body) l.initial.results l.words).answer;
+      (at l.initial.run (g.F.Facts.asked l.initial.facts)) l.variable (tree_view l.body) l.initial.results
+      (texts_of l.initial.run.region.bytes l.words)).answer;
+  name : l.binding.name ≡ l.variable;
   run : Keeps l.initial.run l.run;
   facts : Asks {A = Unit {0}} (g.F.Facts.leads l.initial.facts l.facts) (g.F.Facts.lists l.initial.facts) (g.F.Facts.lists l.facts)
       (g.F.Facts.asked l.initial.facts) (g.F.Facts.asked l.facts)

@@ -15,15 +15,9 @@ use Rattle.mk_reader.proofs.ReadByLemmas.{world_ok}
 use Rattle.mk_reader.proofs.TieLemmas.{does-as, first-refused, first-then, still-given, still-want}
 use Rattle.mk_reader.proofs.reading.read.Goals as goal
 
-pub returns-in_err-new-clause-reading : goal.returns-in_err-new-clause-reading
-returns-in_err-new-clause-reading g c =
+pub returns-in_err-state-clause-reading : goal.returns-in_err-state-clause-reading
+returns-in_err-state-clause-reading g c =
     let p = err_from_is_err_and c.from_residual.result c.from_residual.ensures.1 in
-    rw (p.1, p.2) (read_nothing g.W.World.meaning _ _ _)
-
-pub returns-in_err-new-2-clause-reading : goal.returns-in_err-new-2-clause-reading
-returns-in_err-new-2-clause-reading g c =
-    let p = err_from_is_err_and c.from_residual-in_err-new-2.result
-    c.from_residual-in_err-new-2.ensures.1 in
     rw (p.1, p.2) (read_nothing g.W.World.meaning _ _ _)
 
 pub returns-in_err-mode-clause-reading : goal.returns-in_err-mode-clause-reading
@@ -35,15 +29,8 @@ returns-in_err-mode-clause-reading g c =
     let o = outer g.W.World.meaning g.W.World.history g.W.World.faults g.W.World.runs g.S.Sink.held
     g.S.Sink.faults in
     let start : standing c.new-reader.result ≡ first_moment c.args.env.now c.args.order.now =
-    rw (
-      same.state,
-      same.order,
-      c.in_ok-new.ensures,
-      c.in_ok-new-2.ensures,
-      c.new-3.ensures,
-      c.new-4.ensures.items,
-    ) refl in
-    let none : c.new-reader.result.state.now.notes.items ≡ [] = rw same.state c.new-4.ensures.items in
+    rw (same.state, same.order) c.in_ok-state.ensures.moment in
+    let none : c.new-reader.result.state.now.notes.items ≡ [] = rw same.state c.in_ok-state.ensures.asked in
     let idle = rw (← same.world) at c.requires.idle in
     let whole = does-as _ sorted _ _ _ {rest = λ answers (made : Made). done made} _
     {whole = λ answers. reading answers c.args.env.now c.args.order.now}
@@ -85,15 +72,8 @@ returns-in_err-made_of-clause-reading g c =
     let o = outer g.W.World.meaning g.W.World.history g.W.World.faults g.W.World.runs g.S.Sink.held
     g.S.Sink.faults in
     let start : standing c.new-reader.result ≡ first_moment c.args.env.now c.args.order.now =
-    rw (
-      same.state,
-      same.order,
-      c.in_ok-new.ensures,
-      c.in_ok-new-2.ensures,
-      c.new-3.ensures,
-      c.new-4.ensures.items,
-    ) refl in
-    let none : c.new-reader.result.state.now.notes.items ≡ [] = rw same.state c.new-4.ensures.items in
+    rw (same.state, same.order) c.in_ok-state.ensures.moment in
+    let none : c.new-reader.result.state.now.notes.items ≡ [] = rw same.state c.in_ok-state.ensures.asked in
     let idle = rw (← same.world) at c.requires.idle in
     let whole = does-as _ sorted _ _ _ {rest = λ answers (made : Made). done made} _
     {whole = λ answers. reading answers c.args.env.now c.args.order.now}
@@ -116,15 +96,8 @@ returns-clause-reading g c =
     let o = outer g.W.World.meaning g.W.World.history g.W.World.faults g.W.World.runs g.S.Sink.held
     g.S.Sink.faults in
     let start : standing c.new-reader.result ≡ first_moment c.args.env.now c.args.order.now =
-    rw (
-      same.state,
-      same.order,
-      c.in_ok-new.ensures,
-      c.in_ok-new-2.ensures,
-      c.new-3.ensures,
-      c.new-4.ensures.items,
-    ) refl in
-    let none : c.new-reader.result.state.now.notes.items ≡ [] = rw same.state c.new-4.ensures.items in
+    rw (same.state, same.order) c.in_ok-state.ensures.moment in
+    let none : c.new-reader.result.state.now.notes.items ≡ [] = rw same.state c.in_ok-state.ensures.asked in
     let idle = rw (← same.world) at c.requires.idle in
     let whole = does-as _ sorted _ _ _ {rest = λ answers (made : Made). done made} _
     {whole = λ answers. reading answers c.args.env.now c.args.order.now}
@@ -151,15 +124,8 @@ returns-clause-looks g c =
     let o = outer g.W.World.meaning g.W.World.history g.W.World.faults g.W.World.runs g.S.Sink.held
     g.S.Sink.faults in
     let start : standing c.new-reader.result ≡ first_moment c.args.env.now c.args.order.now =
-    rw (
-      same.state,
-      same.order,
-      c.in_ok-new.ensures,
-      c.in_ok-new-2.ensures,
-      c.new-3.ensures,
-      c.new-4.ensures.items,
-    ) refl in
-    let none : c.new-reader.result.state.now.notes.items ≡ [] = rw same.state c.new-4.ensures.items in
+    rw (same.state, same.order) c.in_ok-state.ensures.moment in
+    let none : c.new-reader.result.state.now.notes.items ≡ [] = rw same.state c.in_ok-state.ensures.asked in
     let idle = rw (← same.world) at c.requires.idle in
     rw (c.world-1.given.1 (sym (went.leads.world ∙ same.same_world)))
     (rw same.world at
