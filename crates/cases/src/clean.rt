@@ -15,11 +15,8 @@ use std::alloc::Global;
 // What builds leave is taken away.
 fn take_away(case: &Case, world: &mut IdleWorld) -> Result<(), Trouble> {
     for item in case.setup.as_slice() {
-        if item.directive == Directive::File
-            && is_left(case, item.rest)
-            && !world.edit(item.rest.as_bytes(), None)
-        {
-            return Err(Trouble::Bad(item.line));
+        if item.directive == Directive::File && is_left(case, item.rest) {
+            world.edit(item, None)?;
         }
     }
     Ok(())

@@ -3,12 +3,15 @@ ghost use Rattle.std.specs.Prelude.{◌≡◌, [], IsTrue};
 ghost use Rattle.mk_bytes.specs.Paths.{is_clean_directory};
 ghost use Rattle.mk_world.specs.History.{state_of, tickets_of};
 
+use crate::case::Item;
 use crate::compare::{Ran, Sinks};
+use crate::fault::Trouble;
 use crate::kinds::Counts;
 use mk_bytes::Texts;
 use mk_memworld::MemWorld;
 use mk_scopes::Env;
 use mk_top::{Report, run};
+use mk_world::WorldFault;
 use std::alloc::Global;
 
 /// A world in which no child runs.
@@ -34,9 +37,14 @@ impl IdleWorld {
         }
     }
 
-    /// Changes a file from outside, or takes it away. The answer says whether that could be done.
-    pub fn edit(&mut self, path: &[u8], bytes: Option<&[u8]>) -> bool {
-        self.world.edit(path, bytes).is_ok()
+    /// Changes the file that an item of a case names from outside, or takes it away. `Bad` where that cannot be
+    /// done.
+    pub fn edit(&mut self, item: &Item, bytes: Option<&[u8]>) -> Result<(), Trouble> {
+        match self.world.edit(item.rest.as_bytes(), bytes) {
+            Ok(()) => Ok(()),
+            Err(WorldFault::NoMemory) => Err(Trouble::NoMemory),
+            Err(WorldFault::Failed) => Err(Trouble::Bad(item.line)),
+        }
     }
 
     fn calls(&self) -> Counts {

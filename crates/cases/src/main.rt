@@ -25,7 +25,7 @@ use found::Found;
 use mk_bytes::NoMemory;
 use running::run_case;
 use std::alloc::Global;
-use std::io::Print;
+use std::io::{ErrorKind, Print};
 use std::process::ExitCode;
 use std::{env, fs};
 use tally::Tally;
@@ -59,6 +59,7 @@ fn run_files(rt: &HostRuntime, tally: &mut Tally) -> Result<(), NoMemory> {
 fn run_file(rt: &HostRuntime, tally: &mut Tally, file: &str) -> Result<(), NoMemory> {
     match fs::read_to_string(rt, file) {
         Ok(text) => run_text(rt.alloc(), tally, file, text.as_str()),
+        Err(error) if error.kind() == ErrorKind::OutOfMemory => Err(NoMemory),
         Err(_) => tally.note_trouble(file, 0, "the file cannot be read"),
     }
 }

@@ -62,10 +62,7 @@ pub fn edit(step: &Step, world: &mut IdleWorld) -> Result<(), Trouble> {
         Directive::Edit => Some(step.item.body.as_slice()),
         _ => None,
     };
-    if world.edit(step.item.rest.as_bytes(), bytes) {
-        return Ok(());
-    }
-    Err(Trouble::Bad(step.item.line))
+    world.edit(&step.item, bytes)
 }
 
 // All steps in one world.

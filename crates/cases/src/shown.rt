@@ -4,7 +4,7 @@ use mk_ast::AstFault;
 use mk_bytes::{Kind, NoMemory, Text, Texts};
 use mk_expand::ExpandFault;
 use mk_reader::What;
-use mk_top::{End, Event};
+use mk_top::{End, Event, PlanNames};
 use std::alloc::Global;
 
 fn plain(alloc: Global, name: &str) -> Result<Text, NoMemory> {
@@ -171,14 +171,19 @@ fn limit_text(alloc: Global, kind: &Kind, most: u64) -> Result<Text, NoMemory> {
     call(alloc, "Limit", &[name, buffer.format(most).as_bytes()])
 }
 
+// Adds a name, behind a blank where it is not the first.
+fn push_spaced(text: &mut Text, name: &[u8]) -> Result<(), NoMemory> {
+    if !text.is_empty() {
+        text.push(b" ")?;
+    }
+    text.push(name)
+}
+
 // These names, parted by single blanks.
 fn spaced(alloc: Global, names: &Texts) -> Result<Text, NoMemory> {
     let mut text = Text::new(alloc);
     for name in names.as_slice() {
-        if !text.is_empty() {
-            text.push(b" ")?;
-        }
-        text.push(name.bytes())?;
+        push_spaced(&mut text, name.bytes())?;
     }
     Ok(text)
 }
@@ -211,15 +216,19 @@ pub fn end_text(alloc: Global, end: &End) -> Result<Text, NoMemory> {
 }
 
 /// The names of a plan, parted by single blanks.
-pub fn plan_text(alloc: Global, plan: &Texts) -> Result<Text, NoMemory> {
-    spaced(alloc, plan)
+pub fn plan_text(alloc: Global, plan: &PlanNames) -> Result<Text, NoMemory> {
+    let mut text = Text::new(alloc);
+    for node in 0..plan.len() {
+        push_spaced(&mut text, plan.at(node))?;
+    }
+    Ok(text)
 }
 
 // The name of a node, by its place in the plan.
-fn node_name(plan: &Texts, node: u32) -> &[u8] {
-    match plan.as_slice().get(node as usize) {
-        Some(name) => name.bytes(),
-        None => b"?",
+fn node_name(plan: &PlanNames, node: u32) -> &[u8] {
+    match plan.at(node) {
+        [] => b"?",
+        name => name,
     }
 }
 
@@ -236,7 +245,7 @@ fn push_end(text: &mut Text, name: &[u8], line: u32, status: u8) -> Result<(), N
     text.push(buffer.format(status).as_bytes())
 }
 
-fn push_event(text: &mut Text, plan: &Texts, event: Event) -> Result<(), NoMemory> {
+fn push_event(text: &mut Text, plan: &PlanNames, event: Event) -> Result<(), NoMemory> {
     match event {
         Event::Kept(n) => push_all(text, &[b"Kept", node_name(plan, n)], b" "),
         Event::Refused(n, line) => push_line(text, b"Refused", node_name(plan, n), line),
@@ -248,7 +257,7 @@ fn push_event(text: &mut Text, plan: &Texts, event: Event) -> Result<(), NoMemor
 }
 
 /// Events, a line each, with the names of nodes.
-pub fn events_text(alloc: Global, plan: &Texts, events: &[Event]) -> Result<Text, NoMemory> {
+pub fn events_text(alloc: Global, plan: &PlanNames, events: &[Event]) -> Result<Text, NoMemory> {
     let mut text = Text::new(alloc);
     for event in events {
         push_event(&mut text, plan, *event)?;

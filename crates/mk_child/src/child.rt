@@ -63,6 +63,7 @@ pub fn start_child<W: World>(
         (events.new ≡ events.old ++ event.Start place.node place.number ∷ []) }
     ensures untold { OnErr result (events.new ≡ events.old) }
     ensures held { OnOk result (kids.new.tickets ≡ kids.old.tickets ++ ticket ∷ []) }
+    ensures same { OnErr result (kids.new ≡ kids.old) }
     ensures same_room { kids.new.room ≡ kids.old.room }
     ensures cause { HasCause world_failed (W.faults world.old) (W.faults world.new) result }
     ensures children { W.runs world.new kids.new.tickets }
@@ -107,6 +108,7 @@ pub fn wait_child<W: World>(
         ((events.new ≡ events.old) ⊎ (events.new ≡ events.old ++ event.Wait ∷ [])) }
     ensures taken { IfOk result
         (λ ended. TakenOut ended.ticket.0 kids.old.tickets kids.new.tickets) }
+    ensures same { OnErr result (kids.new ≡ kids.old) }
     ensures same_room { kids.new.room ≡ kids.old.room }
     ensures cause { HasCause world_failed (W.faults world.old) (W.faults world.new) result }
     ensures children { W.runs world.new kids.new.tickets }

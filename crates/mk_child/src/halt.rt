@@ -6,7 +6,7 @@ use mk_trace::{BuildResult, Failure};
 use mk_world::{SinkFault, WorldFault};
 
 /// What ends a build before it is over.
-#[derive(Clone, Copy, Debug)]
+#[derive(Clone, Copy)]
 pub enum Halt {
     /// A call of the world failed.
     World,

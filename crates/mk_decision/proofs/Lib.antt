@@ -6,5 +6,4 @@ pub mod DecisionLemmas
 pub mod LookLemmas
 pub mod PieceLemmas
 pub mod ReasonLemmas
-pub mod SetLemmas
 pub mod SightLemmas

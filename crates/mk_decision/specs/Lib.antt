@@ -1,5 +1,6 @@
 pub mod Ages
 pub mod Asks
+pub mod Behind
 pub mod Dates
 pub mod Decisions
 pub mod Judgements
@@ -10,3 +11,4 @@ pub mod Metas
 pub mod Reasons
 pub mod Sights
 pub mod Tests
+pub mod Wants

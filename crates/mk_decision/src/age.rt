@@ -1,7 +1,7 @@
 //! How old the sources of a node are.
-ghost use Rattle.std.specs.Prelude.{◌≡◌, ◌<◌, ℕ, length, IfOk};
+ghost use Rattle.std.specs.Prelude.{◌≡◌, ◌≢◌, ◌<◌, ℕ, length, IfOk, OnOk};
 ghost use Rattle.mk_decision.specs.Ages as spec;
-ghost use Rattle.mk_decision.specs.Known.{known};
+ghost use Rattle.mk_decision.specs.Known.{known, known_earlier};
 ghost use Rattle.mk_oodate.specs.declared.reason.Age.TheVariants.{Old as old};
 ghost use Rattle.mk_plan.specs.Plans.{node_at};
 
@@ -27,16 +27,51 @@ fn newer(one: Age, other: Age) -> Age
     }
 }
 
-// The ages of nodes, by their places; all others are old.
-type Known = BTreeMap<u32, Age>;
+// The ages of nodes, by their places; all others are old. The last that was added is at hand, so one
+// alone takes no memory.
+#[derive(Drop)]
+struct Known {
+    last: Option<(u32, Age)>,
+    earlier: BTreeMap<u32, Age>,
+}
+
+fn none_known(alloc: Global) -> Known
+    ensures { (place : ℕ) → known result place ≡ old }
+{
+    Known {
+        last: None,
+        earlier: BTreeMap::new(alloc),
+    }
+}
+
+fn earlier_age(ages: &Known, place: u32) -> Age
+    ensures { result ≡ known_earlier ages.now.earlier place }
+{
+    match ages.earlier.get(&place) {
+        Some(age) => *age,
+        None => Age::Old,
+    }
+}
 
 fn age_at(ages: &Known, place: u32) -> Age
     ensures { result ≡ known ages.now place }
 {
-    match ages.get(&place) {
-        Some(age) => *age,
-        None => Age::Old,
+    match ages.last {
+        Some((last, age)) if last == place => age,
+        _ => earlier_age(ages, place),
     }
+}
+
+// Adds the age of a node.
+fn add_age(ages: &mut Known, place: u32, age: Age) -> Result<(), NoMemory>
+    ensures here { OnOk result (known ages.new place ≡ age) }
+    ensures others { OnOk result ((one : ℕ) → one ≢ place → known ages.new one ≡ known ages.old one) }
+{
+    if let Some((last, before)) = ages.last {
+        ages.earlier.insert(last, before)?;
+    }
+    ages.last = Some((place, age));
+    Ok(())
 }
 
 fn newest(ages: &Known, places: &[u32]) -> Age
@@ -88,13 +123,13 @@ fn ages_before(alloc: Global, plan: &Plan, node: u32, seen: &Sightings) -> Resul
     ensures { IfOk result (λ ages. (place : ℕ)
         → known ages place ≡ spec.age plan.now seen.now place) }
 {
-    let mut ages = BTreeMap::new(alloc);
+    let mut ages = none_known(alloc);
     let mut left = seen.len();
     while left > 0 {
         left -= 1;
         let one = *seen.get(left);
         let age = age_of(plan, one, &ages);
-        ages.insert(one.place, age)?;
+        add_age(&mut ages, one.place, age)?;
     }
     Ok(ages)
 }

@@ -27,6 +27,7 @@ mod paths;
 mod reason;
 mod sight;
 mod test;
+mod wanted;
 
 pub use decision::{Decision, decide_on};
 pub use judgement::{Judgement, judge_on};

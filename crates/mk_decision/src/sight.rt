@@ -1,25 +1,24 @@
 //! The looks by which a node is decided.
-ghost use Rattle.std.specs.BTreeSet.{contains};
-ghost use Rattle.std.specs.Ordering.{nat_cmp};
-ghost use Rattle.std.specs.Prelude.{◌≡◌, ◌<◌, ◌+◌, ◌==◌, ◌||◌, ◌&&◌, nat_lt, ℕ, List, [], Option, true, false, length, IfOk, IfSome, IfNone, OnErr, OnOk};
+ghost use Rattle.std.specs.Prelude.{◌≡◌, ◌<◌, ◌+◌, ◌==◌, ◌||◌, ◌&&◌, nat_lt, ℕ, List, [], Option, true, length, IfOk, OnErr, OnOk};
 ghost use Rattle.mk_decision.specs.Ages as spec;
 ghost use Rattle.mk_decision.specs.Looks.{LooksAt};
-ghost use Rattle.mk_decision.specs.Sights.{AreWanted, IsAt, IsTaken, Looked, OnWalk, SawAll, SawSome, look_at};
+ghost use Rattle.mk_decision.specs.Sights.{AreWanted, IsAt, Looked, OnWalk, SawAll, SawSome, look_at};
+ghost use Rattle.mk_decision.specs.Wants.{has};
 ghost use Rattle.mk_plan.specs.Plans.{node_at};
 ghost use Rattle.mk_world.specs.Causes.{HasCause};
 ghost use Rattle.mk_world.specs.declared.fault.WorldFault.TheVariants.{Failed as failed};
 ghost use Rattle.mk_world.specs.declared.history.History.{History};
 
+use crate::wanted::Wanted;
 use mk_bytes::{Items, NoMemory};
 use mk_graph::Attr;
 use mk_plan::Plan;
 use mk_world::{When, World, WorldFault};
 use std::alloc::Global;
-use std::collections::BTreeSet;
 
 /// What was seen of a node: its place in the plan, and the time of its file. A phony node is no
 /// file, so it is not looked at.
-#[derive(Clone, Copy, Debug)]
+#[derive(Clone, Copy)]
 pub struct Sighting {
     pub place: u32,
     pub when: When,
@@ -70,21 +69,20 @@ fn is_by_sources(plan: &Plan, place: u32, when: When) -> bool
 }
 
 // Adds a node that stands before a place.
-fn want_one(wanted: &mut BTreeSet<u32>, place: u32, source: u32) -> Result<(), NoMemory>
-    ensures { OnOk result ((one : ℕ) → contains nat_cmp wanted.new one
-        ≡ (contains nat_cmp wanted.old one || (source == one && nat_lt one place))) }
+fn want_one(wanted: &mut Wanted, place: u32, source: u32) -> Result<(), NoMemory>
+    ensures { OnOk result ((one : ℕ) → has wanted.new one
+        ≡ (has wanted.old one || (source == one && nat_lt one place))) }
 {
     if source >= place {
         return Ok(());
     }
-    wanted.insert(source)?;
-    Ok(())
+    wanted.add(source)
 }
 
 // Adds those of some nodes that stand before a place.
-fn want(wanted: &mut BTreeSet<u32>, place: u32, sources: &[u32]) -> Result<(), NoMemory>
-    ensures { OnOk result ((one : ℕ) → contains nat_cmp wanted.new one
-        ≡ (contains nat_cmp wanted.old one
+fn want(wanted: &mut Wanted, place: u32, sources: &[u32]) -> Result<(), NoMemory>
+    ensures { OnOk result ((one : ℕ) → has wanted.new one
+        ≡ (has wanted.old one
         || (spec.is_one_of sources.now one && nat_lt one place))) }
 {
     for source in sources {
@@ -94,15 +92,10 @@ fn want(wanted: &mut BTreeSet<u32>, place: u32, sources: &[u32]) -> Result<(), N
 }
 
 // Adds the sources of a node where its age is theirs.
-fn want_counted(
-    wanted: &mut BTreeSet<u32>,
-    plan: &Plan,
-    place: u32,
-    when: When,
-) -> Result<(), NoMemory>
+fn want_counted(wanted: &mut Wanted, plan: &Plan, place: u32, when: When) -> Result<(), NoMemory>
     requires { place < length plan.now }
-    ensures { OnOk result ((one : ℕ) → contains nat_cmp wanted.new one
-        ≡ (contains nat_cmp wanted.old one
+    ensures { OnOk result ((one : ℕ) → has wanted.new one
+        ≡ (has wanted.old one
         || (spec.is_one_of (spec.counted (node_at plan.now place) when) one && nat_lt one place))) }
 {
     if is_by_sources(plan, place, when) {
@@ -112,26 +105,16 @@ fn want_counted(
 }
 
 // The sources of a node that is to be decided, or none where its file is missing.
-fn decisive(alloc: Global, plan: &Plan, node: u32, target: When) -> Result<BTreeSet<u32>, NoMemory>
+fn decisive(alloc: Global, plan: &Plan, node: u32, target: When) -> Result<Wanted, NoMemory>
     requires { node < length plan.now }
-    ensures { IfOk result (λ wanted. AreWanted node (contains nat_cmp wanted)
+    ensures { IfOk result (λ wanted. AreWanted node (has wanted)
         (spec.decisive (node_at plan.now node) target)) }
 {
-    let mut wanted = BTreeSet::new(alloc);
+    let mut wanted = Wanted::none(alloc);
     if !target.is_missing() {
         want(&mut wanted, node, plan.sources(node).as_slice())?;
     }
     Ok(wanted)
-}
-
-// Takes the last of some nodes.
-fn take_last(wanted: &mut BTreeSet<u32>) -> Option<u32>
-    ensures taken { IfSome result (λ place.
-        IsTaken place (contains nat_cmp wanted.old) (contains nat_cmp wanted.new)) }
-    ensures none { IfNone result ((one : ℕ) → contains nat_cmp wanted.old one ≡ false) }
-{
-    let place = wanted.pop_last()?;
-    Some(place)
 }
 
 // Looks at a node that counts, and adds its sources where its age is theirs.
@@ -140,16 +123,16 @@ fn visit<W: World>(
     world: &mut W,
     plan: &Plan,
     place: u32,
-    wanted: &mut BTreeSet<u32>,
+    wanted: &mut Wanted,
     seen: &mut Sightings,
 ) -> Result<(), WorldFault>
     requires within { place < length plan.now }
-    requires below { (one : ℕ) → contains nat_cmp wanted.old one ≡ true → one < place }
+    requires below { (one : ℕ) → has wanted.old one ≡ true → one < place }
     ensures below { OnOk result
-        ((one : ℕ) → contains nat_cmp wanted.new one ≡ true → one < place) }
+        ((one : ℕ) → has wanted.new one ≡ true → one < place) }
     ensures walk { OnOk result ((node : ℕ) (first : List ℕ)
-        → IsAt plan.now node first place (contains nat_cmp wanted.old) seen.old
-        → OnWalk plan.now node first place (contains nat_cmp wanted.new) seen.new) }
+        → IsAt plan.now node first place (has wanted.old) seen.old
+        → OnWalk plan.now node first place (has wanted.new) seen.new) }
     ensures looked { OnOk result ((start : Option History)
         → Looked W.meaning start (W.history world.old) plan.now seen.old
         → Looked W.meaning start (W.history world.new) plan.now seen.new) }
@@ -172,12 +155,12 @@ fn look_back<W: World>(
     world: &mut W,
     plan: &Plan,
     node: u32,
-    wanted: &mut BTreeSet<u32>,
+    wanted: &mut Wanted,
 ) -> Result<Sightings, WorldFault>
     requires within { node < length plan.now }
-    requires below { (one : ℕ) → contains nat_cmp wanted.old one ≡ true → one < node }
+    requires below { (one : ℕ) → has wanted.old one ≡ true → one < node }
     ensures walk { IfOk result (λ seen. (first : List ℕ)
-        → AreWanted node (contains nat_cmp wanted.old) first
+        → AreWanted node (has wanted.old) first
         → spec.AreSeen plan.now node first seen) }
     ensures looked { IfOk result (λ seen.
         Looked W.meaning (W.history world.old) (W.history world.new) plan.now seen) }
@@ -187,7 +170,7 @@ fn look_back<W: World>(
     ensures children { (kids : List ℕ) → W.runs world.old kids → W.runs world.new kids }
 {
     let mut seen = Items::new(alloc, 0)?;
-    'nodes: while let Some(place) = take_last(wanted) {
+    'nodes: while let Some(place) = wanted.take_last() {
         visit(alloc, world, plan, place, wanted, &mut seen)?;
     }
     Ok(seen)

@@ -3,7 +3,7 @@ use mk_expand::ExpandFault;
 use mk_world::WorldFault;
 
 /// Why a plan is not explained.
-#[derive(Debug, Drop)]
+#[derive(Drop)]
 pub enum ExplainFault {
     /// At this node this line of its task cannot be expanded.
     Expand(u32, u32, ExpandFault),

@@ -2,7 +2,7 @@ use mk_bytes::{Items, Text};
 use mk_oodate::Why;
 
 /// Why a node is out of date.
-#[derive(Debug, Drop)]
+#[derive(Drop)]
 pub struct Reason {
     /// Its place in the plan.
     pub node: u32,

@@ -5,6 +5,7 @@ pub mod Deciding
 pub mod Facts
 pub mod Lists
 pub mod Metas
+pub mod Names
 pub mod Newer
 pub mod Oodate
 pub mod Plans

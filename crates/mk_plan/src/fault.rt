@@ -5,7 +5,7 @@ use mk_pool::MAX_NAMES;
 use mk_world::WorldFault;
 
 /// Why there is no plan.
-#[derive(Debug, Drop)]
+#[derive(Drop)]
 pub enum PlanFault {
     /// No name is wanted, and the makefiles have no target.
     NoTarget,
@@ -64,7 +64,7 @@ impl From<CloseFault> for PlanFault {
 
 /// Why a node has no task: the number of the command line, counted from 1, that is at fault first,
 /// and what is wrong with it.
-#[derive(Debug, Drop)]
+#[derive(Drop)]
 pub struct TaskFault {
     pub line: u32,
     pub what: ExpandFault,

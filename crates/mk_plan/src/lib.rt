@@ -10,6 +10,7 @@ mod fault;
 mod law;
 mod making;
 mod metas;
+mod names;
 mod oodate;
 mod plan;
 mod plan_law;
@@ -20,6 +21,7 @@ pub use fault::{PlanFault, TaskFault};
 pub use law::newer_sources_do_not_count;
 pub use making::make_plan;
 pub use metas::is_meta;
+pub use names::PlanNames;
 pub use plan::{NodeState, Nodes, Plan, PlanNode};
 pub use plan_law::{
     dependence_goes_back, planned_names_differ, planned_nodes_are_reached, plans_have_their_sources,

@@ -8,7 +8,7 @@ use mk_graph::{Attr, Marks};
 use std::marker::Model;
 
 /// How a node of a plan stands in a run.
-#[derive(Clone, Copy, Debug, PartialEq, Eq)]
+#[derive(Clone, Copy, PartialEq, Eq)]
 pub enum NodeState {
     /// Nothing was decided of it.
     Undecided,
@@ -24,7 +24,7 @@ pub enum NodeState {
 pub type Nodes = Items<u32>;
 
 /// A node of a plan.
-#[derive(Debug, Drop)]
+#[derive(Drop)]
 pub struct PlanNode {
     /// Its cleaned path.
     pub name: Text,
@@ -42,7 +42,7 @@ pub struct PlanNode {
 
 /// Nodes in the order in which one job would make them: each stands behind its predecessors, which its
 /// sources are among.
-#[derive(Debug, Drop)]
+#[derive(Drop)]
 pub struct Plan {
     nodes: Items<PlanNode>,
 }

@@ -3,7 +3,7 @@ use mk_trace::Events;
 use mk_world::WorldFault;
 
 /// How a query ends. Nodes are named by their places in the plan, lines by their numbers from 1.
-#[derive(Debug, Drop)]
+#[derive(Drop)]
 pub enum QueryResult {
     /// Every node is up to date.
     UpToDate,
@@ -18,7 +18,7 @@ pub enum QueryResult {
 }
 
 /// How a query ended, and what was found of the nodes: those that are kept, and one that is refused.
-#[derive(Debug, Drop)]
+#[derive(Drop)]
 pub struct QueryEnd {
     pub result: QueryResult,
     pub events: Events,

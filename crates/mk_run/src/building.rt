@@ -14,21 +14,21 @@ ghost use Rattle.mk_run.specs.declared.report.End.TheVariants.{
 ghost use Rattle.mk_world.specs.declared.history.History.{History};
 
 use crate::report::End;
-use mk_bytes::{Items, NoMemory, Text, Texts};
+use mk_bytes::{Items, NoMemory, Text};
 use mk_driver::build;
 use mk_flags::Flags;
 use mk_graph::Made;
-use mk_plan::{Plan, make_plan};
+use mk_plan::{Plan, PlanNames, make_plan};
 use mk_trace::{BuildResult, Events};
 use mk_world::{Sink, World};
 use std::alloc::Global;
 
 /// How a run went before the line of its end is written: its end, the names of the nodes in plan
 /// order, and what the build did.
-#[derive(Debug, Drop)]
+#[derive(Drop)]
 pub struct Went {
     pub end: End,
-    pub plan: Texts,
+    pub plan: PlanNames,
     pub events: Events,
 }
 
@@ -38,35 +38,32 @@ pub fn unbuilt(alloc: Global, end: End) -> Went
 {
     Went {
         end,
-        plan: Items::new(alloc, 0).unwrap(),
+        plan: PlanNames::of(Items::new(alloc, 0).unwrap()),
         events: Events::new(alloc),
     }
 }
 
-/// The names of the nodes in plan order.
-pub fn names_of(alloc: Global, plan: &Plan) -> Result<Texts, NoMemory>
+/// Copies of the names of the nodes, in plan order.
+pub fn names_of(alloc: Global, plan: &Plan) -> Result<PlanNames, NoMemory>
     ensures { IfOk result (λ names. names ≡ spec.names_of plan.now) }
 {
     let mut names = Items::new(alloc, plan.len() as usize)?;
     for n in 0..plan.len() {
         names.push(Text::from_bytes(alloc, plan.name(n))?)?;
     }
-    Ok(names)
+    Ok(PlanNames::of(names))
 }
 
 /// The name of a node in plan order, or nothing where there is no such node.
-pub fn name_at(alloc: Global, names: &Texts, n: u32) -> Result<Text, NoMemory>
+pub fn name_at(alloc: Global, names: &PlanNames, n: u32) -> Result<Text, NoMemory>
     ensures { IfOk result (λ name. (nodes : List PlanNode) → names.now ≡ spec.names_of nodes
         → name ≡ (node_at nodes n).name) }
 {
-    match names.as_slice().get(n as usize) {
-        Some(name) => name.copy(alloc),
-        None => Ok(Text::new(alloc)),
-    }
+    Text::from_bytes(alloc, names.at(n))
 }
 
 /// The end of a run by that of its build, where the nodes of the plan have these names.
-pub fn end_by(alloc: Global, names: &Texts, ended: BuildResult) -> End
+pub fn end_by(alloc: Global, names: &PlanNames, ended: BuildResult) -> End
     ensures { (nodes : List PlanNode) → names.now ≡ spec.names_of nodes
         → spec.IsEndOf nodes ended result }
 {
@@ -96,7 +93,7 @@ fn names_differ(made: &Made)
 // Builds a plan.
 fn build_plan<W: World, S: Sink>(
     alloc: Global,
-    plan: &Plan,
+    plan: Plan,
     made: &Made,
     flags: &Flags,
     world: &mut W,
@@ -105,7 +102,7 @@ fn build_plan<W: World, S: Sink>(
     requires jobs { spec.AreJobs flags.now.jobs }
     requires idle { W.runs world.old [] }
     ensures builds { (first : Option History) → OnLooks first (W.history world.old)
-        (λ files. planned files made.now flags.now.requested flags.now.query ≡ Ok plan.now)
+        (λ files. planned files made.now flags.now.requested flags.now.query ≡ Ok plan)
         → spec.Builds W.meaning made.now flags.now (spec.point first (S.held out.old))
         (spec.point (W.history world.new) (S.held out.new)) result }
     ensures world_cause { runs.EndCause world_failed (W.faults world.old) (W.faults world.new)
@@ -114,11 +111,9 @@ fn build_plan<W: World, S: Sink>(
         result.end }
     ensures idle { W.runs world.new [] }
 {
-    let Ok(names) = names_of(alloc, plan) else {
-        return unbuilt(alloc, End::NoMemory);
-    };
     names_differ(made);
-    let built = build(alloc, plan, made, flags, world, out);
+    let built = build(alloc, &plan, made, flags, world, out);
+    let names = plan.into_names();
     Went {
         end: end_by(alloc, &names, built.result),
         plan: names,
@@ -146,7 +141,7 @@ pub fn build_targets<W: World, S: Sink>(
     ensures idle { W.runs world.new [] }
 {
     match make_plan(alloc, made, &flags.requested, flags.query, world) {
-        Ok(plan) => build_plan(alloc, &plan, made, flags, world, out),
+        Ok(plan) => build_plan(alloc, plan, made, flags, world, out),
         Err(fault) => unbuilt(alloc, End::from(fault)),
     }
 }

@@ -23,11 +23,10 @@ ghost use Rattle.mk_world.specs.declared.history.History.{History};
 
 use crate::building::{Went, name_at, names_of, unbuilt};
 use crate::report::End;
-use mk_bytes::Texts;
 use mk_explain::{ExplainFault, Reasons, explain};
 use mk_flags::Flags;
 use mk_graph::Made;
-use mk_plan::{Plan, make_plan};
+use mk_plan::{Plan, PlanNames, make_plan};
 use mk_trace::Events;
 use mk_world::{Sink, SinkFault, World, write_all};
 use std::alloc::Global;
@@ -47,7 +46,7 @@ fn print_reasons<S: Sink>(out: &mut S, reasons: &Reasons) -> Result<(), SinkFaul
 }
 
 // The end of a run whose plan could not be explained; the nodes of the plan have these names.
-fn end_of(alloc: Global, names: &Texts, fault: ExplainFault) -> End
+fn end_of(alloc: Global, names: &PlanNames, fault: ExplainFault) -> End
     ensures end { (nodes : List PlanNode) → names.now ≡ all_names nodes
         → (result ≡ of_explain nodes fault) ⊎ (result ≡ no_memory) }
     ensures failed { fault ≡ failed_fault → result ≡ world_failed }
@@ -68,7 +67,7 @@ fn end_of(alloc: Global, names: &Texts, fault: ExplainFault) -> End
 fn tell<W: World, S: Sink>(
     alloc: Global,
     plan: Plan,
-    names: &Texts,
+    names: &PlanNames,
     made: &Made,
     flags: &Flags,
     world: &mut W,

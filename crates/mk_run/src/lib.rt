@@ -13,6 +13,7 @@ mod showing;
 mod words;
 
 pub use building::{Went, unbuilt};
+pub use mk_plan::PlanNames;
 pub use mk_trace::{Event, Events};
 pub use report::{End, Report};
 pub use running::{close, run_order};

@@ -12,18 +12,17 @@ ghost use Rattle.mk_run.specs.declared.report.End.TheVariants.{
 ghost use Rattle.mk_world.specs.Looks.{OnLooks};
 ghost use Rattle.mk_world.specs.declared.history.History.{History};
 
-use crate::building::{Went, name_at, names_of, unbuilt};
+use crate::building::{Went, name_at, unbuilt};
 use crate::report::End;
-use mk_bytes::Texts;
 use mk_flags::Flags;
 use mk_graph::Made;
-use mk_plan::{Plan, make_plan};
+use mk_plan::{Plan, PlanNames, make_plan};
 use mk_query::{QueryResult, query};
 use mk_world::World;
 use std::alloc::Global;
 
 // The end of a run by that of its query, where the nodes of the plan have these names.
-fn end_of(alloc: Global, names: &Texts, ended: QueryResult) -> End
+fn end_of(alloc: Global, names: &PlanNames, ended: QueryResult) -> End
     ensures end { (nodes : List PlanNode) → names.now ≡ all_names nodes
         → spec.IsEndOf nodes ended result }
     ensures no_sink { result ≡ sink_failed → ⊥ }
@@ -46,7 +45,7 @@ fn end_of(alloc: Global, names: &Texts, ended: QueryResult) -> End
 // Asks whether the nodes of a plan are up to date.
 fn query_plan<W: World>(
     alloc: Global,
-    plan: &Plan,
+    plan: Plan,
     made: &Made,
     flags: &Flags,
     world: &mut W,
@@ -54,17 +53,15 @@ fn query_plan<W: World>(
     requires idle { W.runs world.old [] }
     ensures queries { (first : Option History) (out : Option (List ℕ))
         → OnLooks first (W.history world.old)
-        (λ files. planned files made.now flags.now.requested flags.now.query ≡ Ok plan.now)
+        (λ files. planned files made.now flags.now.requested flags.now.query ≡ Ok plan)
         → spec.Queries made.now flags.now (point first out) (point (W.history world.new) out) result }
     ensures world_cause { runs.EndCause world_failed (W.faults world.old) (W.faults world.new)
         result.end }
     ensures no_sink { result.end ≡ sink_failed → ⊥ }
     ensures idle { W.runs world.new [] }
 {
-    let Ok(names) = names_of(alloc, plan) else {
-        return unbuilt(alloc, End::NoMemory);
-    };
-    let asked = query(alloc, plan, made, flags, world);
+    let asked = query(alloc, &plan, made, flags, world);
+    let names = plan.into_names();
     Went {
         end: end_of(alloc, &names, asked.result),
         plan: names,
@@ -83,7 +80,7 @@ pub fn query_targets<W: World>(alloc: Global, made: &Made, flags: &Flags, world:
     ensures idle { W.runs world.new [] }
 {
     match make_plan(alloc, made, &flags.requested, flags.query, world) {
-        Ok(plan) => query_plan(alloc, &plan, made, flags, world),
+        Ok(plan) => query_plan(alloc, plan, made, flags, world),
         Err(fault) => unbuilt(alloc, End::from(fault)),
     }
 }

@@ -1,12 +1,12 @@
 use mk_bytes::{Kind, Text, Texts};
 use mk_expand::ExpandFault;
-use mk_plan::PlanFault;
+use mk_plan::{PlanFault, PlanNames};
 use mk_reader::{ReadFault, What};
 use mk_trace::Events;
 use mk_world::SinkFault;
 
 /// How a run ends.
-#[derive(Debug, Drop)]
+#[derive(Drop)]
 pub enum End {
     /// All went well. Status 0.
     Done,
@@ -44,11 +44,11 @@ pub enum End {
 
 /// What a run answers: its exit status, how it ended, the names of the nodes in plan order, and what
 /// the build did. Both lists are empty where there was no build.
-#[derive(Debug, Drop)]
+#[derive(Drop)]
 pub struct Report {
     pub status: u8,
     pub end: End,
-    pub plan: Texts,
+    pub plan: PlanNames,
     pub events: Events,
 }
 

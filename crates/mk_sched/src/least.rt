@@ -1,7 +1,7 @@
 //! The least of the ready nodes. A node is entered with its number where it is ready, and else with
 //! the number of nodes. These entries are the later half of a list, and each earlier entry is the
 //! lesser of the two at twice its place.
-ghost use Rattle.std.specs.Prelude.{◌≡◌, ◌≢◌, ◌+◌, ◌*◌, ◌<◌, ◌≤◌, ◌^◌, ℕ, List, length, min, set};
+ghost use Rattle.std.specs.Prelude.{◌≡◌, ◌≢◌, ◌+◌, ◌*◌, ◌/◌, ◌<◌, ◌≤◌, ◌^◌, ℕ, List, length, min, set};
 ghost use Rattle.mk_plan.specs.Deciding.{first_ready};
 ghost use Rattle.mk_plan.specs.declared.plan.NodeState.{NodeState};
 ghost use Rattle.mk_sched.specs.Counts.{AreCounts, is_ready};
@@ -32,6 +32,18 @@ pub fn compare_all(entries: &mut Vec<u32>, count: usize)
     }
 }
 
+// The lesser of an entry and of the one beside it, with which it is below the same place.
+fn lesser_beside(entries: &[u32], place: usize, value: u32) -> u32
+    requires some { 1 < place }
+    requires within { 2 * (place / 2) + 1 < length entries.now }
+    requires here { value ≡ spec.entry entries.now place }
+    ensures { result ≡ min (spec.entry entries.now (2 * (place / 2)))
+        (spec.entry entries.now (2 * (place / 2) + 1)) }
+{
+    let beside = if place % 2 == 0 { place + 1 } else { place - 1 };
+    value.min(entries[beside])
+}
+
 // Enters a node, and lets the entries above it follow.
 fn enter(entries: &mut Vec<u32>, count: usize, node: usize, value: u32)
     requires tournament { spec.IsTournament count entries.old.items }
@@ -43,10 +55,12 @@ fn enter(entries: &mut Vec<u32>, count: usize, node: usize, value: u32)
         ≡ spec.entry entries.old.items (count + other) }
 {
     let mut place = count + node;
-    entries[place] = value;
+    let mut least = value;
+    entries[place] = least;
     while place > 1 {
+        least = lesser_beside(entries, place, least);
         place /= 2;
-        entries[place] = lesser(entries, place);
+        entries[place] = least;
     }
 }
 

@@ -1,5 +1,5 @@
 -- What is told of a run inside: how many targets it has started and kept.
-use Rattle.std.specs.Prelude.{ℕ, Bool, false, ◌==◌, ◌&&◌, List, [], ◌∷◌, ◌++◌, length, map, slice_get, unwrap_or, count_by, sum_by, codes, decimal}
+use Rattle.std.specs.Prelude.{ℕ, Bool, false, ◌==◌, ◌&&◌, List, [], ◌∷◌, ◌++◌, length, map, get_or, unwrap_or, count_by, sum_by, codes, decimal}
 use Rattle.mk_run.specs.declared.report.Report.{Report}
 use Rattle.mk_trace.specs.declared.event.Event.{Event}
 use Rattle.mk_trace.specs.declared.event.Event.TheVariants.{Kept, Refused, Shown, Start, End, Wait}
@@ -13,7 +13,7 @@ is_target (byte ∷ rest) = byte == 111
 
 -- whether the node at a place of the plan is a target
 abbrev pub is_target_at : List (List ℕ) → ℕ → Bool
-is_target_at plan n = is_target (unwrap_or (slice_get plan n) [])
+is_target_at plan n = is_target (get_or plan n [])
 
 -- A target is started with its first line.
 abbrev pub starts : List (List ℕ) → Event → Bool

@@ -6,9 +6,9 @@ ghost use Rattle.mk_top.specs.Input.{line};
 
 use crate::input::{name, push_all};
 use itoa::Buffer;
-use mk_bytes::{NoMemory, Text, Texts};
+use mk_bytes::{NoMemory, Text};
 use mk_memworld::MemWorld;
-use mk_run::{Event, Report};
+use mk_run::{Event, PlanNames, Report};
 use std::alloc::Global;
 
 fn is_target(name: &[u8]) -> bool
@@ -21,16 +21,13 @@ fn is_target(name: &[u8]) -> bool
 }
 
 // Whether the node at a place of the plan is a target.
-fn is_target_at(plan: &Texts, n: u32) -> bool
+fn is_target_at(plan: &PlanNames, n: u32) -> bool
     ensures { result ≡ spec.is_target_at plan.now n }
 {
-    match plan.as_slice().get(n as usize) {
-        Some(name) => is_target(name.bytes()),
-        None => false,
-    }
+    is_target(plan.at(n))
 }
 
-fn starts(plan: &Texts, event: &Event) -> bool
+fn starts(plan: &PlanNames, event: &Event) -> bool
     ensures { result ≡ spec.starts plan.now event.now }
 {
     match event {
@@ -39,7 +36,7 @@ fn starts(plan: &Texts, event: &Event) -> bool
     }
 }
 
-fn keeps(plan: &Texts, event: &Event) -> bool
+fn keeps(plan: &PlanNames, event: &Event) -> bool
     ensures { result ≡ spec.keeps plan.now event.now }
 {
     match event {

@@ -15,7 +15,7 @@ use mk_world::WorldFault;
 use std::alloc::Global;
 
 // What a run inside is asked.
-#[derive(Debug, Drop)]
+#[derive(Drop)]
 struct Request {
     words: Texts,
     order: Order,

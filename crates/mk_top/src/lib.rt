@@ -6,5 +6,5 @@ mod input;
 mod inside;
 mod running;
 
-pub use mk_run::{End, Event, Events, Report};
+pub use mk_run::{End, Event, Events, PlanNames, Report};
 pub use running::run;

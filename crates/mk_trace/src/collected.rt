@@ -2,7 +2,7 @@ use mk_bytes::Text;
 use mk_filemon::Recs;
 
 /// What the job of a node collects for its meta file.
-#[derive(Debug, Drop)]
+#[derive(Drop)]
 pub struct Collected {
     /// When the job began: the time of the head of its meta file, or 0 where it has none.
     pub owner: u64,

@@ -6,7 +6,7 @@ use std::marker::Model;
 
 /// What a build did with a node, which is named by its place in the plan, and with its lines,
 /// which are counted from 1.
-#[derive(Clone, Copy, Debug, PartialEq, Eq)]
+#[derive(Clone, Copy, PartialEq, Eq)]
 pub enum Event {
     /// The node was up to date.
     Kept(u32),
@@ -23,7 +23,7 @@ pub enum Event {
 }
 
 /// What a build did, in order. Contracts see the list of events.
-#[derive(Debug, Drop)]
+#[derive(Drop)]
 pub struct Events {
     events: Vec<Event>,
 }

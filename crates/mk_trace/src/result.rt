@@ -2,7 +2,7 @@ use crate::event::Events;
 use mk_expand::ExpandFault;
 
 /// How a build ends. Nodes are named by their places in the plan, lines by their numbers from 1.
-#[derive(Debug, Drop)]
+#[derive(Drop)]
 pub enum BuildResult {
     /// Every node is up to date or was made.
     Done,
@@ -19,7 +19,7 @@ pub enum BuildResult {
 }
 
 /// What has failed in a build, by the node's place in the plan and the line's number from 1.
-#[derive(Debug, Drop)]
+#[derive(Drop)]
 pub enum Failure {
     /// This line of this node ended with this status.
     JobFailed(u32, u32, u8),
@@ -28,7 +28,7 @@ pub enum Failure {
 }
 
 /// How a build ended, and what it did.
-#[derive(Debug, Drop)]
+#[derive(Drop)]
 pub struct BuildEnd {
     pub result: BuildResult,
     pub events: Events,

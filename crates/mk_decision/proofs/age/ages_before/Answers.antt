@@ -2,7 +2,6 @@ use Rattle.std.proofs.Common.{◌≡◌, ◌∙◌, ◌+◌, ◌-◌, ◌∷◌,
 use Rattle.mk_plan.proofs.ListLemmas.{items-from}
 use Rattle.mk_decision.specs.Known.{known}
 use Rattle.mk_decision.proofs.AgeLemmas.{age-more, before-at}
-use Rattle.mk_decision.proofs.SetLemmas.{known-here, known-other}
 use Rattle.mk_decision.proofs.age.ages_before.Goals as goal
 
 pub age_of-age-requires : goal.age_of-age-requires
@@ -26,9 +25,6 @@ loop-left-preserved c =
     record {
       within = omega arith;
       are = age-more c.args.plan.now (drop i seen) (drop l.left seen) one (known l.ages)
-          (known c.insert.new.self) c.age_of-age.result are l.invariant.are c.age_of-age.ensures
-          (known-here l.ages c.insert.new.self one.place c.age_of-age.result
-          c.in_ok-insert.ensures.updates)
-          (known-other l.ages c.insert.new.self one.place c.age_of-age.result
-          c.in_ok-insert.ensures.updates);
+          (known c.add_age.new.ages) c.age_of-age.result are l.invariant.are
+          c.age_of-age.ensures c.in_ok-add_age.ensures.here c.in_ok-add_age.ensures.others;
     }

@@ -1,7 +1,6 @@
 use Rattle.std.proofs.Common.{arith}
 use Rattle.std.proofs.lemmas.Grind.{common_steps}
-use Rattle.std.specs.BTreeSet.{contains}
-use Rattle.std.specs.Ordering.{nat_cmp}
+use Rattle.mk_decision.specs.Wants.{has}
 use Rattle.mk_decision.proofs.SightLemmas.{walk-comes, walk-ends}
 use Rattle.mk_decision.proofs.sight.look_back.Goals as goal
 
@@ -11,17 +10,17 @@ nodes-preserved g c =
     let plan = c.args.plan.now in
     let place = c.in-Some.place in
     let taken = c.in-Some.ensures.taken in
-    let has = contains nat_cmp l.wanted in
-    let now = contains nat_cmp c.take_last.new.wanted in
+    let before = has l.wanted in
+    let now = has c.take_last.new.self in
     let within = l.invariant.below place taken.counts in
     let more = c.in_ok-visit.ensures.more in
     record {
       children = λ kids runs. c.in_ok-visit.ensures.children kids (l.invariant.children kids runs);
-      below = λ one holds. let before = c.in_ok-visit.ensures.below one holds in omega arith;
+      below = λ one holds. let earlier = c.in_ok-visit.ensures.below one holds in omega arith;
       walk = λ first are. let on = l.invariant.walk first are in (
         place,
         c.in_ok-visit.ensures.walk c.args.node first
-            (walk-comes plan c.args.node first place on.0 has now l.seen taken on.1),
+            (walk-comes plan c.args.node first place on.0 before now l.seen taken on.1),
       );
       looked = c.in_ok-visit.ensures.looked (g.W.World.history c.args.world.now)
           l.invariant.looked;
@@ -31,5 +30,5 @@ nodes-preserved g c =
 pub returns-clause-walk : goal.returns-clause-walk
 returns-clause-walk g c = λ first are.
     let on = c.nodes.invariant.walk first are in
-    walk-ends c.args.plan.now c.args.node first on.0 (contains nat_cmp c.nodes.wanted) c.nodes.seen
+    walk-ends c.args.plan.now c.args.node first on.0 (has c.nodes.wanted) c.nodes.seen
     c.in_default.ensures.none on.1

@@ -1,5 +1,4 @@
-use Rattle.std.specs.BTreeSet.{contains}
-use Rattle.std.specs.Ordering.{nat_cmp}
+use Rattle.mk_decision.specs.Wants.{has}
 use Rattle.mk_world.proofs.SinkLemmas.{OnErr-from}
 use Rattle.mk_plan.specs.Plans.{node_at}
 use Rattle.mk_decision.specs.Ages.{counted, is_one_of}
@@ -29,14 +28,14 @@ returns-in_err-push-clause-some g c =
 
 pub returns-clause-below : goal.returns-clause-below
 returns-clause-below g c =
-    still-below c.args.place (contains nat_cmp c.args.wanted.now)
+    still-below c.args.place (has c.args.wanted.now)
     (is_one_of (counted (node_at c.args.plan.now c.args.place) c.in_ok-when.when))
-    (contains nat_cmp c.want_counted.new.wanted) c.in_ok-want_counted.ensures c.requires.below
+    (has c.want_counted.new.wanted) c.in_ok-want_counted.ensures c.requires.below
 
 pub returns-clause-walk : goal.returns-clause-walk
 returns-clause-walk g c = λ node first at.
-    walk-looks c.args.plan.now node first c.args.place (contains nat_cmp c.args.wanted.now)
-    (contains nat_cmp c.want_counted.new.wanted) c.in_ok-when.when c.args.seen.now c.push.new.self
+    walk-looks c.args.plan.now node first c.args.place (has c.args.wanted.now)
+    (has c.want_counted.new.wanted) c.in_ok-when.when c.args.seen.now c.push.new.self
     c.in_ok-want_counted.ensures c.in_ok-push.ensures.ok at
 
 pub returns-clause-looked : goal.returns-clause-looked

@@ -10,6 +10,7 @@ invariant-loop-place l = record {
   within : l.place < 2 * l.count;
   each : (above : ℕ) → 0 < above → above < l.count → 2 * above ≢ l.place
       → 2 * above + 1 ≢ l.place → IsLesser l.entries.items above;
+  last : l.least ≡ entry l.entries.items l.place;
   here : entry l.entries.items (l.count + l.node) ≡ l.value;
   others : (other : ℕ) → other < l.count → other ≢ l.node
       → entry l.entries.items (l.count + other) ≡ entry l.fn.entries.items (l.count + other);
