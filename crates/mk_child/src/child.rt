@@ -1,5 +1,5 @@
 //! One child: its line is started, it is waited for, and its end is printed.
-ghost use Rattle.std.specs.Prelude.{◌≡◌, ◌⊎◌, ◌<◌, ℕ, [], ◌∷◌, ◌++◌, Option, Some, false, length, nat_eq, IsTrue, IfOk, OnOk, OnErr};
+ghost use Rattle.std.specs.Prelude.{◌≡◌, ◌⊎◌, ◌+◌, ◌≤◌, ◌<◌, ℕ, [], ◌∷◌, ◌++◌, Option, Some, false, length, nat_eq, IsTrue, IfOk, OnOk, OnErr, vec_capacity, vec_len};
 ghost use Rattle.std.specs.List.{list_any};
 ghost use Rattle.mk_bytes.specs.Paths.{is_clean_directory};
 ghost use Rattle.mk_trace.specs.Calls.{Called, NoItem, StartItem, EndItem};
@@ -14,7 +14,7 @@ ghost use Rattle.mk_world.specs.declared.fault.WorldFault.TheVariants.{Failed as
 
 use mk_bytes::{Items, NoMemory, Text};
 use mk_plan::Plan;
-use mk_trace::{Event, Events};
+use mk_trace::{Event, put};
 use mk_world::{
     Cmd, Ended, Kids, Sink, SinkFault, TaskLine, Ticket, Time, World, WorldFault, write_all,
 };
@@ -40,12 +40,21 @@ pub fn command(alloc: Global, line: &TaskLine, cwd: &[u8]) -> Result<Cmd, NoMemo
     })
 }
 
+// Makes room for so many events more.
+fn make_room(events: &mut Vec<Event>, count: usize) -> Result<(), NoMemory>
+    ensures same { events.new.items ≡ events.old.items }
+    ensures room { OnOk result (vec_len events.new + count ≤ vec_capacity events.new) }
+{
+    events.reserve(count)?;
+    Ok(())
+}
+
 /// Starts the child of a line, for the start stamp of its job, and tells of it.
 pub fn start_child<W: World>(
     alloc: Global,
     world: &mut W,
     kids: &mut Kids<W::Kid>,
-    events: &mut Events,
+    events: &mut Vec<Event>,
     place: Place,
     ticket: u32,
     owner: Time,
@@ -60,41 +69,26 @@ pub fn start_child<W: World>(
     ensures refused { OnErr result
         (Called W.meaning (W.history world.old) (W.history world.new) NoItem) }
     ensures told { OnOk result
-        (events.new ≡ events.old ++ event.Start place.node place.number ∷ []) }
-    ensures untold { OnErr result (events.new ≡ events.old) }
+        (events.new.items ≡ events.old.items ++ event.Start place.node place.number ∷ []) }
+    ensures untold { OnErr result (events.new.items ≡ events.old.items) }
     ensures held { OnOk result (kids.new.tickets ≡ kids.old.tickets ++ ticket ∷ []) }
     ensures same { OnErr result (kids.new ≡ kids.old) }
     ensures same_room { kids.new.room ≡ kids.old.room }
     ensures cause { HasCause world_failed (W.faults world.old) (W.faults world.new) result }
     ensures children { W.runs world.new kids.new.tickets }
 {
-    events.push(Event::Start(place.node, place.number))?;
-    if let Err(fault) = world.start(alloc, kids, Ticket(ticket), owner, cmd) {
-        events.drop_last();
-        return Err(fault);
-    }
+    make_room(events, 1)?;
+    world.start(alloc, kids, Ticket(ticket), owner, cmd)?;
+    put(events, Event::Start(place.node, place.number));
     Ok(())
 }
 
-// Tells of a wait, and of an end in the place of the one that is to come.
-fn expect_end(events: &mut Events) -> Result<(), NoMemory>
-    ensures told { OnOk result (events.new ≡ events.old ++ event.Wait ∷ event.End 0 0 0 ∷ []) }
-    ensures untold { OnErr result (events.new ≡ events.old) }
-{
-    events.push(Event::Wait)?;
-    if events.push(Event::End(0, 0, 0)).is_err() {
-        events.drop_last();
-        return Err(NoMemory);
-    }
-    Ok(())
-}
-
-/// Waits for a child and takes it in. Tells of the wait, and of an end in the place of the child's.
+/// Waits for a child and takes it in. Tells of the wait, and leaves room to tell of the child's end.
 pub fn wait_child<W: World>(
     alloc: Global,
     world: &mut W,
     kids: &mut Kids<W::Kid>,
-    events: &mut Events,
+    events: &mut Vec<Event>,
 ) -> Result<Ended, WorldFault>
     requires exact { W.runs world.old kids.old.tickets }
     requires some { 0 < length kids.old.tickets }
@@ -102,10 +96,10 @@ pub fn wait_child<W: World>(
         (W.history world.new) (EndItem node number ended)) }
     ensures refused { OnErr result
         (Called W.meaning (W.history world.old) (W.history world.new) NoItem) }
-    ensures told { OnOk result
-        (events.new ≡ events.old ++ event.Wait ∷ event.End 0 0 0 ∷ []) }
+    ensures told { OnOk result (events.new.items ≡ events.old.items ++ event.Wait ∷ []) }
     ensures untold { OnErr result
-        ((events.new ≡ events.old) ⊎ (events.new ≡ events.old ++ event.Wait ∷ [])) }
+        ((events.new.items ≡ events.old.items) ⊎ (events.new.items ≡ events.old.items ++ event.Wait ∷ [])) }
+    ensures room { OnOk result (vec_len events.new < vec_capacity events.new) }
     ensures taken { IfOk result
         (λ ended. TakenOut ended.ticket.0 kids.old.tickets kids.new.tickets) }
     ensures same { OnErr result (kids.new ≡ kids.old) }
@@ -113,14 +107,10 @@ pub fn wait_child<W: World>(
     ensures cause { HasCause world_failed (W.faults world.old) (W.faults world.new) result }
     ensures children { W.runs world.new kids.new.tickets }
 {
-    expect_end(events)?;
-    match world.wait_any(alloc, kids) {
-        Err(fault) => {
-            events.drop_last();
-            Err(fault)
-        }
-        Ok(ended) => Ok(ended),
-    }
+    make_room(events, 2)?;
+    put(events, Event::Wait);
+    let ended = world.wait_any(alloc, kids)?;
+    Ok(ended)
 }
 
 /// Whether a line with this status has failed: a line that is ignored does not.

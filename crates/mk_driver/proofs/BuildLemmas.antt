@@ -159,7 +159,7 @@ pub ended-over : (meaning : Meaning) (work : Work) (course : Course) (history : 
     (first : Moment) (out : Option (List ℕ))
     → course.sched.rules ≡ rules_of work → next_of course.sched ≡ Over
     → GoingAt meaning work history course first out
-    → EndedAt meaning work (result_of course.failure) first (moment history out course.events)
+    → EndedAt meaning work (result_of course.failure) first (moment history out course.events.items)
 ended-over meaning work course history first out rules over going =
     let is = next-over (may_decide course.sched.rules course.sched.nodes)
     (open_jobs course.sched.nodes) over in
@@ -167,9 +167,9 @@ ended-over meaning work course history first out rules over going =
     subst (λ (r : Rules). may_decide r course.sched.nodes ≡ None) rules is.0 in (
       going.0,
       course.last_shown,
-      subst (λ b. SoFar meaning work b first (moment history out course.events) course.last_shown going.0
+      subst (λ b. SoFar meaning work b first (moment history out course.events.items) course.last_shown going.0
           (λ tasks build. StandsBy work (result_of course.failure) build)) (uncut course.failure)
-          (so_far-weaken meaning work false first (moment history out course.events) course.last_shown
+          (so_far-weaken meaning work false first (moment history out course.events.items) course.last_shown
           going.0 going.0 _ _ going.2 (λ tasks has. has)
           (λ tasks build has is_going. stands-result work course.failure build
           (over-of work course.failure build tasks going.0 course.sched.nodes course.jobs.items none is.1

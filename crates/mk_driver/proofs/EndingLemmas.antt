@@ -140,7 +140,7 @@ abbrev pub FailingAt : Meaning → Work → Option History → Course → Job �
     → Option (List ℕ) → Type 0
 FailingAt meaning work history course job status first out =
     (known : Known) × AreUnknown known course.sched.nodes
-    × SoFar meaning work false first (moment history out course.events) course.last_shown known
+    × SoFar meaning work false first (moment history out course.events.items) course.last_shown known
     (IsFailing known (set course.sched.nodes job.node Failed) course.jobs.items
     (or_next course.failure (Some (JobFailed job.node job.number status)))
     (if is_removed work job.node then remove job.node else free))
@@ -153,7 +153,7 @@ pub failing-at : (meaning : Meaning) (work : Work) (history : Option History) (c
 failing-at meaning work history course job status first out fails at = (
   at.0,
   at.1,
-  subst (λ b. SoFar meaning work false first (moment history out course.events) course.last_shown at.0
+  subst (λ b. SoFar meaning work false first (moment history out course.events.items) course.last_shown at.0
       (IsEnding work at.0 course.sched.nodes course.jobs.items course.failure job.node job.task.lines
       job.collected job.number status b (nat_le (length job.task.lines) job.number)
       (is_stopped (rules_of work) course.sched.nodes)))
@@ -179,7 +179,7 @@ pub going-removed : (meaning : Meaning) (work : Work) (history later : Option Hi
     → is_removed work job.node ≡ true
     → Called meaning history later (GoneItem job.node (node_at work.plan job.node).name)
     → EndingAt meaning work history course job status first out
-    → GoingAs meaning work later course schedule course.events failure first out
+    → GoingAs meaning work later course schedule course.events.items failure first out
 going-removed meaning work history later course schedule failure job status first out token fails
     schedule_is failure_is doomed call at =
     let f = failing-at meaning work history course job status first out fails at in
@@ -189,8 +189,8 @@ going-removed meaning work history later course schedule failure job status firs
       unknown-set f.0 course.sched.nodes job.node Failed within (λ is. cc) f.1,
       so_far-removes meaning work f.0 (set course.sched.nodes job.node Failed) course.jobs.items
           (or_next course.failure (Some (JobFailed job.node job.number status))) job.node
-          course.last_shown first (moment history out course.events)
-          (moment later out course.events) (rw doomed at f.2) call refl refl,
+          course.last_shown first (moment history out course.events.items)
+          (moment later out course.events.items) (rw doomed at f.2) call refl refl,
     )
 
 pub going-failed_at : (meaning : Meaning) (work : Work) (history : Option History)
@@ -202,7 +202,7 @@ pub going-failed_at : (meaning : Meaning) (work : Work) (history : Option Histor
     → failure ≡ or_next course.failure (Some (JobFailed job.node job.number status))
     → is_removed work job.node ≡ false
     → EndingAt meaning work history course job status first out
-    → GoingAs meaning work history course schedule course.events failure first out
+    → GoingAs meaning work history course schedule course.events.items failure first out
 going-failed_at meaning work history course schedule failure job status first out token fails
     schedule_is failure_is doomed at =
     let f = failing-at meaning work history course job status first out fails at in
@@ -218,11 +218,11 @@ pub halted-removing : (meaning : Meaning) (work : Work) (halt : Halt)
     (history later : Option History) (course : Course) (job : Job) (status : ℕ) (first : Moment)
     (out : Option (List ℕ)) → Called meaning history later NoItem
     → EndingAt meaning work history course job status first out
-    → HaltedAt meaning work halt later course.events first out
+    → HaltedAt meaning work halt later course.events.items first out
 halted-removing meaning work halt history later course job status first out call at =
-    halted meaning work halt first later out course.events course.last_shown at.0 _
-    (so_far-nothing meaning work first (moment history out course.events)
-    (moment later out course.events) course.last_shown at.0 _ at.2 call refl refl)
+    halted meaning work halt first later out course.events.items course.last_shown at.0 _
+    (so_far-nothing meaning work first (moment history out course.events.items)
+    (moment later out course.events.items) course.last_shown at.0 _ at.2 call refl refl)
 
 -- a job is cut off by the failure of another one
 pub going-cut_off : (meaning : Meaning) (work : Work) (history : Option History)
@@ -234,11 +234,11 @@ pub going-cut_off : (meaning : Meaning) (work : Work) (history : Option History)
     → is_stopped (rules_of work) course.sched.nodes ≡ true
     → schedule ≡ with_node course.sched job.node Settled
     → EndingAt meaning work history course job status first out
-    → GoingAs meaning work history course schedule course.events course.failure first out
+    → GoingAs meaning work history course schedule course.events.items course.failure first out
 going-cut_off meaning work history course schedule job status first out token fails last stopped
     schedule_is at =
     let within = open_within course.sched.nodes job.node token in
-    let so : SoFar meaning work false first (moment history out course.events) course.last_shown at.0
+    let so : SoFar meaning work false first (moment history out course.events.items) course.last_shown at.0
     (IsEnding work at.0 course.sched.nodes course.jobs.items course.failure job.node job.task.lines
     job.collected job.number status false false true) = rw (fails, last, stopped) at at.2 in
     rw schedule_is (
@@ -255,7 +255,7 @@ pub over-ended : (meaning : Meaning) (work : Work) (history : Option History)
     → EndingAt meaning work history course job status first out
     → OverAt meaning work history course job first out
 over-ended meaning work history course job status first out fails last at =
-    let so : SoFar meaning work false first (moment history out course.events) course.last_shown at.0
+    let so : SoFar meaning work false first (moment history out course.events.items) course.last_shown at.0
     (IsEnding work at.0 course.sched.nodes course.jobs.items course.failure job.node job.task.lines
     job.collected job.number status false true (is_stopped (rules_of work) course.sched.nodes)) =
     rw (fails, last) at at.2 in
@@ -269,14 +269,14 @@ pub behind-ended : (meaning : Meaning) (work : Work) (history : Option History)
     → is_stopped (rules_of work) course.sched.nodes ≡ false
     → job.number < length job.task.lines
     → EndingAt meaning work history course job status first out
-    → BehindAt meaning work history course course.events job first out
+    → BehindAt meaning work history course course.events.items job first out
 behind-ended meaning work history course job status first out fails last stopped more at =
-    let so : SoFar meaning work false first (moment history out course.events) course.last_shown at.0
+    let so : SoFar meaning work false first (moment history out course.events.items) course.last_shown at.0
     (IsEnding work at.0 course.sched.nodes course.jobs.items course.failure job.node job.task.lines
     job.collected job.number status false false false) = rw (fails, last, stopped) at at.2 in (
       at.0,
       at.1,
-      so_far-weaken meaning work false first (moment history out course.events) course.last_shown at.0
+      so_far-weaken meaning work false first (moment history out course.events.items) course.last_shown at.0
           at.0 _ _ so (λ tasks has. has)
           (λ tasks build has is. ((λ more. is), (λ none. absurd (not_both more none)))),
     )
@@ -395,7 +395,7 @@ pub going-closed : (meaning : Meaning) (work : Work) (history later : Option His
     → schedule ≡ with_node course.sched job.node Settled
     → HasClosed meaning work history later job
     → OverAt meaning work history course job first out
-    → GoingAs meaning work later course schedule course.events course.failure first out
+    → GoingAs meaning work later course schedule course.events.items course.failure first out
 going-closed meaning work history later course schedule job first out token schedule_is closed at =
     let within = open_within course.sched.nodes job.node token in
     rw schedule_is (
@@ -412,19 +412,19 @@ going-closed meaning work history later course schedule job first out token sche
         (open_within course.sched.nodes job.node token)
 
     by : HasClosed meaning work history later job
-        → SoFar meaning work false first (moment later out course.events) course.last_shown at.0
+        → SoFar meaning work false first (moment later out course.events.items) course.last_shown at.0
         (IsGoing at.0 nodes run.anything course.jobs.items course.failure)
     by (inl written) =
         so_far-whole meaning work at.0 nodes course.jobs.items course.failure job course.last_shown
-        first (moment written.between out course.events) (moment later out course.events) written.writes.time
+        first (moment written.between out course.events.items) (moment later out course.events.items) written.writes.time
         written.countable written.few (so_far-dated meaning work at.0 nodes course.jobs.items course.failure job course.last_shown first
-        (moment history out course.events) (moment written.between out course.events) settled at.2
+        (moment history out course.events.items) (moment written.between out course.events.items) settled at.2
         written.asked refl refl) written.writes.call refl refl
     by (inr plain) =
-        so_far-weaken meaning work false first (moment later out course.events) course.last_shown at.0 at.0
+        so_far-weaken meaning work false first (moment later out course.events.items) course.last_shown at.0 at.0
         _ _
-        (so_far-nothing meaning work first (moment history out course.events)
-        (moment later out course.events) course.last_shown at.0 _ at.2 plain.call refl refl)
+        (so_far-nothing meaning work first (moment history out course.events.items)
+        (moment later out course.events.items) course.last_shown at.0 _ at.2 plain.call refl refl)
         (λ tasks has. has)
         (λ tasks build has is. closed-plain work at.0 nodes course.jobs.items course.failure
         job.node job.task.lines job.collected tasks build plain.no_meta is)
@@ -435,20 +435,20 @@ pub halted-closing : (meaning : Meaning) (work : Work) (halt : Halt) (history la
     → get_or course.sched.nodes job.node Undecided ≡ Open
     → IsUnclosed meaning work history later job
     → OverAt meaning work history course job first out
-    → HaltedAt meaning work halt later course.events first out
+    → HaltedAt meaning work halt later course.events.items first out
 halted-closing meaning work halt history later course job first out token (inl none) at =
-    halted meaning work halt first later out course.events course.last_shown at.0 _
-    (so_far-nothing meaning work first (moment history out course.events)
-    (moment later out course.events) course.last_shown at.0 _ at.2 none refl refl)
+    halted meaning work halt first later out course.events.items course.last_shown at.0 _
+    (so_far-nothing meaning work first (moment history out course.events.items)
+    (moment later out course.events.items) course.last_shown at.0 _ at.2 none refl refl)
 halted-closing meaning work halt history later course job first out token (inr part) at =
     let within = open_within course.sched.nodes job.node token in
     let nodes = set course.sched.nodes job.node Settled in
     let settled = get_or-set_same course.sched.nodes job.node Settled Undecided within in
-    halted meaning work halt first later out course.events course.last_shown at.0 _
+    halted meaning work halt first later out course.events.items course.last_shown at.0 _
     (so_far-cut_whole meaning work at.0 nodes course.jobs.items course.failure job
-    course.last_shown first (moment part.between out course.events) (moment later out course.events)
+    course.last_shown first (moment part.between out course.events.items) (moment later out course.events.items)
     part.countable part.few (so_far-dated meaning work at.0 nodes course.jobs.items course.failure job course.last_shown first
-    (moment history out course.events) (moment part.between out course.events) settled at.2 part.asked
+    (moment history out course.events.items) (moment part.between out course.events.items) settled at.2 part.asked
     refl refl) part.call refl refl)
 
 -- the child of a line was started
@@ -458,9 +458,9 @@ pub going-started : (meaning : Meaning) (work : Work) (history later : Option Hi
     → HasToken course.sched.nodes course.jobs.items job.node
     → HasLine job.task.lines job.number one → cmd ≡ command_of work one
     → Called meaning history later (StartItem job.node job.number job.ticket job.collected.owner cmd)
-    → events ≡ course.events ++ event.Start job.node job.number ∷ []
+    → events ≡ course.events.items ++ event.Start job.node job.number ∷ []
     → jobs ≡ course.jobs.items ++ job ∷ []
-    → BehindOn meaning work history course course.events job.node job.task.lines job.collected
+    → BehindOn meaning work history course course.events.items job.node job.task.lines job.collected
     (job.number - 1) first out
     → (known : Known) × AreUnknown known course.sched.nodes
     × SoFar meaning work false first (moment later out events) course.last_shown known
@@ -470,7 +470,7 @@ going-started meaning work history later course events jobs job one cmd first ou
       at.0,
       at.1,
       rw jobs_are (so_far-starts meaning work at.0 course.sched.nodes course.jobs.items course.failure job
-          one cmd course.last_shown first (moment history out course.events) (moment later out events) at.2
+          one cmd course.last_shown first (moment history out course.events.items) (moment later out events) at.2
           token has_line command call told refl),
     )
 

@@ -153,7 +153,7 @@ IsUnstopped work course = is_stopped (rules_of work) course.sched.nodes ≡ fals
 abbrev pub GoingAt : Meaning → Work → Option History → Course → Moment → Option (List ℕ) → Type 0
 GoingAt meaning work history course first out =
     (known : Known) × AreUnknown known course.sched.nodes
-    × SoFar meaning work false first (moment history out course.events) course.last_shown known
+    × SoFar meaning work false first (moment history out course.events.items) course.last_shown known
     (IsGoing known course.sched.nodes run.anything course.jobs.items course.failure)
 
 -- a node was looked at
@@ -161,7 +161,7 @@ abbrev pub SeenAt : Meaning → Work → Option History → Course → ℕ → L
     → Option (List ℕ) → Type 0
 SeenAt meaning work history course n seen first out =
     (known : Known) × AreUnknown known course.sched.nodes
-    × SoFar meaning work false first (moment history out course.events) course.last_shown known
+    × SoFar meaning work false first (moment history out course.events.items) course.last_shown known
     (IsLookedAt known course.sched.nodes course.jobs.items course.failure n seen)
 
 -- so many lines of a node have ended, and it has no child; the report has these events
@@ -183,7 +183,7 @@ abbrev pub EndingOn : Meaning → Work → Option History → Course → Job →
     → Option (List ℕ) → Type 0
 EndingOn meaning work history course job collected status first out =
     (known : Known) × AreUnknown known course.sched.nodes
-    × SoFar meaning work false first (moment history out course.events) course.last_shown known
+    × SoFar meaning work false first (moment history out course.events.items) course.last_shown known
     (IsEnding work known course.sched.nodes course.jobs.items course.failure job.node job.task.lines
     collected job.number status (run.fails (run.line_of job.task.lines job.number) status)
     (nat_le (length job.task.lines) job.number) (is_stopped (rules_of work) course.sched.nodes))
@@ -202,7 +202,7 @@ OverOn meaning work history course events job first out =
     job.node job.task.lines job.collected)
 
 abbrev pub OverAt : Meaning → Work → Option History → Course → Job → Moment → Option (List ℕ) → Type 0
-OverAt meaning work history course job = OverOn meaning work history course course.events job
+OverAt meaning work history course job = OverOn meaning work history course course.events.items job
 
 -- a build that the outside has ended
 abbrev pub HaltedAt : Meaning → Work → Halt → Option History → List Event → Moment
@@ -225,7 +225,7 @@ pub record IsFirstCourse (plan : List PlanNode) (jobs : ℕ) (keep_going : Bool)
   where
     pub sched : course.sched ≡ schedule_of plan jobs keep_going (none_decided plan)
     pub jobs_are : course.jobs.items ≡ []
-    pub events : course.events ≡ []
+    pub events : course.events.items ≡ []
     pub last : course.last_shown ≡ None
     pub failure : course.failure ≡ None
 

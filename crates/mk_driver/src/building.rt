@@ -41,7 +41,7 @@ fn take_in_ready<W: World, S: Sink>(
         (S.held out.new)) }
     ensures halted { IfErr result (λ halt. (first : Moment)
         → GoingAt W.meaning (work_of maker.now) (W.history world.old) course.old first (S.held out.old)
-        → HaltedAt W.meaning (work_of maker.now) halt (W.history world.new) course.new.events first
+        → HaltedAt W.meaning (work_of maker.now) halt (W.history world.new) course.new.events.items first
         (S.held out.new)) }
     ensures fits { OnOk result (Fits (work_of maker.now) course.new kids.new.tickets kids.new.room 0) }
     ensures nodes { OnOk result (undecided course.new.sched.nodes ≡ undecided course.old.sched.nodes) }
@@ -74,7 +74,7 @@ fn make_next<W: World, S: Sink>(
         (S.held out.new)) }
     ensures halted { IfErr result (λ halt. (first : Moment)
         → GoingAt W.meaning (work_of maker.now) (W.history world.old) course.old first (S.held out.old)
-        → HaltedAt W.meaning (work_of maker.now) halt (W.history world.new) course.new.events first
+        → HaltedAt W.meaning (work_of maker.now) halt (W.history world.new) course.new.events.items first
         (S.held out.new)) }
     ensures fits { OnOk result (Fits (work_of maker.now) course.new kids.new.tickets kids.new.room 0) }
     ensures nodes { IfOk result (λ more. more ≡ true
@@ -109,7 +109,7 @@ fn make_all<W: World, S: Sink>(
         (S.held out.new)) }
     ensures halted { IfErr result (λ halt. (first : Moment)
         → GoingAt W.meaning (work_of maker.now) (W.history world.old) course.old first (S.held out.old)
-        → HaltedAt W.meaning (work_of maker.now) halt (W.history world.new) course.new.events first
+        → HaltedAt W.meaning (work_of maker.now) halt (W.history world.new) course.new.events.items first
         (S.held out.new)) }
     ensures fits { OnOk result (Fits (work_of maker.now) course.new kids.new.tickets kids.new.room 0) }
     ensures over { OnOk result (next_of course.new.sched ≡ next.Over) }
@@ -144,7 +144,7 @@ fn make_to_end<W: World, S: Sink>(
     ensures ended { (first : Moment)
         → GoingAt W.meaning (work_of maker.now) (W.history world.old) course.old first (S.held out.old)
         → EndedAt W.meaning (work_of maker.now) result first
-        (moment (W.history world.new) (S.held out.new) course.new.events) }
+        (moment (W.history world.new) (S.held out.new) course.new.events.items) }
     ensures world_cause { EndsBy ended.World (W.faults world.old) (W.faults world.new) result }
     ensures sink_cause { EndsBy ended.Sink (S.faults out.old) (S.faults out.new) result }
     ensures children { W.runs world.new kids.new.tickets }
@@ -170,7 +170,7 @@ fn new_course<'p>(
     Ok(Course {
         sched: Sched::new(alloc, plan, jobs, keep_going)?,
         jobs: Vec::new(alloc),
-        events: Events::new(alloc),
+        events: Vec::new(alloc),
         last_ticket: 0,
         last_shown: None,
         failure: None,
@@ -180,10 +180,10 @@ fn new_course<'p>(
 
 // The report of a build.
 fn events_of(course: Course) -> Events
-    ensures { result ≡ course.entry.events }
+    ensures { result ≡ course.entry.events.items }
 {
     let Course { events, .. } = course;
-    events
+    Events::of(events)
 }
 
 // A build that did not begin. Takes no memory.

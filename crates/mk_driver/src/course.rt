@@ -4,7 +4,7 @@ ghost use Rattle.mk_decision.specs.Makers.{jobs_of, work_of};
 use crate::job::Job;
 use mk_decision::{Maker, jobs_in};
 use mk_sched::Sched;
-use mk_trace::{Events, Failure};
+use mk_trace::{Event, Failure};
 use mk_world::Time;
 
 /// How far a build has come.
@@ -13,7 +13,7 @@ pub struct Course<'p> {
     pub sched: Sched<'p>,
     /// The jobs, in the order in which their lines were started.
     pub jobs: Vec<Job>,
-    pub events: Events,
+    pub events: Vec<Event>,
     /// The ticket that was given out last.
     pub last_ticket: u32,
     /// The node whose line was shown last.

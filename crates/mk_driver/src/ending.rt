@@ -22,7 +22,7 @@ use crate::meta::finish_job;
 use mk_child::{Halt, line_fails, note_failure, print_end, wait_child};
 use mk_decision::Maker;
 use mk_graph::Attr;
-use mk_trace::{Event, Failure};
+use mk_trace::{Event, Failure, put};
 use mk_world::{Kids, Sink, World, WorldFault};
 
 // Whether there was a failure, and the build stops at the first one.
@@ -65,7 +65,7 @@ fn fail_job<W: World>(
         (GoingAt W.meaning (work_of maker.now) (W.history world.new) course.new)) }
     ensures halted { IfErr result (λ fault. FromAny
         (EndingAt W.meaning (work_of maker.now) (W.history world.old) course.old job.now status)
-        (HaltedAt W.meaning (work_of maker.now) (of_world fault) (W.history world.new) course.new.events)) }
+        (HaltedAt W.meaning (work_of maker.now) (of_world fault) (W.history world.new) course.new.events.items)) }
     ensures fits { (tickets : List ℕ) (room : ℕ)
         → Fits (work_of maker.now) course.old tickets room 1
         → Fits (work_of maker.now) course.new tickets room 0 }
@@ -101,7 +101,7 @@ fn end_line<W: World>(
         (GoingAt W.meaning (work_of maker.now) (W.history world.new) course.new)) }
     ensures halted { IfErr result (λ fault. FromAny
         (EndingAt W.meaning (work_of maker.now) (W.history world.old) course.old job status)
-        (HaltedAt W.meaning (work_of maker.now) (of_world fault) (W.history world.new) course.new.events)) }
+        (HaltedAt W.meaning (work_of maker.now) (of_world fault) (W.history world.new) course.new.events.items)) }
     ensures fits { OnOk result (Fits (work_of maker.now) course.new kids.new.tickets kids.new.room 0) }
     ensures nodes { OnOk result (undecided course.new.sched.nodes ≡ undecided course.old.sched.nodes) }
     ensures left { OnOk result (lines_left course.new.jobs.items
@@ -140,7 +140,7 @@ pub fn take_in<W: World, S: Sink>(
         (S.held out.new)) }
     ensures halted { IfErr result (λ halt. (first : Moment)
         → GoingAt W.meaning (work_of maker.now) (W.history world.old) course.old first (S.held out.old)
-        → HaltedAt W.meaning (work_of maker.now) halt (W.history world.new) course.new.events first
+        → HaltedAt W.meaning (work_of maker.now) halt (W.history world.new) course.new.events.items first
         (S.held out.new)) }
     ensures fits { OnOk result (Fits (work_of maker.now) course.new kids.new.tickets kids.new.room 0) }
     ensures nodes { OnOk result (undecided course.new.sched.nodes ≡ undecided course.old.sched.nodes) }
@@ -154,9 +154,7 @@ pub fn take_in<W: World, S: Sink>(
     let ended = wait_child(maker.alloc, world, kids, &mut course.events)?;
     let mut job = take_job(&mut course.jobs, ended.ticket.0);
     let status = ended.status;
-    course
-        .events
-        .set_last(Event::End(job.node, job.number, status));
+    put(&mut course.events, Event::End(job.node, job.number, status));
     print_end(
         out,
         maker.plan,

@@ -18,23 +18,18 @@ use crate::meta::finish_job;
 use mk_bytes::NoMemory;
 use mk_child::{Place, command, start_child};
 use mk_decision::Maker;
-use mk_trace::{Event, Events};
+use mk_trace::{Event, put};
 use mk_world::{Kids, TaskLine, Time, World, WorldFault};
 
 // An empty line begins and ends without a child.
-fn pass_line(events: &mut Events, place: Place) -> Result<(), NoMemory>
-    ensures told { OnOk result (events.new ≡ events.old
+fn pass_line(events: &mut Vec<Event>, place: Place) -> Result<(), NoMemory>
+    ensures told { OnOk result (events.new.items ≡ events.old.items
         ++ event.Start place.node place.number ∷ event.End place.node place.number 0 ∷ []) }
-    ensures untold { OnErr result (events.new ≡ events.old) }
+    ensures untold { OnErr result (events.new.items ≡ events.old.items) }
 {
-    events.push(Event::Start(place.node, place.number))?;
-    if events
-        .push(Event::End(place.node, place.number, 0))
-        .is_err()
-    {
-        events.drop_last();
-        return Err(NoMemory);
-    }
+    events.reserve(2)?;
+    put(events, Event::Start(place.node, place.number));
+    put(events, Event::End(place.node, place.number, 0));
     Ok(())
 }
 
@@ -54,7 +49,7 @@ fn is_next_empty(lines: &[TaskLine], done: u32) -> bool
 
 // Passes over the empty lines behind so many, and gives how many lines have then ended.
 fn pass_lines(
-    events: &mut Events,
+    events: &mut Vec<Event>,
     node: u32,
     lines: &[TaskLine],
     done: u32,
@@ -65,11 +60,11 @@ fn pass_lines(
     ensures next { IfOk result (λ passed. passed < length lines.now
         → (one : Line) × HasLine lines.now (passed + 1) one) }
     ensures behind { IfOk result (λ passed. (scene : Scene) → IsOpenScene scene node
-        → (collected : Kept) → BehindIn scene events.old node lines.now collected done
-        → BehindIn scene events.new node lines.now collected passed) }
+        → (collected : Kept) → BehindIn scene events.old.items node lines.now collected done
+        → BehindIn scene events.new.items node lines.now collected passed) }
     ensures halted { OnErr result ((scene : Scene) → IsOpenScene scene node
-        → (collected : Kept) → BehindIn scene events.old node lines.now collected done
-        → HaltedIn scene events.new) }
+        → (collected : Kept) → BehindIn scene events.old.items node lines.now collected done
+        → HaltedIn scene events.new.items) }
 {
     let mut passed = done;
     'lines: while is_next_empty(lines, passed) {
@@ -96,13 +91,13 @@ fn start_line<W: World>(
     requires token { HasToken course.old.sched.nodes course.old.jobs.items job.node }
     requires line { (one : Line) × HasLine job.task.lines job.number one }
     ensures goes { OnOk result (FromAny
-        (BehindOn W.meaning (work_of maker.now) (W.history world.old) course.old course.old.events
+        (BehindOn W.meaning (work_of maker.now) (W.history world.old) course.old course.old.events.items
         job.node job.task.lines job.collected (job.number - 1))
         (GoingAt W.meaning (work_of maker.now) (W.history world.new) course.new)) }
     ensures halted { IfErr result (λ fault. FromAny
-        (BehindOn W.meaning (work_of maker.now) (W.history world.old) course.old course.old.events
+        (BehindOn W.meaning (work_of maker.now) (W.history world.old) course.old course.old.events.items
         job.node job.task.lines job.collected (job.number - 1))
-        (HaltedAt W.meaning (work_of maker.now) (of_world fault) (W.history world.new) course.new.events)) }
+        (HaltedAt W.meaning (work_of maker.now) (of_world fault) (W.history world.new) course.new.events.items)) }
     ensures fits { OnOk result (Fits (work_of maker.now) course.new kids.new.tickets kids.new.room 0) }
     ensures nodes { course.new.sched ≡ course.old.sched }
     ensures left { OnOk result (lines_left course.new.jobs.items
@@ -147,11 +142,11 @@ pub fn run_on<W: World>(
     requires going { IsUnstopped (work_of maker.now) course.old }
     requires within { job.number ≤ length job.task.lines }
     ensures goes { OnOk result (FromAny
-        (BehindAt W.meaning (work_of maker.now) (W.history world.old) course.old course.old.events job)
+        (BehindAt W.meaning (work_of maker.now) (W.history world.old) course.old course.old.events.items job)
         (GoingAt W.meaning (work_of maker.now) (W.history world.new) course.new)) }
     ensures halted { IfErr result (λ fault. FromAny
-        (BehindAt W.meaning (work_of maker.now) (W.history world.old) course.old course.old.events job)
-        (HaltedAt W.meaning (work_of maker.now) (of_world fault) (W.history world.new) course.new.events)) }
+        (BehindAt W.meaning (work_of maker.now) (W.history world.old) course.old course.old.events.items job)
+        (HaltedAt W.meaning (work_of maker.now) (of_world fault) (W.history world.new) course.new.events.items)) }
     ensures fits { OnOk result (Fits (work_of maker.now) course.new kids.new.tickets kids.new.room 0) }
     ensures nodes { OnOk result (undecided course.new.sched.nodes ≡ undecided course.old.sched.nodes) }
     ensures left { OnOk result (lines_left course.new.jobs.items

@@ -214,7 +214,7 @@ pub fn finish_job<W: World>(
         (GoingAt W.meaning (work_of maker.now) (W.history world.new) course.new)) }
     ensures halted { IfErr result (λ fault. FromAny
         (OverAt W.meaning (work_of maker.now) (W.history world.old) course.old job)
-        (HaltedAt W.meaning (work_of maker.now) (of_world fault) (W.history world.new) course.new.events)) }
+        (HaltedAt W.meaning (work_of maker.now) (of_world fault) (W.history world.new) course.new.events.items)) }
     ensures fits { (tickets : List ℕ) (room : ℕ)
         → Fits (work_of maker.now) course.old tickets room 1
         → Fits (work_of maker.now) course.new tickets room 0 }

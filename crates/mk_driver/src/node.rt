@@ -16,7 +16,7 @@ use crate::line::run_on;
 use crate::meta::open_job;
 use mk_child::note_failure;
 use mk_decision::{Decision, Maker, decide_on};
-use mk_trace::{Event, Failure};
+use mk_trace::{Event, Failure, tell};
 use mk_world::{Kids, World, WorldFault};
 
 // Carries out the decision of the next node.
@@ -37,7 +37,7 @@ fn carry_out<W: World>(
     ensures halted { IfErr result (λ fault. (seen : List Seen)
         → IsDecision (work_of maker.now) node seen decision
         → FromAny (SeenAt W.meaning (work_of maker.now) (W.history world.old) course.old node seen)
-        (HaltedAt W.meaning (work_of maker.now) (of_world fault) (W.history world.new) course.new.events)) }
+        (HaltedAt W.meaning (work_of maker.now) (of_world fault) (W.history world.new) course.new.events.items)) }
     ensures fits { OnOk result (Fits (work_of maker.now) course.new kids.new.tickets kids.new.room 0) }
     ensures nodes { OnOk result (undecided course.new.sched.nodes < undecided course.old.sched.nodes) }
     ensures same_room { kids.new.room ≡ kids.old.room }
@@ -46,12 +46,12 @@ fn carry_out<W: World>(
 {
     match decision {
         Decision::Keep => {
-            course.events.push(Event::Kept(node))?;
+            tell(&mut course.events, Event::Kept(node))?;
             course.sched.kept(node);
             Ok(())
         }
         Decision::Refuse(number, what) => {
-            course.events.push(Event::Refused(node, number))?;
+            tell(&mut course.events, Event::Refused(node, number))?;
             course.sched.refused(node);
             let failure = Failure::Expand(node, number, what);
             note_failure(&mut course.failure, failure);
@@ -88,7 +88,7 @@ pub fn decide<W: World>(
         (GoingAt W.meaning (work_of maker.now) (W.history world.new) course.new)) }
     ensures halted { IfErr result (λ fault. FromAny
         (GoingAt W.meaning (work_of maker.now) (W.history world.old) course.old)
-        (HaltedAt W.meaning (work_of maker.now) (of_world fault) (W.history world.new) course.new.events)) }
+        (HaltedAt W.meaning (work_of maker.now) (of_world fault) (W.history world.new) course.new.events.items)) }
     ensures fits { OnOk result (Fits (work_of maker.now) course.new kids.new.tickets kids.new.room 0) }
     ensures nodes { OnOk result (undecided course.new.sched.nodes < undecided course.old.sched.nodes) }
     ensures same_room { kids.new.room ≡ kids.old.room }

@@ -189,12 +189,12 @@ uncut (Some (Expand n number what)) = refl
 
 pub ended-over : (meaning : Meaning) (start : Work) (course : Course) (history : Option History)
     (first : Moment) (out : Option (List ℕ)) → OverAt meaning start history course first out
-    → EndedAt meaning start (result_of course.failure) first (moment history out course.events)
+    → EndedAt meaning start (result_of course.failure) first (moment history out course.events.items)
 ended-over meaning start course history first out over = (
   over.0,
-  subst (λ b. SoFar meaning start b first (moment history out course.events) over.0
+  subst (λ b. SoFar meaning start b first (moment history out course.events.items) over.0
       (λ tasks dry. StandsBy (rules_of start) (result_of course.failure) dry)) (uncut course.failure)
-      (so_far-weaken meaning start false first (moment history out course.events) over.0 over.0
+      (so_far-weaken meaning start false first (moment history out course.events.items) over.0 over.0
       (λ tasks dry. IsOver (rules_of start) course.failure dry) _ over.1 (λ tasks has. has)
       (λ tasks dry has is. stands-result (rules_of start) course.failure dry is)),
 )
@@ -243,7 +243,7 @@ over-at meaning start made flags history course place first out gone all at =
     (none-may-decide (rules_of (work_in course made flags)) course.nodes.items course.failure place gone
     all) in (
       at.1,
-      so_far-weaken meaning start false first (moment history out course.events) at.1 at.1
+      so_far-weaken meaning start false first (moment history out course.events.items) at.1 at.1
           (IsAt course.nodes.items [] (work_in course made flags) course.failure)
           (λ tasks dry. IsOver (rules_of start) course.failure dry) at.3 (λ tasks has. has)
           (λ tasks dry has is. record {
@@ -381,7 +381,7 @@ looked-from meaning made flags n course out a b seen due looked from at = (
   at.1,
   at.2,
   so_far-looks meaning from.start (work_in course made flags) at.1 course.nodes.items course.failure n
-      from.first out course.events a b seen looked (due-may from.start made flags course n at.0 due) at.3,
+      from.first out course.events.items a b seen looked (due-may from.start made flags course n at.0 due) at.3,
 )
 
 -- the scene of a node
@@ -396,7 +396,7 @@ pub begun-from : (meaning : Meaning) (made : Made) (flags : Flags) (n : ℕ) (li
     → IsBegun (work_in now.course made flags) n seen lines → 0 < length lines → (from : Origin)
     → (at : SeenAt meaning from.start made flags now.history now.course n seen from.first now.out)
     → AreLinesOf made.scopes n lines now.course.failure (scene_from made flags n lines at.1 now from)
-    × StandsIn meaning (moment now.history now.out now.course.events)
+    × StandsIn meaning (moment now.history now.out now.course.events.items)
     (IsBehind (scene_from made flags n lines at.1 now from) 0)
     (scene_from made flags n lines at.1 now from)
 begun-from meaning made flags n lines now seen due begun some from at =
@@ -414,7 +414,7 @@ begun-from meaning made flags n lines now seen due begun some from at =
         failure_is = refl;
       },
       so_far-begun meaning from.start work at.1 nodes course.failure n lines seen from.first
-          (moment now.history now.out course.events) (due-may from.start made flags course n at.0 due)
+          (moment now.history now.out course.events.items) (due-may from.start made flags course n at.0 due)
           (at.2 n (omega arith)) some begun at.3,
     )
 

@@ -117,7 +117,7 @@ GoingFrom meaning made flags place now from =
 
 abbrev pub EndedFrom : Meaning → Point → Halt → Origin → Type 0
 EndedFrom meaning now halt from =
-    HaltedAt meaning from.start halt from.first (moment now.history now.out now.course.events)
+    HaltedAt meaning from.start halt from.first (moment now.history now.out now.course.events.items)
 
 -- A part goes through a node.
 abbrev pub Passes : {A : Type 0} → Meaning → Made → Flags → ℕ → Point → Point → Result A Halt → Type 0

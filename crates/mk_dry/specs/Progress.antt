@@ -193,7 +193,7 @@ abbrev pub GoingAt : Meaning → Work → Made → Flags → Option History → 
 GoingAt meaning start made flags history course place first out =
     (rules_of start ≡ rules_of (work_in course made flags))
     × (known : Known) × AreUnknownFrom place known
-    × SoFar meaning start false first (moment history out course.events) known
+    × SoFar meaning start false first (moment history out course.events.items) known
     (IsAt course.nodes.items [] (work_in course made flags) course.failure)
 
 -- a node was looked at
@@ -202,7 +202,7 @@ abbrev pub SeenAt : Meaning → Work → Made → Flags → Option History → C
 SeenAt meaning start made flags history course place seen first out =
     (rules_of start ≡ rules_of (work_in course made flags))
     × (known : Known) × AreUnknownFrom place known
-    × SoFar meaning start false first (moment history out course.events) known
+    × SoFar meaning start false first (moment history out course.events.items) known
     (IsAt course.nodes.items seen (work_in course made flags) course.failure)
 
 -- a node was decided, and stands so, which the driver does not yet keep
@@ -211,14 +211,14 @@ abbrev pub IsAfter : Meaning → Work → Made → Flags → Option History → 
 IsAfter meaning start made flags history course place stands first out =
     (rules_of start ≡ rules_of (work_in course made flags))
     × (known : Known) × AreUnknownFrom (place + 1) known
-    × SoFar meaning start false first (moment history out course.events) known
+    × SoFar meaning start false first (moment history out course.events.items) known
     (IsAt (set course.nodes.items place stands) [] (work_in course made flags) course.failure)
 
 -- a dry run that is over
 abbrev pub OverAt : Meaning → Work → Option History → Course → Moment → Option (List ℕ) → Type 0
 OverAt meaning start history course first out =
     (known : Known)
-    × SoFar meaning start false first (moment history out course.events) known
+    × SoFar meaning start false first (moment history out course.events.items) known
     (λ tasks dry. IsOver (rules_of start) course.failure dry)
 
 -- what is kept before the first decision
@@ -226,5 +226,5 @@ pub record IsFirstCourse (plan : List PlanNode) (course : Course) : Type 0 where
   pub plan_is : course.plan ≡ plan
   pub nodes_are : course.nodes.items ≡ none_decided plan
   pub ordered : StandBehind (predecessors plan)
-  pub events : course.events ≡ []
+  pub events : course.events.items ≡ []
   pub failure : course.failure ≡ None

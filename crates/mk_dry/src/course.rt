@@ -1,5 +1,5 @@
 use mk_plan::{NodeState, Plan};
-use mk_trace::{Events, Failure};
+use mk_trace::{Event, Failure};
 
 /// How far a dry run has come.
 #[derive(Drop)]
@@ -8,7 +8,7 @@ pub struct Course {
     pub plan: Plan,
     /// How each node stands.
     pub nodes: Vec<NodeState>,
-    pub events: Events,
+    pub events: Vec<Event>,
     /// The first failure.
     pub failure: Option<Failure>,
 }

@@ -12,7 +12,7 @@ ghost use Rattle.mk_world.specs.declared.fault.SinkFault.TheVariants.{Failed as 
 use mk_child::{Halt, Place, command, line_fails, note_failure, start_child, wait_child};
 use mk_graph::Made;
 use mk_plan::NodeState;
-use mk_trace::{Event, Events, Failure};
+use mk_trace::{Event, Failure, put, tell};
 use mk_world::{Kids, Sink, SinkFault, Task, TaskLine, Time, World, write_all};
 use std::alloc::Global;
 
@@ -47,15 +47,15 @@ fn run_line<W: World, S: Sink>(
     world: &mut W,
     out: &mut S,
     kids: &mut Kids<W::Kid>,
-    events: &mut Events,
+    events: &mut Vec<Event>,
     place: Place,
     line: &TaskLine,
 ) -> Result<u8, Halt>
     requires alone { IsAlone (W.runs world.old) kids.old.tickets kids.old.room }
     requires starts { spec.is_started line.now ≡ true }
     ensures goes { EndsLine W.meaning made.now.scopes place line.now IsAnnounced
-        (moment (W.history world.old) (S.held out.old) events.old)
-        (moment (W.history world.new) (S.held out.new) events.new) result }
+        (moment (W.history world.old) (S.held out.old) events.old.items)
+        (moment (W.history world.new) (S.held out.new) events.new.items) result }
     ensures alone { IfOk result (λ status. IsAlone (W.runs world.new) kids.new.tickets kids.new.room) }
     ensures world_cause { HasCause halts.World (W.faults world.old) (W.faults world.new) result }
     ensures sink_cause { HasCause halts.Sink (S.faults out.old) (S.faults out.new) result }
@@ -64,7 +64,7 @@ fn run_line<W: World, S: Sink>(
     let cmd = command(alloc, line, made.scopes.cwd())?;
     start_child(alloc, world, kids, events, place, TICKET, Time(0), &cmd)?;
     let ended = wait_child(alloc, world, kids, events)?;
-    events.set_last(Event::End(place.node, place.number, ended.status));
+    put(events, Event::End(place.node, place.number, ended.status));
     write_all(out, &[ended.output.bytes()])?;
     Ok(ended.status)
 }
@@ -76,20 +76,20 @@ fn show_line<W: World, S: Sink>(
     world: &mut W,
     out: &mut S,
     kids: &mut Kids<W::Kid>,
-    events: &mut Events,
+    events: &mut Vec<Event>,
     place: Place,
     line: &TaskLine,
 ) -> Result<u8, Halt>
     requires alone { IsAlone (W.runs world.old) kids.old.tickets kids.old.room }
     ensures goes { EndsLine W.meaning made.now.scopes place line.now IsPoised
-        (moment (W.history world.old) (S.held out.old) events.old)
-        (moment (W.history world.new) (S.held out.new) events.new) result }
+        (moment (W.history world.old) (S.held out.old) events.old.items)
+        (moment (W.history world.new) (S.held out.new) events.new.items) result }
     ensures alone { IfOk result (λ status. IsAlone (W.runs world.new) kids.new.tickets kids.new.room) }
     ensures world_cause { HasCause halts.World (W.faults world.old) (W.faults world.new) result }
     ensures sink_cause { HasCause halts.Sink (S.faults out.old) (S.faults out.new) result }
     ensures children { W.runs world.new kids.new.tickets }
 {
-    events.push(Event::Shown(place.node, place.number))?;
+    tell(events, Event::Shown(place.node, place.number))?;
     print_line(out, line)?;
     if is_started(line) {
         return run_line(alloc, made, world, out, kids, events, place, line);
@@ -104,15 +104,15 @@ pub fn show_lines<W: World, S: Sink>(
     world: &mut W,
     out: &mut S,
     kids: &mut Kids<W::Kid>,
-    events: &mut Events,
+    events: &mut Vec<Event>,
     failure: &mut Option<Failure>,
     node: u32,
     task: &Task,
 ) -> Result<NodeState, Halt>
     requires alone { IsAlone (W.runs world.old) kids.old.tickets kids.old.room }
     ensures goes { EndsLines W.meaning made.now.scopes node task.now.lines failure.old failure.new
-        (moment (W.history world.old) (S.held out.old) events.old)
-        (moment (W.history world.new) (S.held out.new) events.new) result }
+        (moment (W.history world.old) (S.held out.old) events.old.items)
+        (moment (W.history world.new) (S.held out.new) events.new.items) result }
     ensures stands { IfOk result (λ stands. HasCome stands failure.old failure.new) }
     ensures alone { IfOk result (λ stands. IsAlone (W.runs world.new) kids.new.tickets kids.new.room) }
     ensures world_cause { HasCause halts.World (W.faults world.old) (W.faults world.new) result }

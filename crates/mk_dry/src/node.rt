@@ -14,7 +14,7 @@ use mk_decision::{Decision, Maker, decide_on};
 use mk_flags::Flags;
 use mk_graph::Made;
 use mk_plan::{NodeState, Plan};
-use mk_trace::{Event, Failure};
+use mk_trace::{Event, Failure, tell};
 use mk_world::{Kids, Sink, Time, World};
 use std::alloc::Global;
 
@@ -68,9 +68,9 @@ fn carry_out<W: World, S: Sink>(
     ensures children { W.runs world.new kids.new.tickets }
 {
     match decision {
-        Decision::Keep => course.events.push(Event::Kept(node))?,
+        Decision::Keep => tell(&mut course.events, Event::Kept(node))?,
         Decision::Refuse(number, what) => {
-            course.events.push(Event::Refused(node, number))?;
+            tell(&mut course.events, Event::Refused(node, number))?;
             note_failure(&mut course.failure, Failure::Expand(node, number, what));
             return Ok(NodeState::Failed);
         }

@@ -73,7 +73,7 @@ fn run_to_end<W: World, S: Sink>(
     ensures ended { (from : Origin) → GoingFrom W.meaning made.now flags.now 0
         (point (W.history world.old) (S.held out.old) course.old) from
         → EndedAt W.meaning from.start result from.first
-        (moment (W.history world.new) (S.held out.new) course.new.events) }
+        (moment (W.history world.new) (S.held out.new) course.new.events.items) }
     ensures world_cause { EndsBy ended.World (W.faults world.old) (W.faults world.new) result }
     ensures sink_cause { EndsBy ended.Sink (S.faults out.old) (S.faults out.new) result }
     ensures children { W.runs world.new kids.new.tickets }
@@ -92,17 +92,17 @@ fn new_course(alloc: Global, plan: Plan) -> Result<Course, NoMemory>
     Ok(Course {
         nodes: vec![in alloc; NodeState::Undecided; many]?,
         plan,
-        events: Events::new(alloc),
+        events: Vec::new(alloc),
         failure: None,
     })
 }
 
 // The report of a dry run.
 fn events_of(course: Course) -> Events
-    ensures { result ≡ course.events }
+    ensures { result ≡ course.events.items }
 {
     let Course { events, .. } = course;
-    events
+    Events::of(events)
 }
 
 // A dry run that did not begin. Takes no memory.

@@ -1,4 +1,4 @@
-ghost use Rattle.std.specs.Prelude.{◌≡◌, ◌-◌, ◌<◌, [], ◌∷◌, ◌++◌, length, take, set, OnOk, OnErr};
+ghost use Rattle.std.specs.Prelude.{◌≡◌, ◌+◌, ◌≤◌, ◌<◌, [], ◌∷◌, ◌++◌, OnOk, OnErr, vec_capacity, vec_len};
 
 use mk_bytes::NoMemory;
 use std::alloc::Global;
@@ -20,6 +20,25 @@ pub enum Event {
     End(u32, u32, u8),
     /// Make waited for a child.
     Wait,
+}
+
+/// Adds an event at the end of a report that is being written.
+pub fn tell(events: &mut Vec<Event>, event: Event) -> Result<(), NoMemory>
+    ensures ok { OnOk result (events.new.items ≡ events.old.items ++ event ∷ []) }
+    ensures err { OnErr result (events.new.items ≡ events.old.items) }
+{
+    events.push(event)?;
+    Ok(())
+}
+
+/// Adds an event at the end of a report that has room for it. Takes no memory.
+pub fn put(events: &mut Vec<Event>, event: Event)
+    requires { vec_len events.old < vec_capacity events.old }
+    ensures told { events.new.items ≡ events.old.items ++ event ∷ [] }
+    ensures len { vec_len events.new ≡ vec_len events.old + 1 }
+    ensures capacity { vec_capacity events.old ≤ vec_capacity events.new }
+{
+    events.push(event).unwrap();
 }
 
 /// What a build did, in order. Contracts see the list of events.
@@ -47,6 +66,13 @@ impl Events {
         }
     }
 
+    /// These events. Takes no memory.
+    pub fn of(events: Vec<Event>) -> Events
+        ensures { result ≡ events.items }
+    {
+        Events { events }
+    }
+
     /// All events in order. Takes no memory.
     pub fn as_slice(&self) -> &[Event]
         ensures { result.now ≡ self.now }
@@ -61,23 +87,5 @@ impl Events {
     {
         self.events.push(event)?;
         Ok(())
-    }
-
-    /// Takes away the last event. Takes no memory.
-    pub fn drop_last(&mut self)
-        requires { 0 < length self.old }
-        ensures { self.new ≡ take (length self.old - 1) self.old }
-    {
-        let left = self.events.len() - 1;
-        self.events.truncate(left);
-    }
-
-    /// Puts an event in the place of the last one. Takes no memory.
-    pub fn set_last(&mut self, event: Event)
-        requires { 0 < length self.old }
-        ensures { self.new ≡ set self.old (length self.old - 1) event }
-    {
-        let last = self.events.len() - 1;
-        self.events[last] = event;
     }
 }

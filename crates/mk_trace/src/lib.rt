@@ -11,7 +11,7 @@ mod law;
 mod result;
 
 pub use collected::Collected;
-pub use event::{Event, Events};
+pub use event::{Event, Events, put, tell};
 pub use law::{
     children_belong_to_nodes, cut_runs_are_begun_runs, decided_nodes_depend_on_settled_ones,
     meta_files_stay_true, questions_keep_meta_files_true, runs_that_are_over_are_settled,

@@ -47,7 +47,7 @@ returns-clause-built g c =
     let out = g.S.Sink.held c.args.out.now in
     let first = moment history out [] in
     let now = moment (g.W.World.history c.make_to_end-result.new.world)
-    (g.S.Sink.held c.make_to_end-result.new.out) c.make_to_end-result.new.course.events in
+    (g.S.Sink.held c.make_to_end-result.new.out) c.make_to_end-result.new.course.events.items in
     let next = moment (g.W.World.history c.abandon.new.self)
     (g.S.Sink.held c.make_to_end-result.new.out) c.events_of.result in
     let idle : IsIdle history =

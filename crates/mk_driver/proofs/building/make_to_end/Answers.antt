@@ -15,5 +15,5 @@ returns-in-Ok-clause-ended g c =
 pub returns-in-Err-clause-ended : goal.returns-in-Err-clause-ended
 returns-in-Err-clause-ended g c = λ first at.
     rw c.from.ensures (ended-halted g.W.World.meaning (work_of c.args.maker.now) c.in-Err.halt
-    (g.W.World.history c.make_all.new.world) c.make_all.new.course.events first
+    (g.W.World.history c.make_all.new.world) c.make_all.new.course.events.items first
     (g.S.Sink.held c.make_all.new.out) (c.in-Err.ensures.halted first at))

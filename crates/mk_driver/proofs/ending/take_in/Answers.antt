@@ -1,11 +1,10 @@
-use Rattle.std.proofs.Common.{◌∙◌, true, false, arith}
+use Rattle.std.proofs.Common.{◌∙◌, [], ◌∷◌, true, false, append_assoc, arith}
 use Rattle.std.proofs.lemmas.Result.{err_from_is_err_and}
 use Rattle.mk_sched.proofs.DecideLemmas.{open_within}
 use Rattle.mk_decision.specs.Makers.{work_of}
 use Rattle.mk_trace.specs.Builds.{moment}
 use Rattle.mk_trace.specs.declared.event.Event.TheVariants as event
 use Rattle.mk_driver.proofs.EndingLemmas.{halted-waiting, so_far-taken, wait-facts, within-plan}
-use Rattle.mk_child.proofs.EventLemmas.{set-last}
 use Rattle.mk_driver.proofs.LineLemmas.{found, halted}
 use Rattle.mk_trace.proofs.MakeLemmas.{so_far-weaken}
 use Rattle.mk_driver.proofs.JobLemmas.{fits-taken, left-taken, some-taken}
@@ -58,8 +57,8 @@ returns-in_err-ended-clause-halted g c =
     rw p.1 (λ first at.
     halted-waiting g.W.World.meaning (work_of c.args.maker.now) p.0 at.0 course.sched.nodes
     course.jobs.items course.failure course.last_shown first
-    (moment (g.W.World.history c.args.world.now) (g.S.Sink.held c.args.out.now) course.events)
-    (g.W.World.history c.wait_child.new.world) c.wait_child.new.events at.2 facts.0 facts.1
+    (moment (g.W.World.history c.args.world.now) (g.S.Sink.held c.args.out.now) course.events.items)
+    (g.W.World.history c.wait_child.new.world) c.wait_child.new.events.items at.2 facts.0 facts.1
     c.in_err-ended.ensures.refused c.in_err-ended.ensures.untold)
 
 pub returns-in_err-print_end-clause-halted : goal.returns-in_err-print_end-clause-halted
@@ -73,8 +72,8 @@ returns-in_err-print_end-clause-halted g c =
     let facts = wait-facts _ _ _ _ _ _ c.requires.fits c.requires.wait in
     let out = fits-taken _ _ _ _ _ _ _ _ _ job c.requires.fits c.take_job-job.ensures
     c.in_ok-ended.ensures.taken in
-    let told = c.set_last.ensures ∙ rw c.in_ok-ended.ensures.told
-    (set-last course.events event.Wait (event.End 0 0 0) (event.End job.node job.number ended.status)) in
+    let told = c.put.ensures.told ∙ rw c.in_ok-ended.ensures.told
+    (append_assoc course.events.items (event.Wait ∷ []) (event.End job.node job.number ended.status ∷ [])) in
     let has = found c.line_at.result.now job.task.lines job.number c.line_at.ensures (out.one, out.has) in
     rw (p.1, p.2) (λ first at. (
       at.0,
@@ -82,9 +81,9 @@ returns-in_err-print_end-clause-halted g c =
       so_far-weaken g.W.World.meaning work true first _ _ at.0 at.0 _ _
           (so_far-taken g.W.World.meaning work true at.0 course.sched.nodes course.jobs.items
           c.take_job-job.new.jobs.items course.failure job c.line_at.result.now ended course.last_shown first
-          (moment (g.W.World.history c.args.world.now) (g.S.Sink.held c.args.out.now) course.events)
+          (moment (g.W.World.history c.args.world.now) (g.S.Sink.held c.args.out.now) course.events.items)
           (moment (g.W.World.history c.wait_child.new.world) (g.S.Sink.held c.print_end.new.out)
-          c.set_last.new.self) at.2 facts.0 facts.1 c.take_job-job.ensures out.token has
+          c.put.new.events.items) at.2 facts.0 facts.1 c.take_job-job.ensures out.token has
           (c.in_ok-ended.ensures.done job.node job.number) told
           (rw (← c.are_many.ensures, ← c.bytes.ensures.value) c.in_err-print_end.ensures.cut))
           (λ tasks has_tasks. has_tasks) (λ tasks build has_tasks is. tt),
@@ -101,16 +100,16 @@ returns-in_err-keep_end-clause-halted g c =
     let facts = wait-facts _ _ _ _ _ _ c.requires.fits c.requires.wait in
     let out = fits-taken _ _ _ _ _ _ _ _ _ job c.requires.fits c.take_job-job.ensures
     c.in_ok-ended.ensures.taken in
-    let told = c.set_last.ensures ∙ rw c.in_ok-ended.ensures.told
-    (set-last course.events event.Wait (event.End 0 0 0) (event.End job.node job.number ended.status)) in
+    let told = c.put.ensures.told ∙ rw c.in_ok-ended.ensures.told
+    (append_assoc course.events.items (event.Wait ∷ []) (event.End job.node job.number ended.status ∷ [])) in
     let has = found c.line_at.result.now job.task.lines job.number c.line_at.ensures (out.one, out.has) in
     rw p.1 (λ first at.
-    halted g.W.World.meaning work p.0 first _ (g.S.Sink.held c.print_end.new.out) c.set_last.new.self _ at.0
+    halted g.W.World.meaning work p.0 first _ (g.S.Sink.held c.print_end.new.out) c.put.new.events.items _ at.0
     _ (so_far-taken g.W.World.meaning work false at.0 course.sched.nodes course.jobs.items
     c.take_job-job.new.jobs.items course.failure job c.line_at.result.now ended course.last_shown first
-    (moment (g.W.World.history c.args.world.now) (g.S.Sink.held c.args.out.now) course.events)
+    (moment (g.W.World.history c.args.world.now) (g.S.Sink.held c.args.out.now) course.events.items)
     (moment (g.W.World.history c.wait_child.new.world) (g.S.Sink.held c.print_end.new.out)
-    c.set_last.new.self) at.2 facts.0 facts.1 c.take_job-job.ensures out.token has
+    c.put.new.events.items) at.2 facts.0 facts.1 c.take_job-job.ensures out.token has
     (c.in_ok-ended.ensures.done job.node job.number) told
     (rw (← c.are_many.ensures, ← c.bytes.ensures.value) c.in_ok-print_end.ensures.done)))
 
@@ -125,8 +124,8 @@ returns-in_err-end_line-clause-halted g c =
     let facts = wait-facts _ _ _ _ _ _ c.requires.fits c.requires.wait in
     let out = fits-taken _ _ _ _ _ _ _ _ _ job c.requires.fits c.take_job-job.ensures
     c.in_ok-ended.ensures.taken in
-    let told = c.set_last.ensures ∙ rw c.in_ok-ended.ensures.told
-    (set-last course.events event.Wait (event.End 0 0 0) (event.End job.node job.number ended.status)) in
+    let told = c.put.ensures.told ∙ rw c.in_ok-ended.ensures.told
+    (append_assoc course.events.items (event.Wait ∷ []) (event.End job.node job.number ended.status ∷ [])) in
     let has = found c.line_at.result.now job.task.lines job.number c.line_at.ensures (out.one, out.has) in
     rw (p.1, p.2) (λ first at.
     c.in_err-end_line.ensures.halted first (g.S.Sink.held c.print_end.new.out) (
@@ -135,9 +134,9 @@ returns-in_err-end_line-clause-halted g c =
       rw (c.in_ok-print_end.ensures.last, c.bytes.ensures.value, c.in_ok-keep_end.ensures)
           (so_far-taken g.W.World.meaning work false at.0 course.sched.nodes course.jobs.items
           c.take_job-job.new.jobs.items course.failure job c.line_at.result.now ended course.last_shown first
-          (moment (g.W.World.history c.args.world.now) (g.S.Sink.held c.args.out.now) course.events)
+          (moment (g.W.World.history c.args.world.now) (g.S.Sink.held c.args.out.now) course.events.items)
           (moment (g.W.World.history c.wait_child.new.world) (g.S.Sink.held c.print_end.new.out)
-          c.set_last.new.self) at.2 facts.0 facts.1 c.take_job-job.ensures out.token has
+          c.put.new.events.items) at.2 facts.0 facts.1 c.take_job-job.ensures out.token has
           (c.in_ok-ended.ensures.done job.node job.number) told
           (rw (← c.are_many.ensures, ← c.bytes.ensures.value) c.in_ok-print_end.ensures.done)),
     ))
@@ -151,8 +150,8 @@ returns-clause-goes g c =
     let facts = wait-facts _ _ _ _ _ _ c.requires.fits c.requires.wait in
     let out = fits-taken _ _ _ _ _ _ _ _ _ job c.requires.fits c.take_job-job.ensures
     c.in_ok-ended.ensures.taken in
-    let told = c.set_last.ensures ∙ rw c.in_ok-ended.ensures.told
-    (set-last course.events event.Wait (event.End 0 0 0) (event.End job.node job.number ended.status)) in
+    let told = c.put.ensures.told ∙ rw c.in_ok-ended.ensures.told
+    (append_assoc course.events.items (event.Wait ∷ []) (event.End job.node job.number ended.status ∷ [])) in
     let has = found c.line_at.result.now job.task.lines job.number c.line_at.ensures (out.one, out.has) in
     λ first at.
     c.in_ok-end_line.ensures.goes first (g.S.Sink.held c.print_end.new.out) (
@@ -161,9 +160,9 @@ returns-clause-goes g c =
       rw (c.in_ok-print_end.ensures.last, c.bytes.ensures.value, c.in_ok-keep_end.ensures)
           (so_far-taken g.W.World.meaning work false at.0 course.sched.nodes course.jobs.items
           c.take_job-job.new.jobs.items course.failure job c.line_at.result.now ended course.last_shown first
-          (moment (g.W.World.history c.args.world.now) (g.S.Sink.held c.args.out.now) course.events)
+          (moment (g.W.World.history c.args.world.now) (g.S.Sink.held c.args.out.now) course.events.items)
           (moment (g.W.World.history c.wait_child.new.world) (g.S.Sink.held c.print_end.new.out)
-          c.set_last.new.self) at.2 facts.0 facts.1 c.take_job-job.ensures out.token has
+          c.put.new.events.items) at.2 facts.0 facts.1 c.take_job-job.ensures out.token has
           (c.in_ok-ended.ensures.done job.node job.number) told
           (rw (← c.are_many.ensures, ← c.bytes.ensures.value) c.in_ok-print_end.ensures.done)),
     )

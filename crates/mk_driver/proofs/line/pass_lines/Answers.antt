@@ -13,7 +13,7 @@ lines-preserved c =
       from = omega (arith, from);
       within = omega (arith, more);
       behind = λ scene open_scene collected behind.
-          behind-passes scene l.events c.pass_line.new.events c.args.node c.args.lines.now collected
+          behind-passes scene l.events.items c.pass_line.new.events.items c.args.node c.args.lines.now collected
           l.passed next.0 open_scene (l.invariant.behind scene open_scene collected behind) more next.2 next.3
           c.in_ok-pass_line.ensures.told;
     }
@@ -21,6 +21,6 @@ lines-preserved c =
 pub returns-in_err-pass_line-clause-halted : goal.returns-in_err-pass_line-clause-halted
 returns-in_err-pass_line-clause-halted c =
     OnErr-from c.from_residual.result (λ scene open_scene collected behind.
-    behind-halted scene c.lines.events c.pass_line.new.events c.args.node c.args.lines.now collected
+    behind-halted scene c.lines.events.items c.pass_line.new.events.items c.args.node c.args.lines.now collected
     c.lines.passed (c.lines.invariant.behind scene open_scene collected behind)
     c.in_err-pass_line.ensures.untold)

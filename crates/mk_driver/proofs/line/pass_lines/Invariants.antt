@@ -9,8 +9,8 @@ invariant-lines l = record {
   from : l.done ≤ l.passed;
   within : l.passed ≤ length l.lines;
   behind : (scene : Scene) → IsOpenScene scene l.node
-      → (collected : Collected) → BehindIn scene l.fn.events l.node l.lines collected l.done
-      → BehindIn scene l.events l.node l.lines collected l.passed;
+      → (collected : Collected) → BehindIn scene l.fn.events.items l.node l.lines collected l.done
+      → BehindIn scene l.events.items l.node l.lines collected l.passed;
 }
 
 abbrev pub decreases-lines : goal.decreases-lines

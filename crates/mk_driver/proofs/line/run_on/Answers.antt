@@ -38,7 +38,7 @@ returns-then-passed-len-clause-goes g c =
     let none : length c.args.job.task.lines ≤ c.in_ok-passed.passed = grind (arith, common_steps) in
     on_ok c.finish_job.result (λ goes first out at.
     goes first out (over-behind g.W.World.meaning (work_of c.args.maker.now) _ c.args.course.now
-    c.pass_lines.new.events c.args.job c.in_ok-passed.passed first out none
+    c.pass_lines.new.events.items c.args.job c.in_ok-passed.passed first out none
     (behind
     (record {
       meaning = g.W.World.meaning;
@@ -57,7 +57,7 @@ returns-then-passed-len-clause-halted g c =
     let none : length c.args.job.task.lines ≤ c.in_ok-passed.passed = grind (arith, common_steps) in
     if_err c.finish_job.result (λ fault halts first out at.
     halts first out (over-behind g.W.World.meaning (work_of c.args.maker.now) _ c.args.course.now
-    c.pass_lines.new.events c.args.job c.in_ok-passed.passed first out none
+    c.pass_lines.new.events.items c.args.job c.in_ok-passed.passed first out none
     (behind
     (record {
       meaning = g.W.World.meaning;
@@ -80,7 +80,7 @@ returns-clause-goes g c =
     on_ok c.start_line.result (λ goes first out at.
     goes first out
     (subst (λ k. BehindOn g.W.World.meaning (work_of c.args.maker.now)
-    (g.W.World.history c.args.world.now) c.args.course.now c.pass_lines.new.events c.args.job.node
+    (g.W.World.history c.args.world.now) c.args.course.now c.pass_lines.new.events.items c.args.job.node
     c.args.job.task.lines c.args.job.collected k first out) (sym (back c.in_ok-passed.passed))
     (behind
     (record {
@@ -99,7 +99,7 @@ returns-clause-halted g c =
     if_err c.start_line.result (λ fault halts first out at.
     halts first out
     (subst (λ k. BehindOn g.W.World.meaning (work_of c.args.maker.now)
-    (g.W.World.history c.args.world.now) c.args.course.now c.pass_lines.new.events c.args.job.node
+    (g.W.World.history c.args.world.now) c.args.course.now c.pass_lines.new.events.items c.args.job.node
     c.args.job.task.lines c.args.job.collected k first out) (sym (back c.in_ok-passed.passed))
     (behind
     (record {

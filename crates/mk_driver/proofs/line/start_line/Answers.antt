@@ -37,8 +37,8 @@ returns-in_err-start_child-clause-halted g c =
     rw p.1 (λ first out at.
     halted g.W.World.meaning (work_of c.args.maker.now) (of_world p.0) first _ out _ _ at.0 _
     (so_far-nothing g.W.World.meaning (work_of c.args.maker.now) first
-    (moment (g.W.World.history c.args.world.now) out c.args.course.now.events)
-    (moment (g.W.World.history c.start_child.new.world) out c.start_child.new.events) _ at.0 _ at.2
+    (moment (g.W.World.history c.args.world.now) out c.args.course.now.events.items)
+    (moment (g.W.World.history c.start_child.new.world) out c.start_child.new.events.items) _ at.0 _ at.2
     c.in_err-start_child.ensures.refused c.in_err-start_child.ensures.untold refl))
 
 pub returns-in_err-add_job-clause-halted : goal.returns-in_err-add_job-clause-halted
@@ -53,7 +53,7 @@ returns-in_err-add_job-clause-halted g c =
     rw c.cwd.ensures.value at c.in_ok-cmd.ensures in
     rw p.1 (λ first out at.
     let started = going-started g.W.World.meaning work _ (g.W.World.history c.start_child.new.world)
-    c.args.course.now c.start_child.new.events (c.args.course.now.jobs.items ++ job ∷ []) job one
+    c.args.course.now c.start_child.new.events.items (c.args.course.now.jobs.items ++ job ∷ []) job one
     c.in_ok-cmd.cmd first out c.requires.token has command c.in_ok-start_child.ensures.done
     c.in_ok-start_child.ensures.told refl at in
     halted g.W.World.meaning work (of_world p.0) first _ out _ _ started.0 _ started.2)
@@ -68,7 +68,7 @@ returns-clause-goes g c =
     rw c.cwd.ensures.value at c.in_ok-cmd.ensures in
     λ first out at.
     going-started g.W.World.meaning work _ (g.W.World.history c.start_child.new.world)
-    c.args.course.now c.start_child.new.events c.add_job.new.jobs.items job one
+    c.args.course.now c.start_child.new.events.items c.add_job.new.jobs.items job one
     c.in_ok-cmd.cmd first out c.requires.token has command c.in_ok-start_child.ensures.done
     c.in_ok-start_child.ensures.told c.in_ok-add_job.ensures.ok at
 

@@ -18,32 +18,32 @@ use Rattle.mk_decision.proofs.PieceLemmas.{on_ok, if_err}
 use Rattle.mk_trace.proofs.CallLemmas.{called-none}
 use Rattle.mk_driver.proofs.node.carry_out.Goals as goal
 
-pub returns-in_err-push-in-Keep-clause-halted : goal.returns-in_err-push-in-Keep-clause-halted
-returns-in_err-push-in-Keep-clause-halted g c =
+pub returns-in_err-tell-in-Keep-clause-halted : goal.returns-in_err-tell-in-Keep-clause-halted
+returns-in_err-tell-in-Keep-clause-halted g c =
     let p = err_from_is_err_and c.from_residual.result
     c.from_residual.ensures.1 in
     let work = work_of c.args.maker.now in
     let history = g.W.World.history c.args.world.now in
     rw p.1 (λ seen dec first out at.
     halted g.W.World.meaning work (of_world p.0) first history out _ _ at.0 _
-    (so_far-nothing g.W.World.meaning work first (moment history out c.args.course.now.events)
-    (moment history out c.push.new.self) _ at.0 _ at.2 (called-none g.W.World.meaning history)
-    c.in_err-push-in-Keep.ensures.err refl))
+    (so_far-nothing g.W.World.meaning work first (moment history out c.args.course.now.events.items)
+    (moment history out c.tell.new.events.items) _ at.0 _ at.2 (called-none g.W.World.meaning history)
+    c.in_err-tell-in-Keep.ensures.err refl))
 
-pub returns-in_err-push-in-Refuse-clause-halted : goal.returns-in_err-push-in-Refuse-clause-halted
-returns-in_err-push-in-Refuse-clause-halted g c =
-    let p = err_from_is_err_and c.from_residual-in_err-push-in-Refuse.result
-    c.from_residual-in_err-push-in-Refuse.ensures.1 in
+pub returns-in_err-tell-in-Refuse-clause-halted : goal.returns-in_err-tell-in-Refuse-clause-halted
+returns-in_err-tell-in-Refuse-clause-halted g c =
+    let p = err_from_is_err_and c.from_residual-in_err-tell-in-Refuse.result
+    c.from_residual-in_err-tell-in-Refuse.ensures.1 in
     let work = work_of c.args.maker.now in
     let history = g.W.World.history c.args.world.now in
     rw p.1 (λ seen dec first out at.
     halted g.W.World.meaning work (of_world p.0) first history out _ _ at.0 _
-    (so_far-nothing g.W.World.meaning work first (moment history out c.args.course.now.events)
-    (moment history out c.push-in-Refuse.new.self) _ at.0 _ at.2 (called-none g.W.World.meaning history)
-    c.in_err-push-in-Refuse.ensures.err refl))
+    (so_far-nothing g.W.World.meaning work first (moment history out c.args.course.now.events.items)
+    (moment history out c.tell-in-Refuse.new.events.items) _ at.0 _ at.2 (called-none g.W.World.meaning history)
+    c.in_err-tell-in-Refuse.ensures.err refl))
 
-pub returns-in_ok-push-in-Keep-clause-goes : goal.returns-in_ok-push-in-Keep-clause-goes
-returns-in_ok-push-in-Keep-clause-goes g c =
+pub returns-in_ok-tell-in-Keep-clause-goes : goal.returns-in_ok-tell-in-Keep-clause-goes
+returns-in_ok-tell-in-Keep-clause-goes g c =
     let work = work_of c.args.maker.now in
     let history = g.W.World.history c.args.world.now in
     let course = c.args.course.now in
@@ -55,22 +55,22 @@ returns-in_ok-push-in-Keep-clause-goes g c =
     let apart = (fits-begun _ _ _ _ _ _ _ c.requires.fits c.requires.next).1.apart in
     let kept : (lines : List TaskLine) × IsKept work n seen lines = rw c.in-Keep.is at dec in
     so_far-keeps g.W.World.meaning work at.0 course.sched.nodes course.jobs.items course.failure n
-    kept.0 seen course.last_shown first (moment history out course.events)
-    (moment history out c.push.new.self) at.2 d.within d.undecided may
-    apart at.1 kept.1 refl c.in_ok-push-in-Keep.ensures.ok refl)
+    kept.0 seen course.last_shown first (moment history out course.events.items)
+    (moment history out c.tell.new.events.items) at.2 d.within d.undecided may
+    apart at.1 kept.1 refl c.in_ok-tell-in-Keep.ensures.ok refl)
 
-pub returns-in_ok-push-in-Keep-clause-fits : goal.returns-in_ok-push-in-Keep-clause-fits
-returns-in_ok-push-in-Keep-clause-fits g c =
+pub returns-in_ok-tell-in-Keep-clause-fits : goal.returns-in_ok-tell-in-Keep-clause-fits
+returns-in_ok-tell-in-Keep-clause-fits g c =
     rw c.kept.ensures (fits-kept _ _ _ _ _ _ _ c.requires.fits c.requires.next)
 
-pub returns-in_ok-push-in-Keep-clause-nodes : goal.returns-in_ok-push-in-Keep-clause-nodes
-returns-in_ok-push-in-Keep-clause-nodes g c =
+pub returns-in_ok-tell-in-Keep-clause-nodes : goal.returns-in_ok-tell-in-Keep-clause-nodes
+returns-in_ok-tell-in-Keep-clause-nodes g c =
     let d = decided c.args.course.now.sched c.args.node c.requires.next in
     rw c.kept.ensures (undecided-less c.args.course.now.sched.nodes c.args.node _ d.within d.undecided
     refl)
 
-pub returns-in_ok-push-in-Refuse-clause-goes : goal.returns-in_ok-push-in-Refuse-clause-goes
-returns-in_ok-push-in-Refuse-clause-goes g c =
+pub returns-in_ok-tell-in-Refuse-clause-goes : goal.returns-in_ok-tell-in-Refuse-clause-goes
+returns-in_ok-tell-in-Refuse-clause-goes g c =
     let work = work_of c.args.maker.now in
     let history = g.W.World.history c.args.world.now in
     let course = c.args.course.now in
@@ -83,18 +83,18 @@ returns-in_ok-push-in-Refuse-clause-goes g c =
       unknown-set at.0 course.sched.nodes n _ d.within (λ is. cc) at.1,
       so_far-refuses g.W.World.meaning work at.0 course.sched.nodes course.jobs.items course.failure n
           c.in-Refuse.number c.in-Refuse.what seen
-          course.last_shown first (moment history out course.events)
-          (moment history out c.push-in-Refuse.new.self) at.2 d.within may (rw c.in-Refuse.is at dec) refl
-          c.in_ok-push-in-Refuse.ensures.ok refl,
+          course.last_shown first (moment history out course.events.items)
+          (moment history out c.tell-in-Refuse.new.events.items) at.2 d.within may (rw c.in-Refuse.is at dec) refl
+          c.in_ok-tell-in-Refuse.ensures.ok refl,
     )
 
-pub returns-in_ok-push-in-Refuse-clause-fits : goal.returns-in_ok-push-in-Refuse-clause-fits
-returns-in_ok-push-in-Refuse-clause-fits g c =
+pub returns-in_ok-tell-in-Refuse-clause-fits : goal.returns-in_ok-tell-in-Refuse-clause-fits
+returns-in_ok-tell-in-Refuse-clause-fits g c =
     rw (c.refused.ensures, c.note_failure.ensures)
     (fits-refused _ _ _ _ _ _ _ _ c.requires.fits c.requires.next)
 
-pub returns-in_ok-push-in-Refuse-clause-nodes : goal.returns-in_ok-push-in-Refuse-clause-nodes
-returns-in_ok-push-in-Refuse-clause-nodes g c =
+pub returns-in_ok-tell-in-Refuse-clause-nodes : goal.returns-in_ok-tell-in-Refuse-clause-nodes
+returns-in_ok-tell-in-Refuse-clause-nodes g c =
     let d = decided c.args.course.now.sched c.args.node c.requires.next in
     rw c.refused.ensures (undecided-less c.args.course.now.sched.nodes c.args.node _ d.within
     d.undecided refl)
@@ -120,7 +120,7 @@ returns-in_err-collected-in-Make-clause-halted g c =
     let made = rw c.in-Make.is at dec in
     halted-opening g.W.World.meaning work (of_world p.0) at.0 course.sched.nodes course.jobs.items
     course.failure n c.in-Make.task.lines seen course.last_shown first
-    (g.W.World.history c.args.world.now) (g.W.World.history c.open_job.new.world) out course.events at.2
+    (g.W.World.history c.args.world.now) (g.W.World.history c.open_job.new.world) out course.events.items at.2
     d.undecided may at.1 made.0 c.in_err-collected-in-Make.ensures.refused)
 
 pub run_on-requires-clause-fits : goal.run_on-requires-clause-fits
@@ -150,8 +150,8 @@ returns-in_ok-collected-in-Make-clause-goes g c =
     let made = rw c.in-Make.is at dec in
     goes first out (rw c.started.ensures
     (so_far-opened g.W.World.meaning work at.0 course.sched.nodes course.jobs.items course.failure n
-    c.in-Make.task.lines seen course.last_shown first (moment (g.W.World.history c.args.world.now) out course.events)
-    (moment (g.W.World.history c.open_job.new.world) out course.events) c.in_ok-collected-in-Make.collected at.2
+    c.in-Make.task.lines seen course.last_shown first (moment (g.W.World.history c.args.world.now) out course.events.items)
+    (moment (g.W.World.history c.open_job.new.world) out course.events.items) c.in_ok-collected-in-Make.collected at.2
     d.within d.undecided may apart at.1 made.0 made.1 c.in_ok-collected-in-Make.ensures.opened refl refl)))
     c.run_on.ensures.goes
 
@@ -167,8 +167,8 @@ returns-in_ok-collected-in-Make-clause-halted g c =
     let made = rw c.in-Make.is at dec in
     halts first out (rw c.started.ensures
     (so_far-opened g.W.World.meaning work at.0 course.sched.nodes course.jobs.items course.failure n
-    c.in-Make.task.lines seen course.last_shown first (moment (g.W.World.history c.args.world.now) out course.events)
-    (moment (g.W.World.history c.open_job.new.world) out course.events) c.in_ok-collected-in-Make.collected at.2
+    c.in-Make.task.lines seen course.last_shown first (moment (g.W.World.history c.args.world.now) out course.events.items)
+    (moment (g.W.World.history c.open_job.new.world) out course.events.items) c.in_ok-collected-in-Make.collected at.2
     d.within d.undecided may apart at.1 made.0 made.1 c.in_ok-collected-in-Make.ensures.opened refl refl)))
     c.run_on.ensures.halted
 

@@ -29,10 +29,10 @@ returns-in_err-decision-clause-halted g c =
     let some = c.in_err-decision.ensures.halted in
     rw p.1 (λ first out at.
     halted g.W.World.meaning work (of_world p.0) first (g.W.World.history c.decide_on.new.world) out
-    course.events course.last_shown at.0 _
+    course.events.items course.last_shown at.0 _
     (so_far-looks g.W.World.meaning work at.0 course.sched.nodes course.jobs.items course.failure
     c.args.node some.seen course.last_shown first
-    (g.W.World.history c.args.world.now) (g.W.World.history c.decide_on.new.world) out course.events
+    (g.W.World.history c.args.world.now) (g.W.World.history c.decide_on.new.world) out course.events.items
     at.2 d.undecided may some.looked))
 
 pub returns-clause-goes : goal.returns-clause-goes
@@ -50,7 +50,7 @@ returns-clause-goes g c =
       so_far-looks g.W.World.meaning work at.0 course.sched.nodes course.jobs.items course.failure
           c.args.node dec.0 course.last_shown first
           (g.W.World.history c.args.world.now) (g.W.World.history c.decide_on.new.world) out
-          course.events at.2 d.undecided may dec.1,
+          course.events.items at.2 d.undecided may dec.1,
     ))
     c.carry_out.ensures.goes
 
@@ -69,6 +69,6 @@ returns-clause-halted g c =
       so_far-looks g.W.World.meaning work at.0 course.sched.nodes course.jobs.items course.failure
           c.args.node dec.0 course.last_shown first
           (g.W.World.history c.args.world.now) (g.W.World.history c.decide_on.new.world) out
-          course.events at.2 d.undecided may dec.1,
+          course.events.items at.2 d.undecided may dec.1,
     ))
     c.carry_out.ensures.halted

@@ -1,8 +1,7 @@
-use Rattle.std.proofs.Common.{◌∙◌, true, false, refl, subst}
+use Rattle.std.proofs.Common.{◌∙◌, [], ◌∷◌, true, false, append_assoc, refl, subst}
 use Rattle.std.proofs.lemmas.List.{append-nil}
 use Rattle.mk_world.specs.Sinks.{Gains, GainsPart}
 use Rattle.std.proofs.lemmas.Result.{err_from_is_err_and}
-use Rattle.mk_child.proofs.EventLemmas.{set-last}
 use Rattle.mk_dry.proofs.GrowLemmas.{halted, so_far-nothing, so_far-weaken}
 use Rattle.mk_dry.proofs.LineLemmas.{in-unwaited, line-ended, line-started, taken-one, was-ended}
 use Rattle.mk_trace.specs.Builds.{moment}
@@ -21,9 +20,9 @@ returns-in_err-start_child-clause-goes g c =
     was-ended p.0 p.1 (λ scene at.
     halted g.W.World.meaning scene.start p.0 scene.first _ scene.known _
     (so_far-nothing g.W.World.meaning scene.start scene.first
-    (moment (g.W.World.history c.args.world.now) (g.S.Sink.held c.args.out.now) c.args.events.now)
+    (moment (g.W.World.history c.args.world.now) (g.S.Sink.held c.args.out.now) c.args.events.now.items)
     (moment (g.W.World.history c.start_child.new.world) (g.S.Sink.held c.args.out.now)
-    c.start_child.new.events) scene.known _ at.1 c.in_err-start_child.ensures.refused
+    c.start_child.new.events.items) scene.known _ at.1 c.in_err-start_child.ensures.refused
     c.in_err-start_child.ensures.untold refl))
 
 pub returns-in_err-ended-clause-goes : goal.returns-in_err-ended-clause-goes
@@ -33,10 +32,10 @@ returns-in_err-ended-clause-goes g c =
     was-ended p.0 p.1 (λ scene at.
     in-unwaited g.W.World.meaning scene p.0 c.args.place.number 1
     (g.W.World.history c.start_child.new.world) (g.W.World.history c.wait_child.new.world)
-    (g.S.Sink.held c.args.out.now) c.start_child.new.events c.wait_child.new.events at.0.is_open
+    (g.S.Sink.held c.args.out.now) c.start_child.new.events.items c.wait_child.new.events.items at.0.is_open
     (line-started g.W.World.meaning scene c.args.place c.args.line.now c.in_ok-cmd.cmd c.cwd.result.now
     (g.W.World.history c.args.world.now) (g.W.World.history c.start_child.new.world)
-    (g.S.Sink.held c.args.out.now) c.args.events.now c.start_child.new.events c.args.made.now.scopes at.0
+    (g.S.Sink.held c.args.out.now) c.args.events.now.items c.start_child.new.events.items c.args.made.now.scopes at.0
     c.requires.starts c.cwd.ensures.value c.in_ok-cmd.ensures at.1 c.in_ok-start_child.ensures.done
     c.in_ok-start_child.ensures.told)
     c.in_err-ended.ensures.refused c.in_err-ended.ensures.untold)
@@ -48,19 +47,18 @@ returns-in_err-write_all-clause-goes g c =
     let ended = c.in_ok-ended.ended in
     let ticket = taken-one ended.ticket.0 1 _ _ (c.in_ok-start_child.ensures.held ∙ rw c.requires.alone.none refl)
     c.in_ok-ended.ensures.taken in
-    let told = c.set_last.ensures ∙ rw c.in_ok-ended.ensures.told
-    (set-last c.start_child.new.events event.Wait (event.End 0 0 0)
-    (event.End c.args.place.node c.args.place.number ended.status)) in
+    let told = c.put.ensures.told ∙ rw c.in_ok-ended.ensures.told
+    (append_assoc c.start_child.new.events.items (event.Wait ∷ []) (event.End c.args.place.node c.args.place.number ended.status ∷ [])) in
     was-ended p.0 p.1 (rw p.2 (λ scene at. (
       scene.known,
       so_far-weaken g.W.World.meaning scene.start true scene.first _ scene.known scene.known _ _
           (line-ended g.W.World.meaning scene true c.args.place c.args.line.now
           ended (g.W.World.history c.start_child.new.world) (g.W.World.history c.wait_child.new.world)
-          (g.S.Sink.held c.args.out.now) (g.S.Sink.held c.write_all.new.sink) c.start_child.new.events
-          c.set_last.new.self c.args.made.now.scopes at.0 ticket.0
+          (g.S.Sink.held c.args.out.now) (g.S.Sink.held c.write_all.new.sink) c.start_child.new.events.items
+          c.put.new.events.items c.args.made.now.scopes at.0 ticket.0
           (line-started g.W.World.meaning scene c.args.place c.args.line.now c.in_ok-cmd.cmd c.cwd.result.now
           (g.W.World.history c.args.world.now) (g.W.World.history c.start_child.new.world)
-          (g.S.Sink.held c.args.out.now) c.args.events.now c.start_child.new.events c.args.made.now.scopes at.0
+          (g.S.Sink.held c.args.out.now) c.args.events.now.items c.start_child.new.events.items c.args.made.now.scopes at.0
           c.requires.starts c.cwd.ensures.value c.in_ok-cmd.ensures at.1 c.in_ok-start_child.ensures.done
           c.in_ok-start_child.ensures.told)
           (c.in_ok-ended.ensures.done c.args.place.node c.args.place.number) told
@@ -74,17 +72,16 @@ returns-clause-goes g c =
     let ended = c.in_ok-ended.ended in
     let ticket = taken-one ended.ticket.0 1 _ _ (c.in_ok-start_child.ensures.held ∙ rw c.requires.alone.none refl)
     c.in_ok-ended.ensures.taken in
-    let told = c.set_last.ensures ∙ rw c.in_ok-ended.ensures.told
-    (set-last c.start_child.new.events event.Wait (event.End 0 0 0)
-    (event.End c.args.place.node c.args.place.number ended.status)) in
+    let told = c.put.ensures.told ∙ rw c.in_ok-ended.ensures.told
+    (append_assoc c.start_child.new.events.items (event.Wait ∷ []) (event.End c.args.place.node c.args.place.number ended.status ∷ [])) in
     record {
       goes = λ scene at. line-ended g.W.World.meaning scene false c.args.place c.args.line.now
           ended (g.W.World.history c.start_child.new.world) (g.W.World.history c.wait_child.new.world)
-          (g.S.Sink.held c.args.out.now) (g.S.Sink.held c.write_all.new.sink) c.start_child.new.events
-          c.set_last.new.self c.args.made.now.scopes at.0 ticket.0
+          (g.S.Sink.held c.args.out.now) (g.S.Sink.held c.write_all.new.sink) c.start_child.new.events.items
+          c.put.new.events.items c.args.made.now.scopes at.0 ticket.0
           (line-started g.W.World.meaning scene c.args.place c.args.line.now c.in_ok-cmd.cmd c.cwd.result.now
           (g.W.World.history c.args.world.now) (g.W.World.history c.start_child.new.world)
-          (g.S.Sink.held c.args.out.now) c.args.events.now c.start_child.new.events c.args.made.now.scopes at.0
+          (g.S.Sink.held c.args.out.now) c.args.events.now.items c.start_child.new.events.items c.args.made.now.scopes at.0
           c.requires.starts c.cwd.ensures.value c.in_ok-cmd.ensures at.1 c.in_ok-start_child.ensures.done
           c.in_ok-start_child.ensures.told)
           (c.in_ok-ended.ensures.done c.args.place.node c.args.place.number) told

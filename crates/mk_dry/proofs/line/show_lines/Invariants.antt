@@ -12,9 +12,9 @@ invariant-lines g l = record {
   failure : l.failure ≡ l.fn.failure;
   goes : (scene : Scene) → AreLinesOf l.made.scopes l.node l.task.lines l.fn.failure scene
       → StandsIn g.W.World.meaning
-      (moment (g.W.World.history l.fn.world) (g.S.Sink.held l.fn.out) l.fn.events) (IsBehind scene 0) scene
+      (moment (g.W.World.history l.fn.world) (g.S.Sink.held l.fn.out) l.fn.events.items) (IsBehind scene 0) scene
       → StandsIn g.W.World.meaning
-      (moment (g.W.World.history l.world) (g.S.Sink.held l.out) l.events) (IsBehind scene l.done) scene;
+      (moment (g.W.World.history l.world) (g.S.Sink.held l.out) l.events.items) (IsBehind scene l.done) scene;
   world_faults : g.W.World.faults l.world ≡ g.W.World.faults l.fn.world;
   sink_faults : g.S.Sink.faults l.out ≡ g.S.Sink.faults l.fn.out;
 }

@@ -25,8 +25,8 @@ returns-clause-goes g c =
       with_task at.1 n kept.0,
       unknown-behind at.1 n kept.0 at.2,
       so_far-keeps g.W.World.meaning from.start work at.1 course.nodes.items course.failure n kept.0 dec.0
-          from.first (g.W.World.history c.args.world.now) (g.S.Sink.held c.args.out.now) course.events
-          c.push.new.self may (at.2 n (omega arith)) kept.1 at.3 c.in_ok-push-in-Keep.ensures.ok,
+          from.first (g.W.World.history c.args.world.now) (g.S.Sink.held c.args.out.now) course.events.items
+          c.tell.new.events.items may (at.2 n (omega arith)) kept.1 at.3 c.in_ok-tell-in-Keep.ensures.ok,
     ))
 
 pub returns-in-Refuse-clause-goes : goal.returns-in-Refuse-clause-goes
@@ -44,8 +44,8 @@ returns-in-Refuse-clause-goes g c =
       unknown-still at.1 n at.2,
       so_far-refuses g.W.World.meaning from.start (work_in course made flags) at.1 course.nodes.items
           course.failure n c.in-Refuse.number c.in-Refuse.what dec.0 from.first
-          (g.W.World.history c.args.world.now) (g.S.Sink.held c.args.out.now) course.events
-          c.push-in-Refuse.new.self may (rw c.in-Refuse.is at dec.1) at.3 c.in_ok-push-in-Refuse.ensures.ok,
+          (g.W.World.history c.args.world.now) (g.S.Sink.held c.args.out.now) course.events.items
+          c.tell-in-Refuse.new.events.items may (rw c.in-Refuse.is at dec.1) at.3 c.in_ok-tell-in-Refuse.ensures.ok,
     ))
 
 pub returns-in-Make-clause-goes : goal.returns-in-Make-clause-goes
@@ -67,7 +67,7 @@ returns-in-Make-clause-goes g c =
       (λ stands goes. shown-after g.W.World.meaning from.start from.first course.plan c.count_as_new.new.self
           made flags at.1 nodes n lines stands c.show_lines.new.failure
           (moment (g.W.World.history c.show_lines.new.world) (g.S.Sink.held c.show_lines.new.out)
-          c.show_lines.new.events) c.count_as_new.ensures at.0 at.2 goes),
+          c.show_lines.new.events.items) c.count_as_new.ensures at.0 at.2 goes),
       (λ halt ended. ended),
     )) c.show_lines.ensures.goes
 

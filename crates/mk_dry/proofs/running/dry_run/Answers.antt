@@ -43,7 +43,7 @@ returns-clause-ran g c =
     let out = g.S.Sink.held c.args.out.now in
     let first = moment history out [] in
     let now = moment (g.W.World.history c.run_to_end-result.new.world)
-    (g.S.Sink.held c.run_to_end-result.new.out) c.run_to_end-result.new.course.events in
+    (g.S.Sink.held c.run_to_end-result.new.out) c.run_to_end-result.new.course.events.items in
     let next = moment (g.W.World.history c.abandon.new.self)
     (g.S.Sink.held c.run_to_end-result.new.out) c.events_of.result in
     let idle : IsIdle history =

@@ -16,4 +16,4 @@ pub returns-in-Err-clause-ended : goal.returns-in-Err-clause-ended
 returns-in-Err-clause-ended g c = λ from at.
     rw c.from.ensures (ended-halted g.W.World.meaning from.start c.in-Err.halt from.first
     (moment (g.W.World.history c.pass_all.new.world) (g.S.Sink.held c.pass_all.new.out)
-    c.pass_all.new.course.events) (c.in-Err.ensures.goes.ends from at))
+    c.pass_all.new.course.events.items) (c.in-Err.ensures.goes.ends from at))
