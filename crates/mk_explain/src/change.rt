@@ -2,42 +2,12 @@
 ghost use Rattle.std.specs.Prelude.{◌≡◌, ◌++◌, length, OnOk};
 ghost use Rattle.mk_explain.specs.Changes as spec;
 ghost use Rattle.mk_meta.specs.Texts.{sign};
-ghost use Rattle.mk_oodate.specs.Stale as test;
 
-use mk_bytes::{NoMemory, Pair, Text};
+use mk_bytes::{NoMemory, Text};
 use mk_filemon::{push_decimal, push_escaped};
 use mk_meta::Meta;
+use mk_oodate::{same_exports, same_line};
 use mk_world::{Lines, Task, TaskLine};
-
-fn same_line(line: &TaskLine, other: &TaskLine) -> bool
-    ensures { result ≡ test.same_line line.now other.now }
-{
-    !line.compared || line.text.bytes() == other.text.bytes() && line.ignore == other.ignore
-}
-
-fn same_export(one: &Pair, other: &Pair) -> bool
-    ensures { result ≡ test.same_export one.now other.now }
-{
-    one.name.bytes() == other.name.bytes() && one.value.bytes() == other.value.bytes()
-}
-
-fn same_exports(pairs: &[Pair], others: &[Pair]) -> bool
-    ensures { result ≡ test.same_exports pairs.now others.now }
-{
-    let mut rest = pairs;
-    let mut behind = others;
-    'pairs: while let Some((pair, more)) = rest.split_first() {
-        let Some((other, left)) = behind.split_first() else {
-            return false;
-        };
-        if !same_export(pair, other) {
-            return false;
-        }
-        rest = more;
-        behind = left;
-    }
-    behind.is_empty()
-}
 
 fn push_sign(text: &mut Text, ignore: bool) -> Result<(), NoMemory>
     ensures { OnOk result (text.new ≡ text.old ++ sign ignore) }

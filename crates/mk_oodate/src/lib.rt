@@ -30,3 +30,4 @@ pub use decision::{is_newer, stale};
 pub use law::no_reason_is_fresh;
 pub use lists::looked_at;
 pub use reason::{Age, Ages, NodeMode, Times, Whens, Why};
+pub use same::{same_exports, same_line};

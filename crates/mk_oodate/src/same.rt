@@ -6,7 +6,9 @@ use mk_bytes::Pair;
 use mk_meta::Meta;
 use mk_world::{Task, TaskLine};
 
-fn same_line(line: &TaskLine, other: &TaskLine) -> bool
+/// Whether two lines are the same for a target: where the first one is compared, they have one text, and
+/// their failures are either both ignored or both not.
+pub fn same_line(line: &TaskLine, other: &TaskLine) -> bool
     ensures { result ≡ spec.same_line line.now other.now }
 {
     !line.compared || line.text.bytes() == other.text.bytes() && line.ignore == other.ignore
@@ -36,7 +38,8 @@ fn same_export(one: &Pair, other: &Pair) -> bool
     one.name.bytes() == other.name.bytes() && one.value.bytes() == other.value.bytes()
 }
 
-fn same_exports(pairs: &[Pair], others: &[Pair]) -> bool
+/// Whether these are the same variables with the same values, in the same order.
+pub fn same_exports(pairs: &[Pair], others: &[Pair]) -> bool
     ensures { result ≡ spec.same_exports pairs.now others.now }
 {
     let mut rest = pairs;
