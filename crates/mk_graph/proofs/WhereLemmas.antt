@@ -1,21 +1,25 @@
 -- Look-ups of names among those of the nodes that are so.
-use Rattle.std.proofs.Common.{◌≡◌, ◌≢◌, ◌∙◌, ℕ, zero, suc, ◌<◌, true, false, Bool, List, [], ◌∷◌, length, get_or, Option, Some, None, is_some, is_none, IfSome}
+use Rattle.std.proofs.Common.{◌≡◌, ◌≢◌, ◌↔◌, ◌∙◌, ◌==◌, ℕ, zero, suc, ◌<◌, true, false, Bool, IsTrue, List, [], ◌∷◌, length, get_or, Option, Some, None, is_some, is_none, IfSome}
 use Rattle.std.proofs.Common.{refl, sym, arith}
 use Rattle.std.proofs.Math.ListN.{get_or-map}
 use Rattle.std.proofs.lemmas.Bool.{cond_both, false_from_ne_true}
+use Rattle.std.proofs.lemmas.Bool.Decides.{nat_tests}
 use Rattle.std.proofs.lemmas.List.{length-map, nil_from_length}
 use Rattle.std.proofs.lemmas.List.Quantifiers.{position-Some}
 use Rattle.std.proofs.lemmas.Slice.Eq.{bytes_eq-Decides}
 use Rattle.std.specs.Str.{bytes_eq}
-use Rattle.std.specs.List.{list_any}
 use Rattle.mk_graph.specs.Nodes.{Node, IsGraph, names_of, new_node, node_at, number_of, is_named}
 use Rattle.mk_pool.proofs.PoolLemmas.{not_held}
 use Rattle.mk_pool.specs.Pool.{AreDistinct}
-use Rattle.mk_graph.specs.Where.{names_where}
+use Rattle.mk_graph.specs.Where.{is_listed, names_where}
 
--- whether a name is one of these
-abbrev pub is_listed : List (List ℕ) → List ℕ → Bool
-is_listed names name = list_any (λ one. bytes_eq one name) names
+-- an empty list is one of length 0
+pub empty-tells : {A : Type 0} (empty : Bool) (items : List A) → IsTrue empty ↔ (items ≡ [])
+    → empty ≡ (length items == 0)
+empty-tells true [] tells = refl
+empty-tells false [] tells = let is : IsTrue false = tells.1 refl in absurd cc
+empty-tells true (item ∷ items) tells = let is : (item ∷ items) ≡ [] = tells.0 refl in absurd cc
+empty-tells false (item ∷ items) tells = grind (arith, nat_tests)
 
 differ : (one other : List ℕ) → one ≢ other → bytes_eq one other ≡ false
 differ one other apart = false_from_ne_true _ (λ is. apart ((bytes_eq-Decides one other).0 is))

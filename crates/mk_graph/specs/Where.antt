@@ -1,6 +1,12 @@
 -- The nodes that are so, by their names.
 use Rattle.std.specs.Prelude.{ℕ, ◌==◌, Bool, not, List, [], ◌∷◌, length, if◌then◌else◌}
+use Rattle.std.specs.List.{list_any}
+use Rattle.std.specs.Str.{bytes_eq}
 use Rattle.mk_graph.specs.Nodes.{Node}
+
+-- whether a name is one of these
+abbrev pub is_listed : List (List ℕ) → List ℕ → Bool
+is_listed names name = list_any (λ one. bytes_eq one name) names
 
 -- the names of the nodes that are so, in order
 abbrev pub names_where : (Node → Bool) → List Node → List (List ℕ)

@@ -11,6 +11,7 @@ mod links;
 mod lists;
 mod macros;
 mod mode;
+mod told;
 mod walk;
 
 pub use attr::{Attr, Marks};

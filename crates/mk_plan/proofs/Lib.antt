@@ -6,6 +6,5 @@ pub mod NewerLemmas
 pub mod PlanLemmas
 pub mod PlanRows
 pub mod TaskLemmas
-pub mod FactLemmas
 pub mod ListLemmas
 pub mod PlanLawLemmas

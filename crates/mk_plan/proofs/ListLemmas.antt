@@ -1,14 +1,6 @@
--- Lists with nothing on them, and with something.
-use Rattle.std.proofs.Common.{◌≡◌, ◌↔◌, ℕ, zero, suc, ◌+◌, Bool, true, false, List, [], ◌∷◌, drop, slice_get, Some, IsTrue, refl, arith}
+-- Lists behind one of their items.
+use Rattle.std.proofs.Common.{◌≡◌, ℕ, zero, suc, ◌+◌, List, [], ◌∷◌, drop, slice_get, Some, refl, arith}
 use Rattle.std.proofs.lemmas.Grind.{common_steps}
-use Rattle.mk_plan.specs.Lists.{is_nil}
-
-pub nil-tells : {A : Type 0} (empty : Bool) (items : List A) → IsTrue empty ↔ (items ≡ [])
-    → empty ≡ is_nil items
-nil-tells true [] tells = refl
-nil-tells false [] tells = let is : IsTrue false = tells.1 refl in absurd cc
-nil-tells true (item ∷ items) tells = let is : (item ∷ items) ≡ [] = tells.0 refl in absurd cc
-nil-tells false (item ∷ items) tells = refl
 
 -- the items from one on are that one and those behind it
 pub items-from : {A : Type 0} (items : List A) (i : ℕ) (item : A) → slice_get items i ≡ Some item

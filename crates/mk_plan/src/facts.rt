@@ -1,11 +1,10 @@
 //! What conditions ask of the makefiles that were read and of the world.
-ghost use Rattle.std.specs.Prelude.{◌≡◌, ◌<◌, ℕ, List, Bool, [], true, false, length, is_none, IsTrue, IfOk, IfSome, OnErr};
+ghost use Rattle.std.specs.Prelude.{◌≡◌, ℕ, List, [], IsTrue, IfOk, OnErr};
 ghost use Rattle.std.specs.List.{list_any};
-ghost use Rattle.mk_expand.specs.Facts.{IsTold, asked_with, is_fact, is_listed};
+ghost use Rattle.mk_expand.specs.Facts.{IsTold, asked_with, is_fact};
 ghost use Rattle.mk_expand.specs.declared.facts.FactFault.TheVariants.{Failed};
 ghost use Rattle.mk_glob.specs.Patterns as patterns;
 ghost use Rattle.mk_cond.specs.declared.cond.Fun.TheVariants.{Exists as exists};
-ghost use Rattle.mk_graph.specs.Nodes.{Node, node_at};
 ghost use Rattle.mk_plan.specs.Asking.{Asking, AskingBeside};
 ghost use Rattle.mk_plan.specs.Facts as spec;
 ghost use Rattle.mk_world.specs.Causes.{HasCause};
@@ -14,7 +13,7 @@ use mk_bytes::{Text, Texts};
 use mk_cond::Fun;
 use mk_expand::{Asked, FactFault, Facts};
 use mk_glob::matches;
-use mk_graph::{Attr, Graph, Made};
+use mk_graph::Made;
 use mk_world::{World, WorldFault};
 use std::alloc::Global;
 
@@ -56,38 +55,6 @@ fn is_wanted(main: &Texts, requested: &Texts, pattern: &[u8]) -> bool
         return is_among(main, pattern);
     }
     is_among(requested, pattern)
-}
-
-// The node of a name, in a graph, whose names differ.
-fn node_of(graph: &Graph, name: &[u8]) -> Option<u32>
-    ensures found { IfSome result (λ n. (n < length graph.now)
-        × ((is_so : Node → Bool) → is_so (node_at graph.now n)
-        ≡ is_listed (spec.names_where is_so graph.now) name.now)) }
-    ensures missing { is_none result ≡ true → (is_so : Node → Bool)
-        → is_listed (spec.names_where is_so graph.now) name.now ≡ false }
-{
-    if graph.len() == 0 {
-        return None;
-    }
-    graph.find(name)
-}
-
-fn is_target(graph: &Graph, name: &[u8]) -> bool
-    ensures { result ≡ is_listed (spec.names_where spec.is_target graph.now) name.now }
-{
-    match node_of(graph, name) {
-        Some(n) => graph.has(n, Attr::Target),
-        None => false,
-    }
-}
-
-fn has_commands(graph: &Graph, name: &[u8]) -> bool
-    ensures { result ≡ is_listed (spec.names_where spec.has_commands graph.now) name.now }
-{
-    match node_of(graph, name) {
-        Some(n) => !graph.commands(n).is_empty(),
-        None => false,
-    }
 }
 
 impl<'a, W: World> MadeFacts<'a, W> {
@@ -185,10 +152,9 @@ impl<'a, W: World> Facts for MadeFacts<'a, W> {
         match fun {
             Fun::Make => Ok(is_wanted(&self.made.main, self.requested, argument)),
             Fun::Exists => self.exists(alloc, argument),
-            Fun::Target => Ok(is_target(&self.made.graph, argument)),
-            Fun::Commands => Ok(has_commands(&self.made.graph, argument)),
-            Fun::Defined => Ok(false),
-            Fun::Empty => Ok(false),
+            Fun::Target => Ok(self.made.graph.is_target(argument)),
+            Fun::Commands => Ok(self.made.graph.has_commands(argument)),
+            Fun::Defined | Fun::Empty => Ok(false),
         }
     }
 

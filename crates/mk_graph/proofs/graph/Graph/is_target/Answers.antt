@@ -1,6 +1,6 @@
 use Rattle.std.proofs.Common.{◌∙◌, refl, sym}
-use Rattle.mk_plan.specs.Facts.{is_target}
-use Rattle.mk_plan.proofs.facts.is_target.Goals as goal
+use Rattle.mk_graph.specs.Where.{is_target}
+use Rattle.mk_graph.proofs.graph.Graph.is_target.Goals as goal
 
 pub returns-in-Some : goal.returns-in-Some
 returns-in-Some c = c.has.ensures ∙ c.in-Some.ensures.found.1 is_target
