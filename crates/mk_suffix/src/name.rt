@@ -1,11 +1,10 @@
 //! The known suffix of a name.
 ghost use Rattle.std.specs.Prelude.{◌≡◌, ◌+◌, ◌-◌, ◌^◌, ◌<◌, ◌≤◌, length, IfSome, if◌then◌else◌};
 ghost use Rattle.std.specs.Option.{option_copied};
-ghost use Rattle.mk_depline.specs.Names.{is_among};
 ghost use Rattle.mk_suffix.specs.Names as spec;
 ghost use Rattle.mk_suffix.specs.NameView.{seen};
 
-use mk_bytes::{Text, Texts};
+use mk_bytes::{Text, Texts, is_among};
 
 fn is_slash(byte: u8) -> bool
     ensures { result ≡ spec.is_slash byte }
@@ -30,13 +29,6 @@ fn last_component(path: &[u8]) -> &[u8]
         start = start_behind(start, at, *byte);
     }
     &path[start..]
-}
-
-/// Whether a text is one of these.
-pub fn is_among(texts: &[Text], name: &[u8]) -> bool
-    ensures { result ≡ is_among texts.now name.now }
-{
-    texts.iter().any(|one| name == one.bytes())
 }
 
 // The longest known suffix that a text ends with and is longer than.

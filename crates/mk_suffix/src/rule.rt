@@ -4,8 +4,7 @@ ghost use Rattle.mk_depline.specs.Lines.{rule_named, rule_with, shown_rule};
 ghost use Rattle.mk_suffix.specs.Chains as spec;
 ghost use Rattle.mk_suffix.specs.Found.{is_marked};
 
-use crate::name::is_among;
-use mk_bytes::{NoMemory, Text};
+use mk_bytes::{NoMemory, Text, is_among};
 use mk_graph::{Attr, Graph};
 use std::alloc::Global;
 
