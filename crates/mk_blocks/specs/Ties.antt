@@ -15,6 +15,8 @@ pub record Ties (X W F : Type 0) : Type 1 where
   -- what the outside may answer, and the answers that it can have given so far
   pub Answers : Type 0
   pub agrees : Answers → X → Type 0
+  -- there always are such answers, so that what holds under all of them says something
+  pub some : (x : X) → (answers : Answers) × agrees answers x
   -- the states of the definition, and the state that is kept
   pub State : Type 0
   pub state : X → State

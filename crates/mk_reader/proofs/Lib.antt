@@ -3,8 +3,8 @@ mod DependencyLemmas
 mod FileLemmas
 mod FirstLemmas
 mod GaveLemmas
+mod KindLemmas
 mod LineLemmas
-mod ListLemmas
 mod MapLemmas
 mod MomentLemmas
 mod QuestionLemmas

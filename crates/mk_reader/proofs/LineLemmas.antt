@@ -8,7 +8,6 @@ use Rattle.mk_blocks.specs.declared.language.Loop.{Loop}
 use Rattle.mk_cond.specs.Cond.{Cond}
 use Rattle.mk_cond.specs.declared.fault.CondFault.{CondFault}
 use Rattle.mk_cond.specs.declared.fault.CondFault.TheVariants as cond
-use Rattle.mk_ast.specs.declared.fault.AstFault.TheVariants as ast
 use Rattle.mk_directive.specs.Directives.{directive_on}
 use Rattle.mk_reader.specs.Blocks.{IsDivided, cond_what, divided, judged}
 use Rattle.mk_reader.specs.Moments.{Moment, stands}
@@ -38,11 +37,7 @@ pub cond_sort : (fault : CondFault)
     → (of_cond fault ≡ NoMemory) ⊎ (of_cond fault ≡ Wrong (cond_what fault))
 cond_sort (cond.Bad at) = inr refl
 cond_sort (cond.TooDeep at) = inr refl
-cond_sort (cond.Tree (ast.Unclosed at)) = inr refl
-cond_sort (cond.Tree (ast.UnknownModifier at)) = inr refl
-cond_sort (cond.Tree (ast.BadModifier at)) = inr refl
-cond_sort (cond.Tree (ast.TooDeep at)) = inr refl
-cond_sort (cond.Tree ast.NoMemory) = inl refl
+cond_sort (cond.Tree fault) = inr refl
 cond_sort cond.NoMemory = inl refl
 
 pub judged-fault : (answers : Answers) (fault : CondFault) (found : Result Cond CondFault)

@@ -6,7 +6,8 @@ use Rattle.std.specs.Option.{option_map}
 use Rattle.std.specs.Str.{bytes_eq}
 use Rattle.mk_bytes.specs.Bytes as bytes
 use Rattle.mk_bytes.specs.Words.{is_white}
-use Rattle.mk_cli.specs.Assignments.{name_and_op, without_blanks_before, without_blanks_after}
+use Rattle.mk_bytes.specs.Texts.{without_blanks, without_blanks_before}
+use Rattle.mk_cli.specs.Assignments.{name_and_op}
 use Rattle.mk_cli.specs.declared.order.AssignOp.{AssignOp}
 
 -- brackets of both kinds are counted together
@@ -39,9 +40,6 @@ is_one_word text = not (bytes_eq text []) && not (list_any is_white text)
 -- a name, a sign and a value
 abbrev pub Parts : Type 0
 Parts = List ℕ × AssignOp × List ℕ
-
-abbrev pub without_blanks : List ℕ → List ℕ
-without_blanks text = without_blanks_after (without_blanks_before text)
 
 -- before the sign stands one word, with blanks round it
 abbrev pub signed : List ℕ × AssignOp → List ℕ → Option Parts

@@ -15,7 +15,7 @@ use Rattle.mk_directive.specs.Directives.{Directed, directive_on}
 use Rattle.mk_directive.specs.Words.{words_of}
 use Rattle.mk_directive.specs.declared.directive.Directive.{Directive}
 use Rattle.mk_directive.specs.declared.directive.Directive.TheVariants.{If, ElseIf}
-use Rattle.mk_expand.specs.Texts.{of_tree}
+use Rattle.mk_expand.specs.declared.fault.ExpandFault.TheVariants as expand
 use Rattle.mk_reader.specs.Kinds.{plain_text}
 use Rattle.mk_reader.specs.Moments.{Doing, Moment, given}
 use Rattle.mk_reader.specs.Questions.{Answers}
@@ -41,7 +41,7 @@ condition_on line = condition_in line (directive_on line)
 abbrev pub cond_what : CondFault → What
 cond_what (cond.Bad at) = CondAt at
 cond_what (cond.TooDeep at) = CondAt at
-cond_what (cond.Tree fault) = Expand (of_tree fault)
+cond_what (cond.Tree fault) = Expand (expand.Tree fault)
 cond_what cond.NoMemory = CondAt 0
 
 abbrev pub judged : Answers → Result Cond CondFault → Moment → Doing Bool

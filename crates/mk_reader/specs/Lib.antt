@@ -8,6 +8,7 @@ pub mod Inclusions
 pub mod Kinds
 pub mod Languages
 pub mod Leads
+pub mod LoopNames
 pub mod Messages
 pub mod Modes
 pub mod Moments
@@ -19,6 +20,7 @@ pub mod ReadFaults
 pub mod Reading
 pub mod Refusals
 pub mod Results
+pub mod SomeAnswers
 pub mod Steps
 pub mod Ties
 pub mod Values

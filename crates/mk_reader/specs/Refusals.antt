@@ -31,7 +31,7 @@ of_expand fault = Wrong (Expand fault)
 abbrev pub of_cond : CondFault → Refusal
 of_cond (cond.Bad at) = Wrong (Cond at)
 of_cond (cond.TooDeep at) = Wrong (Cond at)
-of_cond (cond.Tree fault) = of_expand (of_tree fault)
+of_cond (cond.Tree fault) = Wrong (Expand (expand.Tree fault))
 of_cond cond.NoMemory = NoMemory
 
 -- a fault of a reference in a line

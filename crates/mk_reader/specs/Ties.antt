@@ -27,6 +27,7 @@ use Rattle.mk_reader.specs.Questions.{readings_in-append, runnings_in-append, ti
 use Rattle.mk_reader.specs.declared.fault.Outside.{Outside}
 use Rattle.mk_reader.specs.declared.fault.Outside.TheVariants as outside
 use Rattle.mk_reader.specs.Refusals.{sorted}
+use Rattle.mk_reader.specs.SomeAnswers.{answers_to, are_answered}
 use Rattle.mk_reader.specs.declared.fault.Refusal.{Refusal}
 use Rattle.mk_reader.specs.declared.fault.What.{What}
 use Rattle.mk_reader.specs.declared.note.Note.{Note}
@@ -225,6 +226,8 @@ module _ {W S : Type 0} (outer : Outer W S) where
   reader_ties = record {
     Answers = Answers;
     agrees = has_answered;
+    some = λ x. let questions = questions_in x.state.now.notes.items in
+        (answers_to questions, are_answered questions);
     State = Moment;
     state = λ x. moment_of x.state.now x.order.now;
     kind = line_kind;

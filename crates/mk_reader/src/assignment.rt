@@ -1,13 +1,13 @@
 //! Assignments in makefiles: which lines they are, and their parts (make(1), "VARIABLE
 //! ASSIGNMENTS").
-ghost use Rattle.std.specs.Prelude.{◌≡◌, ◌+◌, ◌<◌, ◌≤◌, length, reverse, take_while, IfSome};
+ghost use Rattle.std.specs.Prelude.{◌≡◌, ◌+◌, ◌<◌, ◌≤◌, length, IfSome};
 ghost use Rattle.std.specs.List.{list_any};
 ghost use Rattle.std.specs.Option.{option_map};
-ghost use Rattle.mk_bytes.specs.Bytes as bytes;
 ghost use Rattle.mk_bytes.specs.Words.{is_white as is_white_byte};
 ghost use Rattle.mk_cli.specs.Assignments as words;
 ghost use Rattle.mk_reader.specs.Assignments as spec;
 
+use mk_bytes::{without_blanks, without_blanks_before};
 use mk_cli::AssignOp;
 use mk_directive::is_white;
 
@@ -64,49 +64,6 @@ fn first_equals(line: &[u8]) -> Option<usize>
         depth = depth_behind(depth, *byte);
     }
     None
-}
-
-fn is_blank(byte: u8) -> bool
-    ensures { result ≡ bytes.is_blank byte }
-{
-    byte == b' ' || byte == b'\t'
-}
-
-fn leading_blanks(text: &[u8]) -> usize
-    ensures len { result ≡ length (take_while bytes.is_blank text.now) }
-    ensures within { result ≤ length text.now }
-{
-    text.iter().take_while(|byte| is_blank(**byte)).count()
-}
-
-fn final_blanks(text: &[u8]) -> usize
-    ensures len { result ≡ length (take_while bytes.is_blank (reverse text.now)) }
-    ensures within { result ≤ length text.now }
-{
-    text.iter()
-        .rev()
-        .take_while(|byte| is_blank(**byte))
-        .count()
-}
-
-/// A text without the blanks that begin it.
-pub fn without_blanks_before<'t>(text: &'t [u8]) -> &'t [u8]
-    ensures { result.now ≡ words.without_blanks_before text.now }
-{
-    &text[leading_blanks(text)..]
-}
-
-fn without_blanks_after<'t>(text: &'t [u8]) -> &'t [u8]
-    ensures { result.now ≡ words.without_blanks_after text.now }
-{
-    &text[..text.len() - final_blanks(text)]
-}
-
-/// A text without the blanks round it.
-pub fn without_blanks<'t>(text: &'t [u8]) -> &'t [u8]
-    ensures { result.now ≡ spec.without_blanks text.now }
-{
-    without_blanks_after(without_blanks_before(text))
 }
 
 // The name and the operator, of what stands before the `=`.

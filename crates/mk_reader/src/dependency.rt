@@ -7,9 +7,9 @@ ghost use Rattle.mk_bytes.specs.Paths.{is_clean_directory};
 ghost use Rattle.mk_reader.specs.Dependencies as spec;
 ghost use Rattle.mk_reader.specs.DependencyView.{IsRefusedLine, parts_seen};
 
-use crate::assignment::without_blanks_before;
 use crate::fault::Refusal;
 use mk_ast::{AstFault, reference_end};
+use mk_bytes::without_blanks_before;
 use mk_depline::parse_dep;
 use mk_rules::Rules;
 use std::alloc::Global;

@@ -1,12 +1,10 @@
 //! What conditions ask of the lines that were read and of the world.
-ghost use Rattle.std.specs.Prelude.{◌≡◌, ◌<◌, [], Bool, true, false, length, is_none, IsTrue, IfOk, IfSome, OnErr};
+ghost use Rattle.std.specs.Prelude.{◌≡◌, [], IsTrue, IfOk, OnErr};
 ghost use Rattle.std.specs.List.{list_any};
 ghost use Rattle.mk_cond.specs.declared.cond.Fun.TheVariants.{Exists as exists};
-ghost use Rattle.mk_expand.specs.Facts.{IsTold, asked_with, is_fact, is_listed};
+ghost use Rattle.mk_expand.specs.Facts.{IsTold, asked_with, is_fact};
 ghost use Rattle.mk_expand.specs.declared.facts.FactFault.TheVariants.{Failed};
 ghost use Rattle.mk_glob.specs.Patterns as patterns;
-ghost use Rattle.mk_graph.specs.Nodes.{Node, node_at};
-ghost use Rattle.mk_graph.specs.Where.{has_commands, is_target, names_where};
 ghost use Rattle.mk_reader.specs.Facts as spec;
 ghost use Rattle.mk_reader.specs.Leads.{Led};
 ghost use Rattle.mk_reader.specs.Notes.{asked_by};
@@ -17,7 +15,6 @@ use mk_bytes::{Text, Texts};
 use mk_cond::Fun;
 use mk_expand::{FactFault, Facts};
 use mk_glob::matches;
-use mk_graph::{Attr, Graph};
 use mk_rules::Rules;
 use mk_world::{World, WorldFault};
 use std::alloc::Global;
@@ -65,38 +62,6 @@ fn is_wanted(rules: &Rules, requested: &Texts, pattern: &[u8]) -> bool
     }
     match rules.first_main() {
         Some(name) => matches(pattern, name),
-        None => false,
-    }
-}
-
-// The node of a name, of which there is one.
-fn node_of(graph: &Graph, name: &[u8]) -> Option<u32>
-    ensures found { IfSome result (λ n. (n < length graph.now)
-        × ((is_so : Node → Bool) → is_so (node_at graph.now n)
-        ≡ is_listed (names_where is_so graph.now) name.now)) }
-    ensures missing { is_none result ≡ true → (is_so : Node → Bool)
-        → is_listed (names_where is_so graph.now) name.now ≡ false }
-{
-    if graph.len() == 0 {
-        return None;
-    }
-    graph.find(name)
-}
-
-fn is_target(graph: &Graph, name: &[u8]) -> bool
-    ensures { result ≡ is_listed (names_where is_target graph.now) name.now }
-{
-    match node_of(graph, name) {
-        Some(n) => graph.has(n, Attr::Target),
-        None => false,
-    }
-}
-
-fn has_commands(graph: &Graph, name: &[u8]) -> bool
-    ensures { result ≡ is_listed (names_where has_commands graph.now) name.now }
-{
-    match node_of(graph, name) {
-        Some(n) => !graph.commands(n).is_empty(),
         None => false,
     }
 }
@@ -175,10 +140,9 @@ impl<'a, W: World> Facts for ReadFacts<'a, W> {
         match fun {
             Fun::Make => Ok(is_wanted(self.rules, self.requested, argument)),
             Fun::Exists => self.exists(alloc, argument),
-            Fun::Target => Ok(is_target(self.rules.graph(), argument)),
-            Fun::Commands => Ok(has_commands(self.rules.graph(), argument)),
-            Fun::Defined => Ok(false),
-            Fun::Empty => Ok(false),
+            Fun::Target => Ok(self.rules.graph().is_target(argument)),
+            Fun::Commands => Ok(self.rules.graph().has_commands(argument)),
+            Fun::Defined | Fun::Empty => Ok(false),
         }
     }
 

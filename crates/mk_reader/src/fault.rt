@@ -170,7 +170,7 @@ impl From<CondFault> for Refusal {
         match fault {
             CondFault::Bad(at) => Refusal::Wrong(What::Cond(at)),
             CondFault::TooDeep(at) => Refusal::Wrong(What::Cond(at)),
-            CondFault::Tree(fault) => Refusal::from(ExpandFault::from(fault)),
+            CondFault::Tree(fault) => Refusal::Wrong(What::Expand(ExpandFault::Tree(fault))),
             CondFault::NoMemory => Refusal::NoMemory,
         }
     }

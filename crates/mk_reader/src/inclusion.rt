@@ -10,21 +10,12 @@ use crate::fault::{Refusal, What};
 use crate::kind::without_spaces;
 use crate::reader::Reader;
 use mk_blocks::IncludedFile;
-use mk_bytes::{Items, NoMemory, Text, Texts, clean_path};
+use mk_bytes::{Items, NoMemory, Text, Texts, clean_path, is_absolute};
 use mk_cli::Order;
 use mk_directive::{Directive, Wanted, directive_on, wanted_by};
 use mk_lines::cut_comment;
 use mk_world::{Sink, World};
 use std::alloc::Global;
-
-fn is_absolute(path: &[u8]) -> bool
-    ensures { result ≡ paths.is_absolute path.now }
-{
-    match path {
-        [] => false,
-        [first, ..] => *first == b'/',
-    }
-}
 
 fn name_len(path: &[u8]) -> usize
     ensures len { result ≡ length (take_while spec.is_no_slash (reverse path.now)) }

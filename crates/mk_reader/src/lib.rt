@@ -21,5 +21,5 @@ mod step;
 mod variable;
 
 pub use fault::{ReadFault, What};
-pub use law::readings_of_maps;
+pub use law::{readings_of_maps, turns_keep_kinds};
 pub use reading::read;

@@ -1,5 +1,5 @@
 -- Builds: a plan of the targets that are asked for is made, and its nodes are built.
-use Rattle.std.specs.Prelude.{◌≡◌, ◌⊎◌, ℕ, ◌≤◌, Bool, true, false, List, [], map}
+use Rattle.std.specs.Prelude.{◌≡◌, ◌⊎◌, ℕ, ◌≤◌, Bool, true, false, List, []}
 use Rattle.std.specs.Prelude.{Option, Ok}
 use Rattle.mk_trace.specs.Builds.{moment}
 use Rattle.mk_headline.specs.CleanBuilds.{IsCleanBuild}
@@ -9,6 +9,7 @@ use Rattle.mk_trace.specs.declared.result.BuildResult.TheVariants as build
 use Rattle.mk_flags.specs.declared.Flags.{Flags}
 use Rattle.mk_graph.specs.Nodes as graph
 use Rattle.mk_graph.specs.declared.Made.{Made}
+pub use Rattle.mk_plan.specs.Names.{names_of}
 use Rattle.mk_plan.specs.Plans.{planned}
 use Rattle.mk_plan.specs.Refusals.{IsRefusedBy}
 use Rattle.mk_plan.specs.declared.fault.PlanFault.{PlanFault}
@@ -31,9 +32,6 @@ pub record AreJobs (jobs : ℕ) : Type 0 where
 -- how a run went that built nothing
 abbrev pub unbuilt : End → Went
 unbuilt end = record { end = end; plan = []; events = [] }
-
-abbrev pub names_of : List PlanNode → List (List ℕ)
-names_of nodes = map (λ (node : PlanNode). node.name) nodes
 
 -- what the world tells and what standard output holds, at one moment
 pub record Point : Type 0 where

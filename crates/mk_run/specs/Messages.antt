@@ -1,7 +1,7 @@
 -- The lines on standard error.
 use Rattle.std.specs.Prelude.{ℕ, List, [], ◌∷◌, ◌++◌, decimal, codes}
-use Rattle.mk_ast.specs.declared.fault.AstFault.{AstFault}
-use Rattle.mk_ast.specs.declared.fault.AstFault.TheVariants as tree
+use Rattle.mk_ast.specs.declared.fault.TreeFault.{TreeFault}
+use Rattle.mk_ast.specs.declared.fault.TreeFault.TheVariants as tree
 use Rattle.mk_bytes.specs.Bytes.{newline, space}
 use Rattle.mk_bytes.specs.declared.kind.Kind.{Kind}
 use Rattle.mk_bytes.specs.declared.kind.Kind.TheVariants.{Names, Lines, Includes}
@@ -14,12 +14,11 @@ use Rattle.mk_run.specs.declared.report.End.{End}
 use Rattle.mk_run.specs.declared.report.End.TheVariants.{Done, Usage, NoFile, Bad, Print, NoTarget, NoRule, Cycle, Limit, Expand, JobFailed, NotUpToDate, WorldFault, SinkFault, NoMemory}
 
 -- a fault of the grammar, with its place
-abbrev pub tree_text : AstFault → List ℕ
+abbrev pub tree_text : TreeFault → List ℕ
 tree_text (tree.Unclosed at) = codes "unclosed reference at " ++ decimal at
 tree_text (tree.UnknownModifier at) = codes "unknown modifier at " ++ decimal at
 tree_text (tree.BadModifier at) = codes "bad modifier at " ++ decimal at
 tree_text (tree.TooDeep at) = codes "nested too deeply at " ++ decimal at
-tree_text tree.NoMemory = codes "out of memory"
 
 abbrev pub fault_text : ExpandFault → List ℕ
 fault_text (expand.Recursive name) = codes "variable " ++ (name ++ codes " is recursive")
@@ -122,12 +121,11 @@ line_of words SinkFault = []
 line_of words end = as_line (text_of words end)
 
 -- the place that a text shows, or 0 where it shows none
-abbrev pub tree_place : AstFault → ℕ
+abbrev pub tree_place : TreeFault → ℕ
 tree_place (tree.Unclosed at) = at
 tree_place (tree.UnknownModifier at) = at
 tree_place (tree.BadModifier at) = at
 tree_place (tree.TooDeep at) = at
-tree_place tree.NoMemory = 0
 
 abbrev pub fault_place : ExpandFault → ℕ
 fault_place (expand.Tree fault) = tree_place fault

@@ -8,22 +8,21 @@ ghost use Rattle.mk_world.specs.declared.fault.SinkFault.TheVariants.{Failed};
 use crate::report::End;
 use crate::words::word_at;
 use itoa::Buffer;
-use mk_ast::AstFault;
+use mk_ast::TreeFault;
 use mk_bytes::{Kind, Texts};
 use mk_expand::ExpandFault;
 use mk_reader::What;
 use mk_world::{Sink, SinkFault, write_all};
 
 // The place that the text of a fault shows, or 0.
-fn tree_place(fault: &AstFault) -> usize
+fn tree_place(fault: &TreeFault) -> usize
     ensures { result ≡ spec.tree_place fault.now }
 {
     match fault {
-        AstFault::Unclosed(at) => *at,
-        AstFault::UnknownModifier(at) => *at,
-        AstFault::BadModifier(at) => *at,
-        AstFault::TooDeep(at) => *at,
-        AstFault::NoMemory => 0,
+        TreeFault::Unclosed(at) => *at,
+        TreeFault::UnknownModifier(at) => *at,
+        TreeFault::BadModifier(at) => *at,
+        TreeFault::TooDeep(at) => *at,
     }
 }
 
@@ -59,16 +58,15 @@ fn name_count(what: &What) -> usize
 }
 
 // The text of a fault in three pieces, with its place in decimal.
-fn tree_text<'t>(fault: &AstFault, at: &'t [u8]) -> [&'t [u8]; 3]
+fn tree_text<'t>(fault: &TreeFault, at: &'t [u8]) -> [&'t [u8]; 3]
     requires { at.now ≡ decimal (spec.tree_place fault.now) }
     ensures { all_of result ≡ spec.tree_text fault.now }
 {
     match fault {
-        AstFault::Unclosed(_) => [b"unclosed reference at ", at, b""],
-        AstFault::UnknownModifier(_) => [b"unknown modifier at ", at, b""],
-        AstFault::BadModifier(_) => [b"bad modifier at ", at, b""],
-        AstFault::TooDeep(_) => [b"nested too deeply at ", at, b""],
-        AstFault::NoMemory => [b"out of memory", b"", b""],
+        TreeFault::Unclosed(_) => [b"unclosed reference at ", at, b""],
+        TreeFault::UnknownModifier(_) => [b"unknown modifier at ", at, b""],
+        TreeFault::BadModifier(_) => [b"bad modifier at ", at, b""],
+        TreeFault::TooDeep(_) => [b"nested too deeply at ", at, b""],
     }
 }
 
