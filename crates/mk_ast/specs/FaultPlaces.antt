@@ -4,6 +4,8 @@ use Rattle.mk_bytes.specs.Bytes.{dollar, colon}
 use Rattle.mk_ast.specs.declared.fault.AstFault.{AstFault}
 use Rattle.mk_ast.specs.declared.fault.AstFault.TheVariants.{Unclosed, UnknownModifier, BadModifier}
 use Rattle.mk_ast.specs.declared.fault.AstFault.TheVariants.{TooDeep, NoMemory}
+use Rattle.mk_ast.specs.declared.fault.TreeFault.{TreeFault}
+use Rattle.mk_ast.specs.declared.fault.TreeFault.TheVariants as tree
 
 -- a place with a `:` directly before it
 abbrev pub IsBehindColon : List ℕ → ℕ → Type 0
@@ -17,3 +19,10 @@ StandsIn text (UnknownModifier at) = IsBehindColon text at
 StandsIn text (BadModifier at) = IsBehindColon text at
 StandsIn text (TooDeep at) = slice_get text at ≡ Some dollar
 StandsIn text NoMemory = ⊥
+
+-- the same of a fault of the grammar alone
+abbrev pub TreeStandsIn : List ℕ → TreeFault → Type 0
+TreeStandsIn text (tree.Unclosed at) = slice_get text at ≡ Some dollar
+TreeStandsIn text (tree.UnknownModifier at) = IsBehindColon text at
+TreeStandsIn text (tree.BadModifier at) = IsBehindColon text at
+TreeStandsIn text (tree.TooDeep at) = slice_get text at ≡ Some dollar

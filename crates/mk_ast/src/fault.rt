@@ -24,6 +24,23 @@ pub enum AstFault {
     NoMemory,
 }
 
+/// A fault of the grammar alone: an [`AstFault`] that is no want of memory.
+#[derive(Clone, Copy, PartialEq, Eq)]
+pub enum TreeFault {
+    /// The text ends inside the reference whose `$` is at this place. Of several open ones the
+    /// innermost counts.
+    Unclosed(usize),
+
+    /// What begins at this place, after a `:`, is no modifier.
+    UnknownModifier(usize),
+
+    /// The modifier that begins at this place, after a `:`, is not completed.
+    BadModifier(usize),
+
+    /// The `$` at this place begins a reference inside 256 open ones.
+    TooDeep(usize),
+}
+
 impl From<NoMemory> for AstFault {
     ghost from_gives = { λ _ fault. fault ≡ no_memory };
 

@@ -19,7 +19,7 @@ mod spelling;
 mod tree;
 mod whole;
 
-pub use fault::AstFault;
+pub use fault::{AstFault, TreeFault};
 pub use piece::{bare_reference_at, piece_at};
 pub use place::Piece;
 pub use spelling::{print, print_part};

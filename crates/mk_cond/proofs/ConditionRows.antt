@@ -5,7 +5,7 @@ use Rattle.mk_ast.specs.Text.{text_at}
 use Rattle.mk_ast.specs.Rows.{is_word, is_left_out_word}
 use Rattle.mk_ast.specs.Rows as rows
 use Rattle.mk_ast.specs.References.{mods_at, ref_at}
-use Rattle.mk_ast.specs.declared.fault.AstFault.TheVariants.{UnknownModifier, BadModifier, Unclosed}
+use Rattle.mk_ast.specs.declared.fault.TreeFault.TheVariants.{UnknownModifier, BadModifier, Unclosed}
 use Rattle.mk_cond.specs.Cond.{Cond, any, all, negate, test, both, no_more, cond_then}
 use Rattle.mk_cond.specs.Terms.{begins, is_call, skip_blanks, unquoted}
 use Rattle.mk_cond.specs.Conditions.{more_at, inner_at, condition_of}

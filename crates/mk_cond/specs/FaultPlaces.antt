@@ -6,10 +6,10 @@ use Rattle.mk_cond.specs.declared.fault.CondFault.{CondFault}
 use Rattle.mk_cond.specs.declared.fault.CondFault.TheVariants.{Bad, Tree, TooDeep, NoMemory}
 
 -- What does not fit stands in the text, or is its end. A fault of a reference stands where those of
--- references do; so it is never want of memory. What is opened too deep is a `!` or a parenthesis.
+-- references do. What is opened too deep is a `!` or a parenthesis.
 abbrev pub StandsIn : List ℕ → CondFault → Type 0
 StandsIn text (Bad at) = at ≤ length text
-StandsIn text (Tree fault) = references.StandsIn text fault
+StandsIn text (Tree fault) = references.TreeStandsIn text fault
 StandsIn text (TooDeep at) =
     (slice_get text at ≡ Some exclamation) ⊎ (slice_get text at ≡ Some round_open)
 StandsIn text NoMemory = ⊥

@@ -10,6 +10,7 @@ use Rattle.mk_ast.specs.Tree.{Tree, end, part}
 use Rattle.mk_ast.specs.References.{piece_at, bare_reference_at}
 use Rattle.mk_ast.specs.declared.fault.AstFault.{AstFault}
 use Rattle.mk_ast.specs.declared.fault.AstFault.TheVariants as ast
+use Rattle.mk_ast.specs.declared.fault.TreeFault.TheVariants as tree
 use Rattle.mk_ast.specs.declared.place.Piece.{Piece}
 use Rattle.mk_ast.specs.declared.place.Piece.TheVariants.{Word, Quoted, Argument}
 use Rattle.mk_cond.specs.Cond.{Cond, Side, negate, test, alone, both}
@@ -28,10 +29,10 @@ Read A = Result (A × List ℕ) CondFault
 
 -- a fault of the grammar of references; want of memory is what it is everywhere
 abbrev pub of_tree : AstFault → CondFault
-of_tree (ast.Unclosed at) = of_grammar (ast.Unclosed at)
-of_tree (ast.UnknownModifier at) = of_grammar (ast.UnknownModifier at)
-of_tree (ast.BadModifier at) = of_grammar (ast.BadModifier at)
-of_tree (ast.TooDeep at) = of_grammar (ast.TooDeep at)
+of_tree (ast.Unclosed at) = of_grammar (tree.Unclosed at)
+of_tree (ast.UnknownModifier at) = of_grammar (tree.UnknownModifier at)
+of_tree (ast.BadModifier at) = of_grammar (tree.BadModifier at)
+of_tree (ast.TooDeep at) = of_grammar (tree.TooDeep at)
 of_tree ast.NoMemory = NoMemory
 
 abbrev pub with_fault : {A : Type 0} → Result A AstFault → Result A CondFault
@@ -91,7 +92,7 @@ called bytes =
 -- The name and modifiers of `empty` have no `$` that could tell of a missing parenthesis, so that
 -- is told like every other text that ends too early.
 abbrev pub of_bare : ℕ → AstFault → CondFault
-of_bare total (ast.Unclosed at) = if at == total then Bad total else of_grammar (ast.Unclosed at)
+of_bare total (ast.Unclosed at) = if at == total then Bad total else of_grammar (tree.Unclosed at)
 of_bare total fault = of_tree fault
 
 abbrev pub with_bare_fault : ℕ → Result (Tree × List ℕ) AstFault → Read Tree

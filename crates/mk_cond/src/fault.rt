@@ -2,7 +2,7 @@ ghost use Rattle.std.specs.Prelude.{◌≡◌};
 ghost use Rattle.mk_cond.specs.Terms.{of_tree};
 ghost use Rattle.mk_cond.specs.declared.fault.CondFault.TheVariants.{NoMemory as no_memory};
 
-use mk_ast::AstFault;
+use mk_ast::{AstFault, TreeFault};
 use mk_bytes::NoMemory;
 
 /// The first fault that a reading forwards meets in a condition. Places are counted in bytes, from
@@ -12,8 +12,8 @@ pub enum CondFault {
     /// The byte at this place does not fit, or the text ends there too early.
     Bad(usize),
 
-    /// A reference has this fault. It is never the want of memory.
-    Tree(AstFault),
+    /// A reference has this fault.
+    Tree(TreeFault),
 
     /// The parenthesis or `!` at this place is opened inside 256 open ones.
     TooDeep(usize),
@@ -35,10 +35,10 @@ impl From<AstFault> for CondFault {
 
     fn from(fault: AstFault) -> CondFault {
         match fault {
-            AstFault::Unclosed(at) => CondFault::Tree(AstFault::Unclosed(at)),
-            AstFault::UnknownModifier(at) => CondFault::Tree(AstFault::UnknownModifier(at)),
-            AstFault::BadModifier(at) => CondFault::Tree(AstFault::BadModifier(at)),
-            AstFault::TooDeep(at) => CondFault::Tree(AstFault::TooDeep(at)),
+            AstFault::Unclosed(at) => CondFault::Tree(TreeFault::Unclosed(at)),
+            AstFault::UnknownModifier(at) => CondFault::Tree(TreeFault::UnknownModifier(at)),
+            AstFault::BadModifier(at) => CondFault::Tree(TreeFault::BadModifier(at)),
+            AstFault::TooDeep(at) => CondFault::Tree(TreeFault::TooDeep(at)),
             AstFault::NoMemory => CondFault::NoMemory,
         }
     }

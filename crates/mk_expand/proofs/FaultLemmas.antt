@@ -10,8 +10,6 @@ use Rattle.mk_expand.specs.declared.local.Locals.{Locals}
 use Rattle.mk_mods.specs.Modifiers.{apply}
 use Rattle.mk_mods.specs.State.{State, plain, text_of}
 use Rattle.mk_mods.specs.declared.modifier.Mod.{Mod}
-use Rattle.mk_ast.specs.declared.fault.AstFault.{AstFault}
-use Rattle.mk_ast.specs.declared.fault.AstFault.TheVariants as ast
 use Rattle.mk_cond.specs.declared.fault.CondFault.{CondFault}
 use Rattle.mk_cond.specs.declared.fault.CondFault.TheVariants as of_conds
 use Rattle.mk_mods.specs.declared.fault.ModFault.{ModFault}
@@ -19,22 +17,14 @@ use Rattle.mk_mods.specs.declared.fault.ModFault.TheVariants as of_mods
 use Rattle.mk_expand.specs.Chains.{of_cond}
 use Rattle.mk_expand.specs.Limits.{MayNotOpen, appended, max_text}
 use Rattle.mk_expand.specs.ModFaults.{of_mod, with_fault}
-use Rattle.mk_expand.specs.Texts.{of_tree}
 use Rattle.mk_expand.specs.declared.fault.ExpandFault.{ExpandFault}
 use Rattle.mk_expand.specs.declared.fault.ExpandFault.TheVariants.{Failed, NoMemory, TooLong}
 use Rattle.mk_expand.proofs.FactLemmas.{NeverFails}
 use Rattle.mk_expand.proofs.NeverLemmas.{below-never, where-never}
 
-pub never-of_tree : (fault : AstFault) → of_tree fault ≡ Failed → ⊥
-never-of_tree (ast.Unclosed at) is = cc
-never-of_tree (ast.UnknownModifier at) is = cc
-never-of_tree (ast.BadModifier at) is = cc
-never-of_tree (ast.TooDeep at) is = cc
-never-of_tree ast.NoMemory is = cc
-
 pub never-of_cond : (fault : CondFault) → of_cond fault ≡ Failed → ⊥
 never-of_cond (of_conds.Bad at) is = cc
-never-of_cond (of_conds.Tree fault) is = never-of_tree fault is
+never-of_cond (of_conds.Tree fault) is = cc
 never-of_cond (of_conds.TooDeep at) is = cc
 never-of_cond of_conds.NoMemory is = cc
 

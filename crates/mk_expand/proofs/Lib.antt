@@ -3,7 +3,6 @@ pub mod ConditionLemmas
 mod ConditionRows
 pub mod FactLemmas
 pub mod FaultLemmas
-pub mod HeldLemmas
 pub mod LentLemmas
 pub mod LookLemmas
 pub mod NameLemmas

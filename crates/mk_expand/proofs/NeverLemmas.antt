@@ -1,7 +1,6 @@
 -- Answers that are never a certain fault, one step after the other.
 use Rattle.std.proofs.Common.{◌≡◌, ℕ, Bool, true, false, List, Option, Some, None, Result, Ok, Err}
 use Rattle.std.proofs.Common.{if◌then◌else◌}
-use Rattle.mk_bytes.specs.Agrees.{◌>>=◌}
 use Rattle.mk_expand.specs.Names.{or_below}
 use Rattle.mk_expand.specs.declared.fault.ExpandFault.{ExpandFault}
 
@@ -9,11 +8,6 @@ abbrev pub Never : {A : Type 0} → ExpandFault → Result A ExpandFault → Typ
 Never fault answer = answer ≡ Err fault → ⊥
 
 module _ (fault : ExpandFault) where
-  pub then-never : {A B : Type 0} (first : Result A ExpandFault) (next : A → Result B ExpandFault)
-      → Never fault first → ((given : A) → Never fault (next given)) → Never fault (first >>= next)
-  then-never (Ok given) next never nexts = nexts given
-  then-never (Err other) next never nexts = λ is. never cc
-
   pub where-never : (some : Bool) (raw : Result (Option (List ℕ)) ExpandFault) → Never fault raw
       → Never fault (if some then raw else Ok None)
   where-never true raw never = never

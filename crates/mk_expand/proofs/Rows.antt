@@ -10,7 +10,7 @@ use Rattle.mk_ast.specs.Rows.{begins, is_word, is_left_out_word}
 use Rattle.mk_ast.specs.References.{mods_at, ref_at}
 use Rattle.mk_ast.specs.Spell.{spell}
 use Rattle.mk_mods.specs.Substitution.{replaced}
-use Rattle.mk_ast.specs.declared.fault.AstFault.TheVariants.{Unclosed}
+use Rattle.mk_ast.specs.declared.fault.TreeFault.TheVariants.{Unclosed}
 use Rattle.mk_expand.specs.Chains.{all_modified, each_behind}
 use Rattle.mk_expand.specs.Locals.{no_locals}
 use Rattle.mk_expand.specs.Substitutions.{at_end, without_end, old_in_tree}

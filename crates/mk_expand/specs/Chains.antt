@@ -25,7 +25,6 @@ use Rattle.mk_expand.specs.Names.{Context, while_bound}
 use Rattle.mk_expand.specs.Parts.{tree_value}
 use Rattle.mk_expand.specs.Separators.{separator_of}
 use Rattle.mk_expand.specs.Substitutions.{at_start, at_end, without_anchors, old_in_tree}
-use Rattle.mk_expand.specs.Texts.{of_tree}
 use Rattle.mk_expand.specs.declared.chain.Found.{Found}
 use Rattle.mk_expand.specs.declared.fault.ExpandFault.{ExpandFault}
 use Rattle.mk_expand.specs.declared.fault.ExpandFault.TheVariants.{NoMemory}
@@ -128,7 +127,7 @@ if_defined find c p chain text =
 -- a fault in the condition of a `:?`; want of memory is what it is everywhere
 abbrev pub of_cond : CondFault → ExpandFault
 of_cond (of_conds.Bad at) = faults.Cond at
-of_cond (of_conds.Tree fault) = of_tree fault
+of_cond (of_conds.Tree fault) = faults.Tree fault
 of_cond (of_conds.TooDeep at) = faults.Cond at
 of_cond of_conds.NoMemory = NoMemory
 

@@ -6,15 +6,16 @@ use Rattle.mk_ast.specs.References.{tree_of_text}
 use Rattle.mk_ast.specs.Tree.{Tree, end, part, plain, ref, no_mods}
 use Rattle.mk_ast.specs.declared.fault.AstFault.{AstFault}
 use Rattle.mk_ast.specs.declared.fault.AstFault.TheVariants as ast
+use Rattle.mk_ast.specs.declared.fault.TreeFault.TheVariants as tree
 use Rattle.mk_expand.specs.declared.fault.ExpandFault.{ExpandFault}
 use Rattle.mk_expand.specs.declared.fault.ExpandFault.TheVariants.{Tree as of_grammar, NoMemory}
 
 -- a fault of the grammar; want of memory is what it is everywhere
 abbrev pub of_tree : AstFault → ExpandFault
-of_tree (ast.Unclosed at) = of_grammar (ast.Unclosed at)
-of_tree (ast.UnknownModifier at) = of_grammar (ast.UnknownModifier at)
-of_tree (ast.BadModifier at) = of_grammar (ast.BadModifier at)
-of_tree (ast.TooDeep at) = of_grammar (ast.TooDeep at)
+of_tree (ast.Unclosed at) = of_grammar (tree.Unclosed at)
+of_tree (ast.UnknownModifier at) = of_grammar (tree.UnknownModifier at)
+of_tree (ast.BadModifier at) = of_grammar (tree.BadModifier at)
+of_tree (ast.TooDeep at) = of_grammar (tree.TooDeep at)
 of_tree ast.NoMemory = NoMemory
 
 abbrev pub with_fault : Result Tree AstFault → Result Tree ExpandFault

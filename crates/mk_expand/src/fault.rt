@@ -1,5 +1,5 @@
 use crate::facts::FactFault;
-use mk_ast::AstFault;
+use mk_ast::{AstFault, TreeFault};
 use mk_bytes::{NoMemory, Text};
 use mk_cond::{CondFault, NoNumber};
 use mk_mods::ModFault;
@@ -16,9 +16,8 @@ pub enum ExpandFault {
     TooManyReferences,
     /// A value or a name would pass 4,194,304 bytes.
     TooLong,
-    /// A text or a value has this fault of the grammar, with its place in that text or value. It is
-    /// never the want of memory.
-    Tree(AstFault),
+    /// A text or a value has this fault of the grammar, with its place in that text or value.
+    Tree(TreeFault),
     /// The condition of a `:?` has a fault of its grammar at this place, counted from 0. A fault of
     /// a reference in it is `Tree`.
     Cond(usize),
@@ -54,10 +53,10 @@ impl From<AstFault> for ExpandFault {
 
     fn from(fault: AstFault) -> ExpandFault {
         match fault {
-            AstFault::Unclosed(at) => ExpandFault::Tree(AstFault::Unclosed(at)),
-            AstFault::UnknownModifier(at) => ExpandFault::Tree(AstFault::UnknownModifier(at)),
-            AstFault::BadModifier(at) => ExpandFault::Tree(AstFault::BadModifier(at)),
-            AstFault::TooDeep(at) => ExpandFault::Tree(AstFault::TooDeep(at)),
+            AstFault::Unclosed(at) => ExpandFault::Tree(TreeFault::Unclosed(at)),
+            AstFault::UnknownModifier(at) => ExpandFault::Tree(TreeFault::UnknownModifier(at)),
+            AstFault::BadModifier(at) => ExpandFault::Tree(TreeFault::BadModifier(at)),
+            AstFault::TooDeep(at) => ExpandFault::Tree(TreeFault::TooDeep(at)),
             AstFault::NoMemory => ExpandFault::NoMemory,
         }
     }
@@ -87,7 +86,7 @@ impl From<CondFault> for ExpandFault {
     fn from(fault: CondFault) -> ExpandFault {
         match fault {
             CondFault::Bad(at) => ExpandFault::Cond(at),
-            CondFault::Tree(fault) => ExpandFault::from(fault),
+            CondFault::Tree(fault) => ExpandFault::Tree(fault),
             CondFault::TooDeep(at) => ExpandFault::Cond(at),
             CondFault::NoMemory => ExpandFault::NoMemory,
         }

@@ -1,16 +1,12 @@
 //! Values of whole trees and texts, and the truth of whole conditions.
-ghost use Rattle.std.specs.Prelude.{◌≡◌, ◌≢◌, IfOk, Err};
+ghost use Rattle.std.specs.Prelude.{◌≡◌, IfOk};
 ghost use Rattle.mk_ast.specs.View.{tree_view};
-ghost use Rattle.mk_ast.specs.declared.fault.AstFault.TheVariants.{NoMemory as no_memory};
 ghost use Rattle.mk_cond.specs.View.{cond_view};
 ghost use Rattle.mk_expand.specs.Calls.{IsFirst};
 ghost use Rattle.mk_expand.specs.Facts.{AsksMore, Means, RefusedBehind};
 ghost use Rattle.mk_expand.specs.Texts.{name_tree};
 ghost use Rattle.mk_expand.specs.Value as spec;
-ghost use Rattle.mk_expand.specs.declared.fault.ExpandFault.TheVariants.{
-  Failed as failed,
-  Tree as of_grammar,
-};
+ghost use Rattle.mk_expand.specs.declared.fault.ExpandFault.TheVariants.{Failed as failed};
 ghost use Rattle.mk_world.specs.Causes.{HasCause};
 
 use crate::conditions::truth_of;
@@ -58,8 +54,6 @@ pub fn expand<F: Facts>(
     ensures questions { RefusedBehind (F.asked facts.new) result
         (λ answers. spec.questions_of (spec.of_tree scopes.now locals.now (F.lists facts.old) answers keep
         (F.asked facts.old) (tree_view tree.now)).answer) }
-    // Want of memory is a fault of its own, and is not held in one of the grammar.
-    ensures held { result ≢ Err (of_grammar no_memory) }
     ensures lists { F.lists facts.new ≡ F.lists facts.old }
     ensures asked { AsksMore (F.asked facts.old) (F.asked facts.new) }
     ensures cause { HasCause failed (F.faults facts.old) (F.faults facts.new) result }
@@ -90,7 +84,6 @@ pub fn value_of_text<F: Facts>(
     ensures questions { RefusedBehind (F.asked facts.new) result
         (λ answers. spec.questions_of (spec.of_text scopes.now locals.now (F.lists facts.old) answers keep
         (F.asked facts.old) text.now).answer) }
-    ensures held { result ≢ Err (of_grammar no_memory) }
     ensures lists { F.lists facts.new ≡ F.lists facts.old }
     ensures asked { AsksMore (F.asked facts.old) (F.asked facts.new) }
     ensures cause { HasCause failed (F.faults facts.old) (F.faults facts.new) result }
@@ -124,7 +117,6 @@ pub fn eval_cond<F: Facts>(
     ensures questions { RefusedBehind (F.asked facts.new) result
         (λ answers. spec.questions_of (spec.of_condition scopes.now locals.now (F.lists facts.old) answers
         (F.asked facts.old) (cond_view cond.now)).answer) }
-    ensures held { result ≢ Err (of_grammar no_memory) }
     ensures lists { F.lists facts.new ≡ F.lists facts.old }
     ensures asked { AsksMore (F.asked facts.old) (F.asked facts.new) }
     ensures cause { HasCause failed (F.faults facts.old) (F.faults facts.new) result }

@@ -1,7 +1,6 @@
 use Rattle.mk_cond.specs.View.{cond_view}
 use Rattle.mk_expand.proofs.FactLemmas.{agrees_asked, refused_behind}
 use Rattle.mk_expand.specs.Value.{of_condition}
-use Rattle.mk_expand.proofs.HeldLemmas.{means-none, truth-none}
 use Rattle.mk_expand.proofs.whole.eval_cond.Goals as goal
 
 pub returns-clause-truth : goal.returns-clause-truth
@@ -17,9 +16,3 @@ returns-clause-questions g c =
     (λ answers. (of_condition c.args.scopes.now c.args.locals.now (g.F.Facts.lists c.args.facts.now)
     answers (g.F.Facts.asked c.args.facts.now) (cond_view c.args.cond.now)).answer)
     (λ answers by. rw (first.0, first.1, first.2) at (c.truth_of.ensures.value answers by))
-
-pub returns-clause-held : goal.returns-clause-held
-returns-clause-held g c =
-    means-none _ _ _ _ (returns-clause-truth g c)
-    (λ answers. truth-none c.args.scopes.now c.args.locals.now (g.F.Facts.lists c.args.facts.now)
-    answers (g.F.Facts.asked c.args.facts.now) (cond_view c.args.cond.now))

@@ -1,7 +1,6 @@
 use Rattle.mk_ast.specs.View.{tree_view}
 use Rattle.mk_expand.proofs.FactLemmas.{agrees_asked, refused_behind}
 use Rattle.mk_expand.specs.Value.{of_tree}
-use Rattle.mk_expand.proofs.HeldLemmas.{means-none, value-none}
 use Rattle.mk_expand.proofs.whole.expand.Goals as goal
 
 pub returns-clause-value : goal.returns-clause-value
@@ -17,9 +16,3 @@ returns-clause-questions g c =
     (λ answers. (of_tree c.args.scopes.now c.args.locals.now (g.F.Facts.lists c.args.facts.now)
     answers c.args.keep (g.F.Facts.asked c.args.facts.now) (tree_view c.args.tree.now)).answer)
     (λ answers by. rw (first.0, first.1, first.2) at (c.tree_value.ensures.value answers by))
-
-pub returns-clause-held : goal.returns-clause-held
-returns-clause-held g c =
-    means-none _ _ _ _ (returns-clause-value g c)
-    (λ answers. value-none c.args.scopes.now c.args.locals.now (g.F.Facts.lists c.args.facts.now)
-    answers c.args.keep (g.F.Facts.asked c.args.facts.now) (tree_view c.args.tree.now))

@@ -4,7 +4,6 @@ use Rattle.mk_expand.specs.Names.{context}
 use Rattle.mk_expand.specs.Value.{finder, of_text}
 use Rattle.mk_expand.proofs.FactLemmas.{agrees_asked, asks_nothing, gives_at, never_fails, refused_behind, Asks-none}
 use Rattle.mk_expand.proofs.FaultLemmas.{never-appended}
-use Rattle.mk_expand.proofs.HeldLemmas.{means-none, text-none}
 use Rattle.mk_expand.proofs.PlainLemmas.{text_value-plain}
 use Rattle.mk_expand.proofs.whole.value_of_text.Goals as goal
 
@@ -58,9 +57,3 @@ returns-then-not-has_dollar-clause-cause g c =
 
 pub returns-then-not-has_dollar-clause-leads : goal.returns-then-not-has_dollar-clause-leads
 returns-then-not-has_dollar-clause-leads g c = g.met.F.Facts.stays c.args.facts.now
-
-pub returns-clause-held : goal.returns-clause-held
-returns-clause-held g c =
-    means-none _ _ _ _ (returns-clause-value g c)
-    (λ answers. text-none c.args.scopes.now c.args.locals.now (g.F.Facts.lists c.args.facts.now)
-    answers c.args.keep (g.F.Facts.asked c.args.facts.now) c.args.text.now)
