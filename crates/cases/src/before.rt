@@ -5,20 +5,15 @@ use crate::fault::Trouble;
 use crate::idle::IdleWorld;
 use crate::running::edit;
 
-/// Which changes of files are made.
-#[derive(Clone, Copy, PartialEq, Eq)]
-pub enum Changes {
-    All,
-    /// Those of files that builds do not leave.
-    OfSources,
-}
-
 // Whether a line names this path, or the file whose meta file it is.
 fn names(item: &Item, path: &str) -> bool {
     let file = path.strip_suffix(".meta").unwrap_or(path);
-    item.rest
-        .split_whitespace()
-        .any(|name| name == path || name == file)
+    for name in item.rest.split_whitespace() {
+        if name == path || name == file {
+            return true;
+        }
+    }
+    false
 }
 
 /// Whether builds leave this file.
@@ -31,28 +26,27 @@ pub fn is_left(case: &Case, path: &str) -> bool {
     false
 }
 
-// Whether a step is a change that is made.
-fn is_among(changes: Changes, case: &Case, step: &Step) -> bool {
-    if step.item.directive == Directive::Run {
-        return false;
-    }
-    match changes {
-        Changes::All => true,
-        Changes::OfSources => !is_left(case, step.item.rest),
-    }
-}
-
 /// The files are changed as they are before a line of the case.
-pub fn change_files(
-    case: &Case,
-    line: u32,
-    changes: Changes,
-    world: &mut IdleWorld,
-) -> Result<(), Trouble> {
+pub fn change_files(case: &Case, line: u32, world: &mut IdleWorld) -> Result<(), Trouble> {
     for step in case.steps.as_slice() {
-        if step.item.line < line && is_among(changes, case, step) {
+        if step.item.line < line && !step.is_run() {
             edit(step, world)?;
         }
     }
     Ok(())
+}
+
+/// The same of the files that builds do not leave.
+pub fn change_sources(case: &Case, line: u32, world: &mut IdleWorld) -> Result<(), Trouble> {
+    for step in case.steps.as_slice() {
+        if step.item.line < line && is_of_source(case, step) {
+            edit(step, world)?;
+        }
+    }
+    Ok(())
+}
+
+// Whether a step is a change of a file that builds do not leave.
+fn is_of_source(case: &Case, step: &Step) -> bool {
+    !step.is_run() && !is_left(case, step.item.rest)
 }

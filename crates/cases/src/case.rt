@@ -28,14 +28,31 @@ pub struct Case<'t> {
     pub steps: Vec<Step<'t>>,
 }
 
+/// A run of a case.
+#[derive(Clone, Copy)]
+pub struct Job<'i, 't> {
+    pub case: &'i Case<'t>,
+    pub step: &'i Step<'t>,
+}
+
 /// The first of some items with a directive.
 pub fn find<'i, 't>(items: &'i [Item<'t>], directive: Directive) -> Option<&'i Item<'t>> {
-    items.iter().find(|item| item.directive == directive)
+    for item in items {
+        if item.directive == directive {
+            return Some(item);
+        }
+    }
+    None
 }
 
 impl<'t> Step<'t> {
+    /// Whether it is a run.
+    pub fn is_run(&self) -> bool {
+        self.item.directive == Directive::Run
+    }
+
     fn add(&mut self, item: Item<'t>) -> Result<(), Trouble> {
-        if self.item.directive != Directive::Run {
+        if !self.is_run() {
             return Err(Trouble::Bad(item.line));
         }
         self.wants.push(item)?;
@@ -46,9 +63,12 @@ impl<'t> Step<'t> {
 impl<'t> Case<'t> {
     /// Whether it has a run.
     pub fn has_run(&self) -> bool {
-        self.steps
-            .iter()
-            .any(|step| step.item.directive == Directive::Run)
+        for step in self.steps.as_slice() {
+            if step.is_run() {
+                return true;
+            }
+        }
+        false
     }
 
     fn add_want(&mut self, item: Item<'t>) -> Result<(), Trouble> {

@@ -2,15 +2,13 @@
 use crate::case::{Item, Step, find};
 use crate::directive::Directive;
 use crate::fault::Trouble;
-use crate::found::{Found, Turn};
+use crate::found::Found;
 use crate::idle::IdleWorld;
 use crate::kinds::{Counted, Counts, kind_named};
 use crate::shown::{end_text, events_text, plan_text};
 use itoa::Buffer;
-use mk_bytes::NoMemory;
 use mk_memworld::{CallKind, MemSink};
 use mk_top::Report;
-use std::alloc::Global;
 
 /// Standard output and standard error of a run.
 #[derive(Drop)]
@@ -30,84 +28,57 @@ pub struct Ran {
 }
 
 // Compares a number.
-fn compare_number(
-    found: &mut Found,
-    item: &Item,
-    turn: Turn,
-    wanted: &str,
-    got: u64,
-) -> Result<(), NoMemory> {
+fn compare_number(found: &mut Found, item: &Item, wanted: &[u8], got: u64) {
     let mut buffer = Buffer::new();
     let got = buffer.format(got).as_bytes();
-    found.compare(item.directive, item.line, turn, wanted.as_bytes(), got)
+    found.compare(item.directive, item.line, wanted, got);
 }
 
-fn compare_status(
-    found: &mut Found,
-    step: &Step,
-    turn: Turn,
-    report: &Report,
-) -> Result<(), NoMemory> {
-    let got = u64::from(report.status);
+// The status of a run is that of its end.
+fn compare_own_status(found: &mut Found, step: &Step, report: &Report) {
+    let mut buffer = Buffer::new();
+    let wanted = buffer.format(report.end.status()).as_bytes();
+    compare_number(found, &step.item, wanted, u64::from(report.status));
+}
+
+fn compare_status(found: &mut Found, step: &Step, report: &Report) {
     match find(step.wants.as_slice(), Directive::Status) {
-        Some(item) => compare_number(found, item, turn, item.rest, got),
-        None => {
-            let mut buffer = Buffer::new();
-            let wanted = buffer.format(report.end.status());
-            compare_number(found, &step.item, turn, wanted, got)
-        }
+        Some(item) => compare_number(found, item, item.rest.as_bytes(), u64::from(report.status)),
+        None => compare_own_status(found, step, report),
     }
 }
 
-fn compare_end(
-    alloc: Global,
-    found: &mut Found,
-    step: &Step,
-    turn: Turn,
-    report: &Report,
-) -> Result<(), NoMemory> {
-    let got = end_text(alloc, &report.end)?;
-    let (line, wanted) = match find(step.wants.as_slice(), Directive::End) {
+// A line and the end that it wants.
+fn wanted_end<'t>(step: &Step<'t>) -> (u32, &'t str) {
+    match find(step.wants.as_slice(), Directive::End) {
         Some(item) => (item.line, item.rest),
         None => (step.item.line, "Done"),
-    };
-    found.compare(Directive::End, line, turn, wanted.as_bytes(), got.bytes())
+    }
 }
 
-fn compare_sink(
-    found: &mut Found,
-    step: &Step,
-    turn: Turn,
-    what: Directive,
-    sink: &MemSink,
-) -> Result<(), NoMemory> {
+fn compare_end(found: &mut Found, step: &Step, report: &Report) {
+    let (line, wanted) = wanted_end(step);
+    let got = end_text(found.alloc(), &report.end);
+    found.compare_said(Directive::End, line, wanted.as_bytes(), &got);
+}
+
+fn compare_sink(found: &mut Found, step: &Step, what: Directive, sink: &MemSink) {
     match find(step.wants.as_slice(), what) {
-        Some(item) => found.compare(what, item.line, turn, item.body.as_slice(), sink.bytes()),
-        None => found.compare(what, step.item.line, turn, b"", sink.bytes()),
+        Some(item) => found.compare(what, item.line, item.body.as_slice(), sink.bytes()),
+        None => found.compare(what, step.item.line, b"", sink.bytes()),
     }
 }
 
-fn compare_after(
-    found: &mut Found,
-    item: &Item,
-    turn: Turn,
-    world: &IdleWorld,
-) -> Result<(), NoMemory> {
+fn compare_after(found: &mut Found, item: &Item, world: &IdleWorld) {
     match world.file(item.rest.as_bytes()) {
-        Some(got) => found.compare(item.directive, item.line, turn, item.body.as_slice(), got),
-        None => found.compare(item.directive, item.line, turn, b"a file", b"no file"),
+        Some(got) => found.compare(item.directive, item.line, item.body.as_slice(), got),
+        None => found.compare(item.directive, item.line, b"a file", b"no file"),
     }
 }
 
-fn compare_missing(
-    found: &mut Found,
-    item: &Item,
-    turn: Turn,
-    world: &IdleWorld,
-) -> Result<(), NoMemory> {
-    match world.file(item.rest.as_bytes()) {
-        Some(_) => found.compare(item.directive, item.line, turn, b"no file", b"a file"),
-        None => Ok(()),
+fn compare_missing(found: &mut Found, item: &Item, world: &IdleWorld) {
+    if world.file(item.rest.as_bytes()).is_some() {
+        found.compare(item.directive, item.line, b"no file", b"a file");
     }
 }
 
@@ -120,104 +91,67 @@ pub fn made(ran: &Ran, kind: Counted) -> u64 {
     }
 }
 
-fn compare_calls(found: &mut Found, item: &Item, turn: Turn, ran: &Ran) -> Result<(), Trouble> {
-    let Some((name, wanted)) = item.rest.split_once(' ') else {
-        return Err(Trouble::Bad(item.line));
-    };
-    let Some(kind) = kind_named(name) else {
-        return Err(Trouble::Bad(item.line));
-    };
-    compare_number(found, item, turn, wanted, made(ran, kind))?;
-    Ok(())
+fn compare_count(found: &mut Found, item: &Item, name: &str, wanted: &str, ran: &Ran) {
+    match kind_named(name) {
+        Some(kind) => compare_number(found, item, wanted.as_bytes(), made(ran, kind)),
+        None => found.refuse(Trouble::Bad(item.line)),
+    }
 }
 
-fn compare_plan(
-    alloc: Global,
-    found: &mut Found,
-    item: &Item,
-    turn: Turn,
-    ran: &Ran,
-) -> Result<(), NoMemory> {
-    let got = plan_text(alloc, &ran.report.plan)?;
-    found.compare(
-        item.directive,
-        item.line,
-        turn,
-        item.rest.as_bytes(),
-        got.bytes(),
-    )
+fn compare_calls(found: &mut Found, item: &Item, ran: &Ran) {
+    match item.rest.split_once(' ') {
+        Some((name, wanted)) => compare_count(found, item, name, wanted, ran),
+        None => found.refuse(Trouble::Bad(item.line)),
+    }
 }
 
-fn compare_events(
-    alloc: Global,
-    found: &mut Found,
-    item: &Item,
-    turn: Turn,
-    ran: &Ran,
-) -> Result<(), NoMemory> {
-    let got = events_text(alloc, &ran.report.plan, ran.report.events.as_slice())?;
-    found.compare(
-        item.directive,
-        item.line,
-        turn,
-        item.body.as_slice(),
-        got.bytes(),
-    )
+fn compare_plan(found: &mut Found, item: &Item, report: &Report) {
+    let got = plan_text(found.alloc(), &report.plan);
+    found.compare_said(item.directive, item.line, item.rest.as_bytes(), &got);
+}
+
+fn compare_events(found: &mut Found, item: &Item, report: &Report) {
+    let got = events_text(found.alloc(), &report.plan, report.events.as_slice());
+    found.compare_said(item.directive, item.line, item.body.as_slice(), &got);
 }
 
 // Compares what a run leaves, whatever its schedule is.
-fn compare_left(
-    found: &mut Found,
-    step: &Step,
-    turn: Turn,
-    world: &IdleWorld,
-) -> Result<(), NoMemory> {
+fn compare_left(found: &mut Found, step: &Step, world: &IdleWorld) {
     for item in step.wants.as_slice() {
         match item.directive {
-            Directive::After => compare_after(found, item, turn, world)?,
-            Directive::Missing => compare_missing(found, item, turn, world)?,
+            Directive::After => compare_after(found, item, world),
+            Directive::Missing => compare_missing(found, item, world),
             _ => {}
         }
     }
-    Ok(())
 }
 
 // Compares what is named of what a run did.
-fn compare_done(
-    alloc: Global,
-    found: &mut Found,
-    step: &Step,
-    turn: Turn,
-    ran: &Ran,
-) -> Result<(), Trouble> {
+fn compare_done(found: &mut Found, step: &Step, ran: &Ran) {
     for item in step.wants.as_slice() {
         match item.directive {
-            Directive::Plan => compare_plan(alloc, found, item, turn, ran)?,
-            Directive::Events => compare_events(alloc, found, item, turn, ran)?,
-            Directive::Calls => compare_calls(found, item, turn, ran)?,
+            Directive::Plan => compare_plan(found, item, &ran.report),
+            Directive::Events => compare_events(found, item, &ran.report),
+            Directive::Calls => compare_calls(found, item, ran),
             _ => {}
         }
     }
-    Ok(())
+}
+
+// Compares what a run did under the schedule of its case.
+fn compare_whole(found: &mut Found, step: &Step, ran: &Ran) {
+    compare_end(found, step, &ran.report);
+    compare_sink(found, step, Directive::Out, &ran.sinks.out);
+    compare_sink(found, step, Directive::Err, &ran.sinks.err);
+    compare_done(found, step, ran);
 }
 
 /// Compares a run with all that is wanted of it; of a run under a generated schedule its status and
 /// the files afterwards.
-pub fn compare(
-    alloc: Global,
-    found: &mut Found,
-    step: &Step,
-    turn: Turn,
-    ran: &Ran,
-    world: &IdleWorld,
-) -> Result<(), Trouble> {
-    compare_status(found, step, turn, &ran.report)?;
-    compare_left(found, step, turn, world)?;
-    if turn.seed == 0 {
-        compare_end(alloc, found, step, turn, &ran.report)?;
-        compare_sink(found, step, turn, Directive::Out, &ran.sinks.out)?;
-        compare_sink(found, step, turn, Directive::Err, &ran.sinks.err)?;
-        compare_done(alloc, found, step, turn, ran)?;
+pub fn compare(found: &mut Found, step: &Step, ran: &Ran, world: &IdleWorld) {
+    compare_status(found, step, &ran.report);
+    compare_left(found, step, world);
+    if found.turn().seed == 0 {
+        compare_whole(found, step, ran);
     }
-    Ok(())
 }

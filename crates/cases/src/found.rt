@@ -1,5 +1,7 @@
 //! What differs from what a case wants.
 use crate::directive::Directive;
+use crate::fault::Trouble;
+use crate::said::Said;
 use mk_bytes::{NoMemory, Text};
 use std::alloc::Global;
 
@@ -21,11 +23,13 @@ pub struct Difference {
     pub got: Text,
 }
 
-/// All that differs in a case.
+/// All that differs in a case, and why it was not run to its end, if it was not.
 #[derive(Drop)]
 pub struct Found {
     alloc: Global,
+    turn: Turn,
     all: Vec<Difference>,
+    trouble: Option<Trouble>,
 }
 
 impl Found {
@@ -33,8 +37,15 @@ impl Found {
     pub fn new(alloc: Global) -> Found {
         Found {
             alloc,
+            turn: Turn { run: 0, seed: 0 },
             all: Vec::new(alloc),
+            trouble: None,
         }
+    }
+
+    /// Where its memory is from.
+    pub fn alloc(&self) -> Global {
+        self.alloc
     }
 
     /// All that differs.
@@ -42,27 +53,74 @@ impl Found {
         self.all.as_slice()
     }
 
-    /// Two texts are compared.
-    pub fn compare(
+    /// The run that is compared.
+    pub fn turn(&self) -> Turn {
+        self.turn
+    }
+
+    /// Goes on to a run.
+    pub fn turn_to(&mut self, run: u32, seed: u32) {
+        self.turn = Turn { run, seed };
+    }
+
+    /// Why the case was not run to its end; the first reason counts.
+    pub fn trouble(&self) -> Option<Trouble> {
+        self.trouble
+    }
+
+    /// Whether the case is not run to its end.
+    pub fn is_over(&self) -> bool {
+        self.trouble.is_some()
+    }
+
+    /// The case is not run to its end.
+    pub fn refuse(&mut self, trouble: Trouble) {
+        if self.trouble.is_none() {
+            self.trouble = Some(trouble);
+        }
+    }
+
+    fn push(
         &mut self,
         what: Directive,
         line: u32,
-        turn: Turn,
         wanted: &[u8],
         got: &[u8],
     ) -> Result<(), NoMemory> {
-        if wanted == got {
-            return Ok(());
-        }
         let wanted = Text::from_bytes(self.alloc, wanted)?;
         let got = Text::from_bytes(self.alloc, got)?;
         self.all.push(Difference {
             what,
             line,
-            turn,
+            turn: self.turn,
             wanted,
             got,
         })?;
         Ok(())
+    }
+
+    /// Two texts are compared.
+    pub fn compare(&mut self, what: Directive, line: u32, wanted: &[u8], got: &[u8]) {
+        if wanted != got && self.push(what, line, wanted, got).is_err() {
+            self.refuse(Trouble::NoMemory);
+        }
+    }
+
+    /// A text is compared with one that was put together.
+    pub fn compare_said(&mut self, what: Directive, line: u32, wanted: &[u8], got: &Said) {
+        if got.is_whole() {
+            self.compare(what, line, wanted, got.bytes());
+        } else {
+            self.refuse(Trouble::NoMemory);
+        }
+    }
+
+    /// Two texts that were put together are compared.
+    pub fn compare_both(&mut self, what: Directive, line: u32, wanted: &Said, got: &Said) {
+        if wanted.is_whole() {
+            self.compare_said(what, line, wanted.bytes(), got);
+        } else {
+            self.refuse(Trouble::NoMemory);
+        }
     }
 }

@@ -7,7 +7,7 @@ use mk_memworld::{CallKind, Fail, Fails, MemWorld};
 use std::alloc::Global;
 
 /// What is counted: calls of the world, or writes to one of the sinks.
-#[derive(Clone, Copy, PartialEq, Eq)]
+#[derive(Clone, Copy)]
 pub enum Counted {
     Call(CallKind),
     Out,
@@ -47,29 +47,40 @@ fn call_of(kind: Counted) -> CallKind {
     }
 }
 
-fn fail(call: CallKind, nth: &str, left: Option<&str>) -> Option<Fail> {
-    let left = match left {
-        Some(left) => Some(left.parse::<usize>().ok()?),
-        None => None,
-    };
-    let nth = nth.parse::<u32>().ok()?;
-    Some(Fail { call, nth, left })
+/// A call that fails: what it is counted with, which one of its kind it is, and how many bytes stand behind it.
+#[derive(Clone, Copy)]
+pub struct Failing {
+    pub kind: Counted,
+    pub nth: u32,
+    pub left: Option<usize>,
 }
 
-// A failing call and what it is counted with.
-fn failing(rest: &str) -> Option<(Counted, Fail)> {
+fn with_left(kind: Counted, nth: &str, left: &str) -> Option<Failing> {
+    let nth = nth.parse::<u32>().ok()?;
+    let left = Some(left.parse::<usize>().ok()?);
+    Some(Failing { kind, nth, left })
+}
+
+fn without_left(kind: Counted, nth: &str) -> Option<Failing> {
+    let nth = nth.parse::<u32>().ok()?;
+    let left = None;
+    Some(Failing { kind, nth, left })
+}
+
+fn with_numbers(kind: Counted, numbers: &str) -> Option<Failing> {
+    match numbers.split_once(' ') {
+        Some((nth, left)) => with_left(kind, nth, left),
+        None => without_left(kind, numbers),
+    }
+}
+
+fn named_failing(rest: &str) -> Option<Failing> {
     let (name, numbers) = rest.split_once(' ')?;
-    let kind = kind_named(name)?;
-    let call = call_of(kind);
-    let fail = match numbers.split_once(' ') {
-        Some((nth, left)) => fail(call, nth, Some(left))?,
-        None => fail(call, numbers, None)?,
-    };
-    Some((kind, fail))
+    with_numbers(kind_named(name)?, numbers)
 }
 
 /// Where calls fail: in the world, or in one of the sinks.
-#[derive(Clone, Copy, PartialEq, Eq)]
+#[derive(Clone, Copy)]
 pub enum Where {
     World,
     Out,
@@ -77,19 +88,37 @@ pub enum Where {
 }
 
 fn is_there(kind: Counted, place: Where) -> bool {
-    match kind {
-        Counted::Call(_) => place == Where::World,
-        Counted::Out => place == Where::Out,
-        Counted::Err => place == Where::Err,
+    match place {
+        Where::World => matches!(kind, Counted::Call(_)),
+        Where::Out => matches!(kind, Counted::Out),
+        Where::Err => matches!(kind, Counted::Err),
     }
 }
 
-fn push_fail(fails: &mut Fails, item: &Item, place: Where) -> Result<(), Trouble> {
-    let Some((kind, fail)) = failing(item.rest) else {
-        return Err(Trouble::Bad(item.line));
-    };
-    if is_there(kind, place) {
-        fails.push(fail)?;
+// A call is added to those that fail, where it is one of this place.
+fn push_fail(fails: &mut Fails, one: &Failing, place: Where) -> Result<(), NoMemory> {
+    if !is_there(one.kind, place) {
+        return Ok(());
+    }
+    fails.push(Fail {
+        call: call_of(one.kind),
+        nth: one.nth,
+        left: one.left,
+    })
+}
+
+fn push_named(fails: &mut Fails, item: &Item, place: Where) -> Result<(), Trouble> {
+    match named_failing(item.rest) {
+        Some(one) => Ok(push_fail(fails, &one, place)?),
+        None => Err(Trouble::Bad(item.line)),
+    }
+}
+
+fn push_fails(fails: &mut Fails, case: &Case, place: Where) -> Result<(), Trouble> {
+    for item in case.setup.as_slice() {
+        if item.directive == Directive::Fail {
+            push_named(fails, item, place)?;
+        }
     }
     Ok(())
 }
@@ -97,27 +126,14 @@ fn push_fail(fails: &mut Fails, item: &Item, place: Where) -> Result<(), Trouble
 /// The calls that fail there in a case.
 pub fn fails_of(alloc: Global, case: &Case, place: Where) -> Result<Fails, Trouble> {
     let mut fails = Items::new(alloc, 0)?;
-    for item in case.setup.as_slice() {
-        if item.directive == Directive::Fail {
-            push_fail(&mut fails, item, place)?;
-        }
-    }
+    push_fails(&mut fails, case, place)?;
     Ok(fails)
 }
 
-/// One call that fails, where it is one of this place: the nth of its kind, behind which so many bytes stand.
-pub fn one_fail(
-    alloc: Global,
-    kind: Counted,
-    nth: u32,
-    left: Option<usize>,
-    place: Where,
-) -> Result<Fails, NoMemory> {
-    let mut fails = Items::new(alloc, 0)?;
-    if is_there(kind, place) {
-        let call = call_of(kind);
-        fails.push(Fail { call, nth, left })?;
-    }
+/// One call that fails, where it is one of this place.
+pub fn one_fail(alloc: Global, one: &Failing, place: Where) -> Result<Fails, NoMemory> {
+    let mut fails = Items::new(alloc, 1)?;
+    push_fail(&mut fails, one, place)?;
     Ok(fails)
 }
 

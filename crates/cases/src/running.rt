@@ -1,10 +1,10 @@
 //! The steps of a case, one behind the other.
-use crate::case::{Case, Step};
+use crate::case::{Case, Job, Step};
 use crate::clean::compare_clean;
 use crate::compare::{Ran, Sinks, compare};
 use crate::directive::Directive;
 use crate::fault::Trouble;
-use crate::found::{Found, Turn};
+use crate::found::Found;
 use crate::idle::IdleWorld;
 use crate::refused::refuse_all;
 use crate::setup::{generated, run_words, schedule_of, schedules_of, sinks_of, world_of};
@@ -16,43 +16,42 @@ use std::alloc::Global;
 /// The run of a step with these sinks.
 pub fn run_step(
     alloc: Global,
-    case: &Case,
-    step: &Step,
+    job: &Job,
     sinks: Sinks,
     world: &mut IdleWorld,
 ) -> Result<Ran, Trouble> {
-    let words = words_of(alloc, &step.item)?;
-    run_words(alloc, case, &words, sinks, world)
+    let words = words_of(alloc, &job.step.item)?;
+    run_words(alloc, job.case, &words, sinks, world)
+}
+
+// A run with the sinks of its case.
+fn run_once(alloc: Global, job: &Job, world: &mut IdleWorld) -> Result<Ran, Trouble> {
+    let sinks = sinks_of(alloc, job.case)?;
+    run_step(alloc, job, sinks, world)
 }
 
 // A run; one that memory ran out in is run again.
-fn run_well(
-    alloc: Global,
-    case: &Case,
-    step: &Step,
-    world: &mut IdleWorld,
-) -> Result<Ran, Trouble> {
-    let ran = run_step(alloc, case, step, sinks_of(alloc, case)?, world)?;
+fn run_well(alloc: Global, job: &Job, world: &mut IdleWorld) -> Result<Ran, Trouble> {
+    let ran = run_once(alloc, job, world)?;
     match ran.report.end {
-        End::NoMemory => run_step(alloc, case, step, sinks_of(alloc, case)?, world),
+        End::NoMemory => run_once(alloc, job, world),
         _ => Ok(ran),
     }
 }
 
+// What differs in a run.
+fn compare_run(found: &mut Found, job: &Job, ran: &Ran, world: &IdleWorld) {
+    compare(found, job.step, ran, world);
+    if matches!(&ran.report.end, End::Done) {
+        compare_clean(found, job, world);
+    }
+}
+
 // A run, and what differs.
-fn take_run(
-    alloc: Global,
-    case: &Case,
-    step: &Step,
-    turn: Turn,
-    world: &mut IdleWorld,
-    found: &mut Found,
-) -> Result<(), Trouble> {
-    let ran = run_well(alloc, case, step, world)?;
-    compare(alloc, found, step, turn, &ran, world)?;
-    match ran.report.end {
-        End::Done => compare_clean(alloc, case, step, turn, world, found),
-        _ => Ok(()),
+fn take_run(found: &mut Found, job: &Job, world: &mut IdleWorld) {
+    match run_well(found.alloc(), job, world) {
+        Ok(ran) => compare_run(found, job, &ran, world),
+        Err(trouble) => found.refuse(trouble),
     }
 }
 
@@ -65,53 +64,75 @@ pub fn edit(step: &Step, world: &mut IdleWorld) -> Result<(), Trouble> {
     world.edit(&step.item, bytes)
 }
 
-// All steps in one world.
-fn take_steps(
-    alloc: Global,
-    case: &Case,
-    seed: u32,
-    world: &mut IdleWorld,
-    found: &mut Found,
-) -> Result<(), Trouble> {
-    let mut turn = Turn { run: 0, seed };
-    for step in case.steps.as_slice() {
-        if step.item.directive == Directive::Run {
-            turn.run = turn.run.saturating_add(1);
-            take_run(alloc, case, step, turn, world, found)?;
-        } else {
-            edit(step, world)?;
-        }
+fn take_edit(found: &mut Found, step: &Step, world: &mut IdleWorld) {
+    if let Err(trouble) = edit(step, world) {
+        found.refuse(trouble);
     }
-    Ok(())
 }
 
-fn run_under(
-    alloc: Global,
-    case: &Case,
-    seed: u32,
-    schedule: Turns,
-    found: &mut Found,
-) -> Result<(), Trouble> {
-    let mut world = world_of(alloc, case, schedule)?;
-    take_steps(alloc, case, seed, &mut world, found)
+// All steps in one world.
+fn take_steps(found: &mut Found, case: &Case, seed: u32, world: &mut IdleWorld) {
+    let mut run: u32 = 0;
+    for step in case.steps.as_slice() {
+        if step.is_run() {
+            run = run.saturating_add(1);
+            found.turn_to(run, seed);
+            take_run(found, &Job { case, step }, world);
+        } else {
+            take_edit(found, step, world);
+        }
+    }
+}
+
+fn run_under(found: &mut Found, case: &Case, seed: u32, schedule: Turns) {
+    match world_of(found.alloc(), case, schedule) {
+        Ok(world) => {
+            let mut world = world;
+            take_steps(found, case, seed, &mut world);
+        }
+        Err(trouble) => found.refuse(trouble),
+    }
+}
+
+fn run_seed(found: &mut Found, case: &Case, seed: u32) {
+    match generated(found.alloc(), seed) {
+        Ok(schedule) => run_under(found, case, seed, schedule),
+        Err(_) => found.refuse(Trouble::NoMemory),
+    }
+}
+
+fn run_seeds(found: &mut Found, case: &Case, count: u32) {
+    for seed in 0..count {
+        if !found.is_over() {
+            run_seed(found, case, seed.saturating_add(1));
+        }
+    }
 }
 
 // Runs a case under the generated schedules that it asks for.
-fn run_generated(alloc: Global, case: &Case, found: &mut Found) -> Result<(), Trouble> {
-    for seed in 0..schedules_of(case)? {
-        let seed = seed.saturating_add(1);
-        run_under(alloc, case, seed, generated(alloc, seed)?, found)?;
+fn run_generated(found: &mut Found, case: &Case) {
+    match schedules_of(case) {
+        Ok(count) => run_seeds(found, case, count),
+        Err(trouble) => found.refuse(trouble),
     }
-    Ok(())
+}
+
+// Runs a case under its own schedule.
+fn run_own(found: &mut Found, case: &Case) {
+    match schedule_of(found.alloc(), case) {
+        Ok(schedule) => run_under(found, case, 0, schedule),
+        Err(trouble) => found.refuse(trouble),
+    }
 }
 
 /// Runs a case under its own schedule, then with each call refused where it asks for that, and then under the
 /// generated schedules that it asks for.
-pub fn run_case(alloc: Global, case: &Case, found: &mut Found) -> Result<(), Trouble> {
+pub fn run_case(found: &mut Found, case: &Case) {
     if !case.has_run() {
-        return Err(Trouble::Bad(case.head.line));
+        found.refuse(Trouble::Bad(case.head.line));
+        return;
     }
-    run_under(alloc, case, 0, schedule_of(alloc, case)?, found)?;
-    refuse_all(alloc, case, found)?;
-    run_generated(alloc, case, found)
+    run_own(found, case);
+    refuse_all(found, case);
+    run_generated(found, case);
 }

@@ -27,52 +27,63 @@ fn pair(alloc: Global, name: &str, value: &[u8]) -> Result<Pair, NoMemory> {
     })
 }
 
-fn files_of(alloc: Global, case: &Case) -> Result<Pairs, NoMemory> {
-    let mut files = Items::new(alloc, 0)?;
+// Adds a name with its bytes.
+fn push_pair(pairs: &mut Pairs, alloc: Global, name: &str, value: &[u8]) -> Result<(), NoMemory> {
+    pairs.push(pair(alloc, name, value)?)
+}
+
+fn push_files(files: &mut Pairs, alloc: Global, case: &Case) -> Result<(), NoMemory> {
     for item in case.setup.as_slice() {
         if item.directive == Directive::File {
-            files.push(pair(alloc, item.rest, item.body.as_slice())?)?;
+            push_pair(files, alloc, item.rest, item.body.as_slice())?;
         }
     }
-    Ok(files)
-}
-
-fn default_variables(alloc: Global) -> Result<Pairs, NoMemory> {
-    let mut variables = Items::new(alloc, 0)?;
-    for row in &ENVIRONMENT {
-        let (name, value) = *row;
-        variables.push(pair(alloc, name, value.as_bytes())?)?;
-    }
-    Ok(variables)
-}
-
-// A variable, or nothing where nothing is named.
-fn push_variable(alloc: Global, variables: &mut Pairs, item: &Item) -> Result<(), Trouble> {
-    if item.rest.is_empty() {
-        return Ok(());
-    }
-    let Some((name, value)) = item.rest.split_once('=') else {
-        return Err(Trouble::Bad(item.line));
-    };
-    variables.push(pair(alloc, name, value.as_bytes())?)?;
     Ok(())
 }
 
-fn named_variables(alloc: Global, case: &Case) -> Result<Pairs, Trouble> {
-    let mut variables = Items::new(alloc, 0)?;
+fn files_of(alloc: Global, case: &Case) -> Result<Pairs, NoMemory> {
+    let mut files = Items::new(alloc, 0)?;
+    push_files(&mut files, alloc, case)?;
+    Ok(files)
+}
+
+fn push_default_variables(variables: &mut Pairs, alloc: Global) -> Result<(), NoMemory> {
+    for row in &ENVIRONMENT {
+        let (name, value) = *row;
+        push_pair(variables, alloc, name, value.as_bytes())?;
+    }
+    Ok(())
+}
+
+// A variable, or nothing where nothing is named.
+fn push_variable(variables: &mut Pairs, alloc: Global, item: &Item) -> Result<(), Trouble> {
+    match item.rest.split_once('=') {
+        Some((name, value)) => Ok(push_pair(variables, alloc, name, value.as_bytes())?),
+        None if item.rest.is_empty() => Ok(()),
+        None => Err(Trouble::Bad(item.line)),
+    }
+}
+
+fn push_named_variables(variables: &mut Pairs, alloc: Global, case: &Case) -> Result<(), Trouble> {
     for item in case.setup.as_slice() {
         if item.directive == Directive::Environment {
-            push_variable(alloc, &mut variables, item)?;
+            push_variable(variables, alloc, item)?;
         }
     }
-    Ok(variables)
+    Ok(())
+}
+
+fn push_variables(variables: &mut Pairs, alloc: Global, case: &Case) -> Result<(), Trouble> {
+    match find(case.setup.as_slice(), Directive::Environment) {
+        Some(_) => push_named_variables(variables, alloc, case),
+        None => Ok(push_default_variables(variables, alloc)?),
+    }
 }
 
 fn variables_of(alloc: Global, case: &Case) -> Result<Pairs, Trouble> {
-    match find(case.setup.as_slice(), Directive::Environment) {
-        Some(_) => named_variables(alloc, case),
-        None => Ok(default_variables(alloc)?),
-    }
+    let mut variables = Items::new(alloc, 0)?;
+    push_variables(&mut variables, alloc, case)?;
+    Ok(variables)
 }
 
 fn directory_of(alloc: Global, case: &Case) -> Result<Text, NoMemory> {
@@ -86,11 +97,11 @@ fn directory_of(alloc: Global, case: &Case) -> Result<Text, NoMemory> {
 pub fn environment_of(alloc: Global, case: &Case) -> Result<Env, Trouble>
     ensures { IfOk result (λ env. IsTrue (is_clean env.cwd)) }
 {
-    let vars = variables_of(alloc, case)?;
     let cwd = directory_of(alloc, case)?;
     if !is_clean_directory(cwd.bytes()) {
         return Err(Trouble::Bad(case.head.line));
     }
+    let vars = variables_of(alloc, case)?;
     Ok(Env { vars, cwd })
 }
 
@@ -104,7 +115,17 @@ fn number(item: &Item, word: &str) -> Result<u32, Trouble> {
 
 fn push_turns(turns: &mut Turns, item: &Item) -> Result<(), Trouble> {
     for word in item.rest.split_whitespace() {
-        turns.push(number(item, word)?)?;
+        let number = number(item, word)?;
+        turns.push(number)?;
+    }
+    Ok(())
+}
+
+fn push_schedule(turns: &mut Turns, case: &Case) -> Result<(), Trouble> {
+    for item in case.setup.as_slice() {
+        if item.directive == Directive::Schedule {
+            push_turns(turns, item)?;
+        }
     }
     Ok(())
 }
@@ -112,11 +133,7 @@ fn push_turns(turns: &mut Turns, item: &Item) -> Result<(), Trouble> {
 /// The schedule that a case names.
 pub fn schedule_of(alloc: Global, case: &Case) -> Result<Turns, Trouble> {
     let mut turns = Items::new(alloc, 0)?;
-    for item in case.setup.as_slice() {
-        if item.directive == Directive::Schedule {
-            push_turns(&mut turns, item)?;
-        }
-    }
+    push_schedule(&mut turns, case)?;
     Ok(turns)
 }
 
@@ -128,50 +145,85 @@ pub fn schedules_of(case: &Case) -> Result<u32, Trouble> {
     }
 }
 
-/// Numbers from 0 to 3, which follow from a seed.
-pub fn generated(alloc: Global, seed: u32) -> Result<Turns, NoMemory> {
-    let mut turns = Items::new(alloc, 0)?;
+fn push_generated(turns: &mut Turns, seed: u32) -> Result<(), NoMemory> {
     let mut state = seed;
     for _ in 0..TURNS {
         state = state.wrapping_mul(1_664_525).wrapping_add(1_013_904_223);
         turns.push((state >> 16) % 4)?;
     }
+    Ok(())
+}
+
+/// Numbers from 0 to 3, which follow from a seed.
+pub fn generated(alloc: Global, seed: u32) -> Result<Turns, NoMemory> {
+    let mut turns = Items::new(alloc, 0)?;
+    push_generated(&mut turns, seed)?;
     Ok(turns)
 }
 
-fn new_world(
-    alloc: Global,
-    cwd: Text,
-    files: Pairs,
-    schedule: Turns,
-    fails: Fails,
-) -> Result<IdleWorld, NoMemory>
+/// How the children of a world go on, and which of its calls fail.
+#[derive(Drop)]
+pub struct Course {
+    pub schedule: Turns,
+    pub fails: Fails,
+}
+
+fn new_world(alloc: Global, cwd: Text, files: Pairs, course: Course) -> Result<IdleWorld, NoMemory>
     requires directory { IsTrue (is_clean cwd) }
     requires clean { IsTrue (can_stand cwd files) }
 {
-    let world = MemWorld::new(alloc, cwd, files, schedule, fails)?;
+    let world = MemWorld::new(alloc, cwd, files, course.schedule, course.fails)?;
     Ok(IdleWorld::of(world))
 }
 
-/// The world of a case, under a schedule, in which these calls fail.
-pub fn world_with(
+// A world with these files; none where they cannot stand there.
+fn world_in(
     alloc: Global,
-    case: &Case,
-    schedule: Turns,
-    fails: Fails,
-) -> Result<IdleWorld, Trouble> {
-    let cwd = directory_of(alloc, case)?;
-    let files = files_of(alloc, case)?;
-    if !is_clean_directory(cwd.bytes()) || !are_clean(alloc, &cwd, &files)? {
-        return Err(Trouble::Bad(case.head.line));
+    cwd: Text,
+    files: Pairs,
+    course: Course,
+) -> Result<Option<IdleWorld>, NoMemory>
+    requires directory { IsTrue (is_clean cwd) }
+{
+    if !are_clean(alloc, &cwd, &files)? {
+        return Ok(None);
     }
-    Ok(new_world(alloc, cwd, files, schedule, fails)?)
+    Ok(Some(new_world(alloc, cwd, files, course)?))
+}
+
+fn world_at(alloc: Global, case: &Case, course: Course) -> Result<Option<IdleWorld>, NoMemory> {
+    let cwd = directory_of(alloc, case)?;
+    if !is_clean_directory(cwd.bytes()) {
+        return Ok(None);
+    }
+    let files = files_of(alloc, case)?;
+    world_in(alloc, cwd, files, course)
+}
+
+/// The world of a case, in which children go on and calls fail like this.
+pub fn world_with(alloc: Global, case: &Case, course: Course) -> Result<IdleWorld, Trouble> {
+    match world_at(alloc, case, course)? {
+        Some(world) => Ok(world),
+        None => Err(Trouble::Bad(case.head.line)),
+    }
 }
 
 /// The world of a case, under a schedule.
 pub fn world_of(alloc: Global, case: &Case, schedule: Turns) -> Result<IdleWorld, Trouble> {
     let fails = fails_of(alloc, case, Where::World)?;
-    world_with(alloc, case, schedule, fails)
+    world_with(alloc, case, Course { schedule, fails })
+}
+
+fn plain_course(alloc: Global) -> Result<Course, NoMemory> {
+    let schedule = Items::new(alloc, 0)?;
+    let fails = Items::new(alloc, 0)?;
+    Ok(Course { schedule, fails })
+}
+
+/// The world of a case, in which children go on one after the other and no call fails.
+pub fn plain_world(alloc: Global, case: &Case) -> Result<IdleWorld, Trouble> {
+    let course = plain_course(alloc)?;
+    world_with(alloc, case, course)
 }
 
 /// Sinks in which these writes fail.

@@ -1,52 +1,52 @@
 //! Ends, plans and events as cases write them.
-use itoa::Buffer;
-use mk_ast::AstFault;
-use mk_bytes::{Kind, NoMemory, Text, Texts};
+use crate::said::Said;
+use mk_ast::AstFault as TreeFault;
+use mk_bytes::{Kind, Texts};
 use mk_expand::ExpandFault;
 use mk_reader::What;
 use mk_top::{End, Event, PlanNames};
 use std::alloc::Global;
 
-fn plain(alloc: Global, name: &str) -> Result<Text, NoMemory> {
-    Text::from_bytes(alloc, name.as_bytes())
+// Bytes in parentheses.
+fn say_bytes(said: &mut Said, bytes: &[u8]) {
+    said.open();
+    said.part(bytes);
+    said.close();
 }
 
-// These parts with something between them.
-fn push_all(text: &mut Text, parts: &[&[u8]], between: &[u8]) -> Result<(), NoMemory> {
-    let mut is_first = true;
-    for part in parts {
-        if !is_first {
-            text.push(between)?;
-        }
-        text.push(part)?;
-        is_first = false;
-    }
-    Ok(())
+// A number in parentheses.
+fn say_number(said: &mut Said, number: u64) {
+    said.open();
+    said.number(number);
+    said.close();
 }
 
-// A name with its parts in parentheses.
-fn call(alloc: Global, name: &str, parts: &[&[u8]]) -> Result<Text, NoMemory> {
-    let mut text = plain(alloc, name)?;
-    text.push(b"(")?;
-    push_all(&mut text, parts, b", ")?;
-    text.push(b")")?;
-    Ok(text)
+fn say_numbers(said: &mut Said, first: u64, second: u64) {
+    said.open();
+    said.number(first);
+    said.number(second);
+    said.close();
 }
 
-// A name with a number in parentheses.
-fn at(alloc: Global, name: &str, place: usize) -> Result<Text, NoMemory> {
-    let mut buffer = Buffer::new();
-    call(alloc, name, &[buffer.format(place).as_bytes()])
-}
-
-fn tree_text(alloc: Global, fault: &AstFault) -> Result<Text, NoMemory> {
+// The name of a fault of the grammar, and its place; none is told of the want of memory.
+fn tree_parts(fault: &TreeFault) -> (&'static str, Option<usize>) {
     match fault {
-        AstFault::Unclosed(place) => at(alloc, "Unclosed", *place),
-        AstFault::UnknownModifier(place) => at(alloc, "UnknownModifier", *place),
-        AstFault::BadModifier(place) => at(alloc, "BadModifier", *place),
-        AstFault::TooDeep(place) => at(alloc, "TooDeep", *place),
-        AstFault::NoMemory => plain(alloc, "NoMemory"),
+        TreeFault::Unclosed(place) => ("Unclosed", Some(*place)),
+        TreeFault::UnknownModifier(place) => ("UnknownModifier", Some(*place)),
+        TreeFault::BadModifier(place) => ("BadModifier", Some(*place)),
+        TreeFault::TooDeep(place) => ("TooDeep", Some(*place)),
+        TreeFault::NoMemory => ("NoMemory", None),
     }
+}
+
+fn say_tree(said: &mut Said, fault: &TreeFault) {
+    let (name, place) = tree_parts(fault);
+    said.open();
+    said.part(name.as_bytes());
+    if let Some(place) = place {
+        say_number(said, place as u64);
+    }
+    said.close();
 }
 
 fn fault_name(fault: &ExpandFault) -> &'static str {
@@ -65,12 +65,13 @@ fn fault_name(fault: &ExpandFault) -> &'static str {
     }
 }
 
-fn fault_text(alloc: Global, fault: &ExpandFault) -> Result<Text, NoMemory> {
+fn say_fault(said: &mut Said, fault: &ExpandFault) {
+    said.part(fault_name(fault).as_bytes());
     match fault {
-        ExpandFault::Recursive(name) => call(alloc, "Recursive", &[name.bytes()]),
-        ExpandFault::Tree(tree) => call(alloc, "Tree", &[tree_text(alloc, tree)?.bytes()]),
-        ExpandFault::Cond(place) => at(alloc, "Cond", *place),
-        other => plain(alloc, fault_name(other)),
+        ExpandFault::Recursive(name) => say_bytes(said, name.bytes()),
+        ExpandFault::Tree(tree) => say_tree(said, tree),
+        ExpandFault::Cond(place) => say_number(said, *place as u64),
+        _ => {}
     }
 }
 
@@ -103,58 +104,53 @@ fn what_name(what: &What) -> &'static str {
     }
 }
 
-fn count_text(alloc: Global, words: usize, names: usize) -> Result<Text, NoMemory> {
-    let mut first = Buffer::new();
-    let mut second = Buffer::new();
-    let parts = [
-        first.format(words).as_bytes(),
-        second.format(names).as_bytes(),
-    ];
-    call(alloc, "Count", &parts)
+fn say_fault_inside(said: &mut Said, fault: &ExpandFault) {
+    said.open();
+    say_fault(said, fault);
+    said.close();
 }
 
-fn what_text(alloc: Global, what: &What) -> Result<Text, NoMemory> {
+fn say_what(said: &mut Said, what: &What) {
+    said.part(what_name(what).as_bytes());
     match what {
-        What::Cond(place) => at(alloc, "Cond", *place),
-        What::Count(words, names) => count_text(alloc, *words, *names),
-        What::Include(file) => call(alloc, "Include", &[file.bytes()]),
-        What::Error(text) => call(alloc, "Error", &[text.bytes()]),
-        What::Expand(fault) => call(alloc, "Expand", &[fault_text(alloc, fault)?.bytes()]),
-        other => plain(alloc, what_name(other)),
+        What::Cond(place) => say_number(said, *place as u64),
+        What::Count(words, names) => say_numbers(said, *words as u64, *names as u64),
+        What::Include(text) | What::Error(text) => say_bytes(said, text.bytes()),
+        What::Expand(fault) => say_fault_inside(said, fault),
+        _ => {}
     }
 }
 
-// An end with a name, a number and what is wrong.
-fn numbered(
-    alloc: Global,
-    end: &str,
-    name: &[u8],
-    number: u32,
-    wrong: &[u8],
-) -> Result<Text, NoMemory> {
-    let mut buffer = Buffer::new();
-    call(alloc, end, &[name, buffer.format(number).as_bytes(), wrong])
+// A file, a line, and what is wrong there.
+fn say_bad(said: &mut Said, file: &[u8], line: u32, what: &What) {
+    said.open();
+    said.part(file);
+    said.number(u64::from(line));
+    say_what(said, what);
+    said.close();
 }
 
-fn print_text(alloc: Global, place: u32, fault: &ExpandFault) -> Result<Text, NoMemory> {
-    let mut buffer = Buffer::new();
-    let wrong = fault_text(alloc, fault)?;
-    call(
-        alloc,
-        "Print",
-        &[buffer.format(place).as_bytes(), wrong.bytes()],
-    )
+fn say_print(said: &mut Said, place: u32, fault: &ExpandFault) {
+    said.open();
+    said.number(u64::from(place));
+    say_fault(said, fault);
+    said.close();
 }
 
-fn failed_text(alloc: Global, node: &[u8], line: u32, status: u8) -> Result<Text, NoMemory> {
-    let mut buffer = Buffer::new();
-    numbered(
-        alloc,
-        "JobFailed",
-        node,
-        line,
-        buffer.format(status).as_bytes(),
-    )
+fn say_expand(said: &mut Said, node: &[u8], line: u32, fault: &ExpandFault) {
+    said.open();
+    said.part(node);
+    said.number(u64::from(line));
+    say_fault(said, fault);
+    said.close();
+}
+
+fn say_failed(said: &mut Said, node: &[u8], line: u32, status: u8) {
+    said.open();
+    said.part(node);
+    said.number(u64::from(line));
+    said.number(u64::from(status));
+    said.close();
 }
 
 fn kind_name(kind: &Kind) -> &'static str {
@@ -165,103 +161,127 @@ fn kind_name(kind: &Kind) -> &'static str {
     }
 }
 
-fn limit_text(alloc: Global, kind: &Kind, most: u64) -> Result<Text, NoMemory> {
-    let mut buffer = Buffer::new();
-    let name = kind_name(kind).as_bytes();
-    call(alloc, "Limit", &[name, buffer.format(most).as_bytes()])
+fn say_limit(said: &mut Said, kind: &Kind, most: u64) {
+    said.open();
+    said.part(kind_name(kind).as_bytes());
+    said.number(most);
+    said.close();
 }
 
-// Adds a name, behind a blank where it is not the first.
-fn push_spaced(text: &mut Text, name: &[u8]) -> Result<(), NoMemory> {
-    if !text.is_empty() {
-        text.push(b" ")?;
-    }
-    text.push(name)
-}
-
-// These names, parted by single blanks.
-fn spaced(alloc: Global, names: &Texts) -> Result<Text, NoMemory> {
-    let mut text = Text::new(alloc);
+// Names, parted by single blanks.
+fn say_names(said: &mut Said, names: &Texts) {
+    let mut between: &[u8] = b"";
+    said.open();
     for name in names.as_slice() {
-        push_spaced(&mut text, name.bytes())?;
+        said.push(between);
+        said.push(name.bytes());
+        between = b" ";
     }
-    Ok(text)
+    said.close();
+}
+
+fn end_name(end: &End) -> &'static str {
+    match end {
+        End::Done => "Done",
+        End::Usage(_) => "Usage",
+        End::NoFile(_) => "NoFile",
+        End::Bad(_, _, _) => "Bad",
+        End::Print(_, _) => "Print",
+        End::NoTarget => "NoTarget",
+        End::NoRule(_) => "NoRule",
+        End::Cycle(_) => "Cycle",
+        End::Limit(_, _) => "Limit",
+        End::Expand(_, _, _) => "Expand",
+        End::JobFailed(_, _, _) => "JobFailed",
+        End::NotUpToDate(_) => "NotUpToDate",
+        End::WorldFault => "WorldFault",
+        End::SinkFault => "SinkFault",
+        End::NoMemory => "NoMemory",
+    }
+}
+
+/// Adds an end.
+pub fn say_end(said: &mut Said, end: &End) {
+    said.push(end_name(end).as_bytes());
+    match end {
+        End::Usage(place) => say_number(said, u64::from(*place)),
+        End::NoFile(name) | End::NoRule(name) | End::NotUpToDate(name) => {
+            say_bytes(said, name.bytes());
+        }
+        End::Bad(file, line, what) => say_bad(said, file.bytes(), *line, what),
+        End::Print(place, fault) => say_print(said, *place, fault),
+        End::Cycle(names) => say_names(said, names),
+        End::Limit(kind, most) => say_limit(said, kind, *most),
+        End::Expand(node, line, fault) => say_expand(said, node.bytes(), *line, fault),
+        End::JobFailed(node, line, status) => say_failed(said, node.bytes(), *line, *status),
+        _ => {}
+    }
 }
 
 /// An end.
-pub fn end_text(alloc: Global, end: &End) -> Result<Text, NoMemory> {
-    match end {
-        End::Done => plain(alloc, "Done"),
-        End::Usage(place) => at(alloc, "Usage", *place as usize),
-        End::NoFile(file) => call(alloc, "NoFile", &[file.bytes()]),
-        End::Bad(file, line, what) => {
-            let wrong = what_text(alloc, what)?;
-            numbered(alloc, "Bad", file.bytes(), *line, wrong.bytes())
-        }
-        End::Print(place, fault) => print_text(alloc, *place, fault),
-        End::NoTarget => plain(alloc, "NoTarget"),
-        End::NoRule(name) => call(alloc, "NoRule", &[name.bytes()]),
-        End::Cycle(names) => call(alloc, "Cycle", &[spaced(alloc, names)?.bytes()]),
-        End::Limit(kind, most) => limit_text(alloc, kind, *most),
-        End::Expand(node, line, fault) => {
-            let wrong = fault_text(alloc, fault)?;
-            numbered(alloc, "Expand", node.bytes(), *line, wrong.bytes())
-        }
-        End::JobFailed(node, line, status) => failed_text(alloc, node.bytes(), *line, *status),
-        End::NotUpToDate(name) => call(alloc, "NotUpToDate", &[name.bytes()]),
-        End::WorldFault => plain(alloc, "WorldFault"),
-        End::SinkFault => plain(alloc, "SinkFault"),
-        End::NoMemory => plain(alloc, "NoMemory"),
-    }
+pub fn end_text(alloc: Global, end: &End) -> Said {
+    let mut said = Said::new(alloc);
+    say_end(&mut said, end);
+    said
 }
 
 /// The names of a plan, parted by single blanks.
-pub fn plan_text(alloc: Global, plan: &PlanNames) -> Result<Text, NoMemory> {
-    let mut text = Text::new(alloc);
+pub fn plan_text(alloc: Global, plan: &PlanNames) -> Said {
+    let mut said = Said::new(alloc);
     for node in 0..plan.len() {
-        push_spaced(&mut text, plan.at(node))?;
+        said.push_spaced(plan.at(node));
     }
-    Ok(text)
+    said
 }
 
-// The name of a node, by its place in the plan.
-fn node_name(plan: &PlanNames, node: u32) -> &[u8] {
+// Adds the name of a node, by its place in the plan.
+fn say_node(said: &mut Said, plan: &PlanNames, node: u32) {
     match plan.at(node) {
-        [] => b"?",
-        name => name,
+        [] => said.push(b"?"),
+        name => said.push(name),
     }
 }
 
-// An event of a line of a node.
-fn push_line(text: &mut Text, what: &[u8], name: &[u8], line: u32) -> Result<(), NoMemory> {
-    let mut buffer = Buffer::new();
-    push_all(text, &[what, name, buffer.format(line).as_bytes()], b" ")
+// A node.
+fn say_of_node(said: &mut Said, what: &[u8], plan: &PlanNames, node: u32) {
+    said.push(what);
+    said.push(b" ");
+    say_node(said, plan, node);
 }
 
-fn push_end(text: &mut Text, name: &[u8], line: u32, status: u8) -> Result<(), NoMemory> {
-    let mut buffer = Buffer::new();
-    push_line(text, b"End", name, line)?;
-    text.push(b" ")?;
-    text.push(buffer.format(status).as_bytes())
+fn say_after(said: &mut Said, number: u64) {
+    said.push(b" ");
+    said.push_number(number);
 }
 
-fn push_event(text: &mut Text, plan: &PlanNames, event: Event) -> Result<(), NoMemory> {
+// A line of a node.
+fn say_of_line(said: &mut Said, what: &[u8], plan: &PlanNames, node: u32, line: u32) {
+    say_of_node(said, what, plan, node);
+    say_after(said, u64::from(line));
+}
+
+fn say_job_end(said: &mut Said, plan: &PlanNames, node: u32, line: u32, status: u8) {
+    say_of_line(said, b"End", plan, node, line);
+    say_after(said, u64::from(status));
+}
+
+fn say_event(said: &mut Said, plan: &PlanNames, event: Event) {
     match event {
-        Event::Kept(n) => push_all(text, &[b"Kept", node_name(plan, n)], b" "),
-        Event::Refused(n, line) => push_line(text, b"Refused", node_name(plan, n), line),
-        Event::Shown(n, line) => push_line(text, b"Shown", node_name(plan, n), line),
-        Event::Start(n, line) => push_line(text, b"Start", node_name(plan, n), line),
-        Event::End(n, line, status) => push_end(text, node_name(plan, n), line, status),
-        Event::Wait => text.push(b"Wait"),
+        Event::Kept(n) => say_of_node(said, b"Kept", plan, n),
+        Event::Refused(n, line) => say_of_line(said, b"Refused", plan, n, line),
+        Event::Shown(n, line) => say_of_line(said, b"Shown", plan, n, line),
+        Event::Start(n, line) => say_of_line(said, b"Start", plan, n, line),
+        Event::End(n, line, status) => say_job_end(said, plan, n, line, status),
+        Event::Wait => said.push(b"Wait"),
     }
 }
 
 /// Events, a line each, with the names of nodes.
-pub fn events_text(alloc: Global, plan: &PlanNames, events: &[Event]) -> Result<Text, NoMemory> {
-    let mut text = Text::new(alloc);
+pub fn events_text(alloc: Global, plan: &PlanNames, events: &[Event]) -> Said {
+    let mut said = Said::new(alloc);
     for event in events {
-        push_event(&mut text, plan, *event)?;
-        text.push(b"\n")?;
+        say_event(&mut said, plan, *event);
+        said.push(b"\n");
     }
-    Ok(text)
+    said
 }

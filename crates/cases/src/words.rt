@@ -8,16 +8,24 @@ fn push_word(words: &mut Texts, alloc: Global, word: &[u8]) -> Result<(), NoMemo
     words.push(Text::from_bytes(alloc, word)?)
 }
 
-// The first word, and what stands behind it and its blank.
-fn cut(text: &str) -> Option<(&str, &str)> {
-    let Some(quoted) = text.strip_prefix('\'') else {
-        return Some(text.split_once(' ').unwrap_or((text, "")));
-    };
+// The word up to the next quote, and what stands behind that and its blank.
+fn cut_quoted(quoted: &str) -> Option<(&str, &str)> {
     let (word, behind) = quoted.split_once('\'')?;
     if behind.is_empty() {
         return Some((word, ""));
     }
     Some((word, behind.strip_prefix(' ')?))
+}
+
+// The first word, and what stands behind it and its blank.
+fn cut(text: &str) -> Option<(&str, &str)> {
+    if let Some(quoted) = text.strip_prefix('\'') {
+        return cut_quoted(quoted);
+    }
+    match text.split_once(' ') {
+        Some(both) => Some(both),
+        None => Some((text, "")),
+    }
 }
 
 // The words of a line, parted by single blanks.
