@@ -1,5 +1,6 @@
 //! What the words of a command line ask for.
 use crate::refused::Refused;
+use crate::rows::{Row, check};
 use crate::texts::{are, texts};
 use mk_bytes::is_clean_directory;
 use mk_cli::{Order, Usage, words};
@@ -13,34 +14,51 @@ type Words = &'static [&'static [u8]];
 /// prints there are, and the targets.
 type Asked = (u32, bool, usize, usize, usize, Words);
 
-const ROWS: [(&str, Words, Asked); 7] = [
-    ("no words", &[], (1, false, 0, 0, 0, &[])),
-    (
+// What a row shows, the words, and what they ask for.
+struct AskingRow(&'static str, Words, Asked);
+
+impl Row for AskingRow {
+    fn shows(&self) -> &'static str {
+        self.0
+    }
+
+    fn holds(&self, alloc: Global) -> Result<bool, Refused> {
+        let all = texts(alloc, self.1)?;
+        match words(alloc, &all, CWD) {
+            Ok(order) => Ok(asks_for(&order, self.2)),
+            Err(_) => Ok(false),
+        }
+    }
+}
+
+const ROWS: [AskingRow; 7] = [
+    AskingRow("no words", &[], (1, false, 0, 0, 0, &[])),
+    AskingRow(
         "a shared word",
         &[b"-kj4", b"X=1", b"t"],
         (4, true, 0, 1, 0, &[b"t"]),
     ),
-    (
+    AskingRow(
         "the last -j",
         &[b"-j2", b"t", b"-j", b"03"],
         (3, false, 0, 0, 0, &[b"t"]),
     ),
-    (
+    AskingRow(
         "-B beside -j, and -S behind -k",
         &[b"-kB", b"-j", b"4", b"-S"],
         (1, false, 0, 0, 0, &[]),
     ),
-    (
+    AskingRow(
         "any argument",
         &[b"-f", b"--", b"-VA", b"-v", b"$B"],
         (1, false, 1, 0, 2, &[]),
     ),
-    (
+    AskingRow(
         "options that end",
         &[b"-DA", b"--", b"-k", b"--"],
         (1, false, 0, 1, 0, &[b"-k", b"--"]),
     ),
-    (
+    AskingRow(
         "cleaned targets",
         &[b"./a//b", b"/w/c", b"=x"],
         (1, false, 0, 0, 0, &[b"a/b", b"c", b"=x"]),
@@ -57,24 +75,9 @@ fn asks_for(order: &Order, asked: Asked) -> bool {
         && are(&order.flags.requested, targets)
 }
 
-fn are_read_as(alloc: Global, all: Words, asked: Asked) -> bool {
-    let Ok(all) = texts(alloc, all) else {
-        return false;
-    };
-    match words(alloc, &all, CWD) {
-        Ok(order) => asks_for(&order, asked),
-        Err(_) => false,
-    }
-}
-
 #[test]
-fn words_ask(rt: HostRuntime) -> Result<(), Refused> {
-    assert!(rt; is_clean_directory(CWD));
-    for row in &ROWS {
-        let (shows, all, asked) = *row;
-        assert!(rt; are_read_as(rt.alloc(), all, asked), "{shows}");
-    }
-    Ok(())
+fn words_ask(rt: HostRuntime) {
+    check(&rt, rt.alloc(), &ROWS);
 }
 
 // Whether the word at this place is refused.

@@ -33,6 +33,8 @@ mod references;
 #[cfg(test)]
 mod refused;
 #[cfg(test)]
+mod rows;
+#[cfg(test)]
 mod sinks;
 #[cfg(test)]
 mod suffixes;

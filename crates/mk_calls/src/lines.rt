@@ -1,5 +1,6 @@
 //! Logical lines with their numbers.
 use crate::refused::Refused;
+use crate::rows::{Row, check};
 use mk_bytes::NoMemory;
 use mk_lines::{LineCursor, LineRef, LogLine, LogLines, logical_lines};
 use std::alloc::Global;
@@ -9,16 +10,32 @@ type Bytes = &'static [u8];
 const TWO_LINES: Bytes = b"a \\\n\tb\nc";
 
 // What a row shows, a text, and the numbers and texts of its logical lines.
-const LINES: [(&str, Bytes, &[(u32, Bytes)]); 9] = [
-    ("a continuation", TWO_LINES, &[(1, b"a  b"), (3, b"c")]),
-    ("no line", b"", &[]),
-    ("empty lines", b"\n\nx\n", &[(1, b""), (2, b""), (3, b"x")]),
-    ("two backslashes", b"a\\\\\nb", &[(1, b"a\\\\"), (2, b"b")]),
-    ("three backslashes", b"a\\\\\\\nb", &[(1, b"a\\\\ b")]),
-    ("blanks", b"a\\\n \t\\\n b\nc", &[(1, b"a  b"), (4, b"c")]),
-    ("one backslash at the end", b"A=\\", &[(1, b"A=")]),
-    ("two backslashes at the end", b"A=\\\\", &[(1, b"A=\\\\")]),
-    ("a newline at the end", b"a\\\n", &[(1, b"a")]),
+struct LinesRow(&'static str, Bytes, &'static [(u32, Bytes)]);
+
+impl Row for LinesRow {
+    fn shows(&self) -> &'static str {
+        self.0
+    }
+
+    fn holds(&self, alloc: Global) -> Result<bool, Refused> {
+        if self.1.len() >= 100 {
+            return Ok(false);
+        }
+        let lines = logical_lines(alloc, self.1)?;
+        Ok(are_lines(&lines, self.2))
+    }
+}
+
+const LINES: [LinesRow; 9] = [
+    LinesRow("a continuation", TWO_LINES, &[(1, b"a  b"), (3, b"c")]),
+    LinesRow("no line", b"", &[]),
+    LinesRow("empty lines", b"\n\nx\n", &[(1, b""), (2, b""), (3, b"x")]),
+    LinesRow("two backslashes", b"a\\\\\nb", &[(1, b"a\\\\"), (2, b"b")]),
+    LinesRow("three backslashes", b"a\\\\\\\nb", &[(1, b"a\\\\ b")]),
+    LinesRow("blanks", b"a\\\n \t\\\n b\nc", &[(1, b"a  b"), (4, b"c")]),
+    LinesRow("one backslash at the end", b"A=\\", &[(1, b"A=")]),
+    LinesRow("two backslashes at the end", b"A=\\\\", &[(1, b"A=\\\\")]),
+    LinesRow("a newline at the end", b"a\\\n", &[(1, b"a")]),
 ];
 
 fn is_line(line: &LogLine, wanted: (u32, &[u8])) -> bool {
@@ -27,23 +44,20 @@ fn is_line(line: &LogLine, wanted: (u32, &[u8])) -> bool {
 }
 
 fn are_lines(lines: &LogLines, wanted: &[(u32, Bytes)]) -> bool {
-    lines.len() == wanted.len()
-        && lines
-            .as_slice()
-            .iter()
-            .zip(wanted)
-            .all(|(line, wanted)| is_line(line, *wanted))
+    if lines.len() != wanted.len() {
+        return false;
+    }
+    for (line, wanted) in lines.as_slice().iter().zip(wanted) {
+        if !is_line(line, *wanted) {
+            return false;
+        }
+    }
+    true
 }
 
 #[test]
-fn texts_have_lines(rt: HostRuntime) -> Result<(), Refused> {
-    for row in &LINES {
-        let (shows, text, wanted) = *row;
-        assert!(rt; text.len() < 100);
-        let lines = logical_lines(rt.alloc(), text)?;
-        assert!(rt; are_lines(&lines, wanted), "{shows}");
-    }
-    Ok(())
+fn texts_have_lines(rt: HostRuntime) {
+    check(&rt, rt.alloc(), &LINES);
 }
 
 // What a cursor over the two lines gives, call by call.
@@ -66,13 +80,21 @@ fn gives(
     Ok(is_given(&line, wanted))
 }
 
+// The place of the first line that a cursor gives otherwise.
+fn first_other(alloc: Global, cursor: &mut LineCursor<'_>) -> Result<Option<usize>, NoMemory> {
+    for (place, wanted) in GIVEN.iter().enumerate() {
+        if !gives(alloc, cursor, *wanted)? {
+            return Ok(Some(place));
+        }
+    }
+    Ok(None)
+}
+
 #[test]
 fn cursor_gives_lines_and_then_none(rt: HostRuntime) -> Result<(), Refused> {
     let mut cursor = LineCursor::new(TWO_LINES);
     let mut copy = cursor.copy();
-    for wanted in &GIVEN {
-        assert!(rt; gives(rt.alloc(), &mut cursor, *wanted)?, "the cursor");
-    }
+    assert_eq!(rt; first_other(rt.alloc(), &mut cursor)?, None);
     assert!(rt; gives(rt.alloc(), &mut copy, GIVEN[0])?, "the copy");
     Ok(())
 }

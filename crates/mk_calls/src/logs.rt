@@ -1,67 +1,81 @@
 //! Logs of recorders. The records that a log gives are written as those of the first command line.
 use crate::refused::Refused;
+use crate::rows::{Row, check};
 use mk_bytes::{NoMemory, Text};
 use mk_filemon::{push_op, read_log};
 use mk_world::Ops;
 use std::alloc::Global;
 
 // What a row shows, the log, and its records where the directory is `/w`.
-const LOGS: [(&str, &[u8], &[u8]); 15] = [
-    (
+struct LogRow(&'static str, &'static [u8], &'static [u8]);
+
+impl Row for LogRow {
+    fn shows(&self) -> &'static str {
+        self.0
+    }
+
+    fn holds(&self, alloc: Global) -> Result<bool, Refused> {
+        let records = records_of(alloc, self.1)?;
+        Ok(records.bytes() == self.2)
+    }
+}
+
+const LOGS: [LogRow; 15] = [
+    LogRow(
         "a directory, a move, and another letter",
         b"C 5 /w/d\nR 5 f\nM 5 'p' 'q'\nQ 5 z\n",
         b"R 1 d/f\nM 1 'd/p' 'd/q'\n",
     ),
-    ("a miss, and a comment", b"# N 5 f\n# x\n", b"N 1 f\n"),
-    ("a miss without its sign", b"N 5 f\n", b""),
-    (
+    LogRow("a miss, and a comment", b"# N 5 f\n# x\n", b"N 1 f\n"),
+    LogRow("a miss without its sign", b"N 5 f\n", b""),
+    LogRow(
         "programs, writes, deletions and links",
         b"E 5 /bin/sh\nW 5 t\nD 5 u\nL 5 'a' 'b'\n",
         b"R 1 /bin/sh\nW 1 t\nD 1 u\nR 1 a\nW 1 b\n",
     ),
-    (
+    LogRow(
         "a last line without a newline",
         b"R 5 a\nR 5 b",
         b"R 1 a\nR 1 b\n",
     ),
-    (
+    LogRow(
         "a relative directory is taken against the old one",
         b"C 5 d\nC 5 e/..\nR 5 f\n",
         b"R 1 d/f\n",
     ),
-    (
+    LogRow(
         "a process has the directory of its parent",
         b"C 5 /w/d\nF 5 6\nC 5 /\nR 6 f\nR 5 f\n",
         b"R 1 d/f\nR 1 /f\n",
     ),
-    (
+    LogRow(
         "a process that was not seen, and its child",
         b"F 7 8\nR 7 f\nR 8 ../g\n",
         b"R 1 f\nR 1 /g\n",
     ),
-    (
+    LogRow(
         "numbers of any length, compared as numbers",
         b"C 5 d\nR 005 f\nC 99999999999999999999999 e\nR 099999999999999999999999 f\n",
         b"R 1 d/f\nR 1 e/f\n",
     ),
-    ("no path", b"R 5 \nC 5 \nF 5 \nR 5\n", b""),
-    ("no number", b"R x f\nR  f\nF 5 x\nR -1 f\n", b""),
-    (
+    LogRow("no path", b"R 5 \nC 5 \nF 5 \nR 5\n", b""),
+    LogRow("no number", b"R x f\nR  f\nF 5 x\nR -1 f\n", b""),
+    LogRow(
         "a quote that ends two paths",
         b"M 5 'a' '\nM 5 'a'\nM 5 'a' b\nM 5 a 'b'\n",
         b"",
     ),
-    (
+    LogRow(
         "an empty path in quotes is the directory",
         b"C 5 d\nL 5 'a' ''\n",
         b"R 1 d/a\nW 1 d\n",
     ),
-    (
+    LogRow(
         "quotes in a path",
         b"M 5 'it's' 'a'b'\n",
         b"M 1 'it\\'s' 'a\\'b'\n",
     ),
-    (
+    LogRow(
         "other letters",
         b"X 5 0 0\nV 5\nS 5 a\nA 5 a\nr 5 a\n\n",
         b"",
@@ -84,11 +98,6 @@ fn records_of(alloc: Global, log: &[u8]) -> Result<Text, NoMemory> {
 }
 
 #[test]
-fn logs_give_records(rt: HostRuntime) -> Result<(), Refused> {
-    for row in &LOGS {
-        let (shows, log, wanted) = *row;
-        let records = records_of(rt.alloc(), log)?;
-        assert_eq!(rt; records.bytes(), wanted, "{shows}");
-    }
-    Ok(())
+fn logs_give_records(rt: HostRuntime) {
+    check(&rt, rt.alloc(), &LOGS);
 }

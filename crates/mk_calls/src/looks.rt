@@ -2,7 +2,7 @@
 use crate::refused::Refused;
 use crate::texts::{are, texts};
 use mk_bytes::{Items, NoMemory, Texts};
-use mk_filemon::{Recs, read_op};
+use mk_filemon::{JobPaths, Recs, read_op};
 use mk_oodate::looked_at;
 use std::alloc::Global;
 
@@ -32,12 +32,19 @@ fn ignored(alloc: Global) -> Result<Texts, NoMemory> {
     texts(alloc, &[b"a", b"/w/x"])
 }
 
+fn are_those(paths: &JobPaths) -> bool {
+    are(&paths.found, &[b"b"]) && are(&paths.missed, &[b"x"]) && are(&paths.left, &[b"t"])
+}
+
+fn looks(alloc: Global) -> Result<bool, NoMemory> {
+    let records = records_of(alloc, &RECORDS)?;
+    let ignored = ignored(alloc)?;
+    let paths = looked_at(alloc, &ignored, &records)?;
+    Ok(are_those(&paths))
+}
+
 #[test]
 fn ignored_paths_are_not_looked_at(rt: HostRuntime) -> Result<(), Refused> {
-    let records = records_of(rt.alloc(), &RECORDS)?;
-    let paths = looked_at(rt.alloc(), &ignored(rt.alloc())?, &records)?;
-    assert!(rt; are(&paths.found, &[b"b"]));
-    assert!(rt; are(&paths.missed, &[b"x"]));
-    assert!(rt; are(&paths.left, &[b"t"]));
+    assert!(rt; looks(rt.alloc())?);
     Ok(())
 }

@@ -1,5 +1,6 @@
 //! The bodies of loops' turns.
 use crate::refused::Refused;
+use crate::rows::{Row, check};
 use crate::texts::texts;
 use mk_bytes::{Items, NoMemory, Text};
 use mk_for::{Bodies, ForFault, turn, unroll};
@@ -25,7 +26,7 @@ fn is_body(lines: &LogLines, text: &[u8]) -> bool {
 }
 
 // What a row shows, a line, the names, the words, and the line in each turn.
-type Row = (
+struct TurnsRow(
     &'static str,
     Bytes,
     &'static [Bytes],
@@ -33,30 +34,30 @@ type Row = (
     Result<&'static [Bytes], ForFault>,
 );
 
-const ROWS: [Row; 5] = [
-    (
+const ROWS: [TurnsRow; 5] = [
+    TurnsRow(
         "a name and a dollar",
         b"X${i}=$$i",
         &[b"i"],
         &[b"1"],
         Ok(&[b"X${:U1}=$$i"]),
     ),
-    (
+    TurnsRow(
         "words in pairs",
         b"\t$a${b}",
         &[b"a", b"b"],
         &[b"p", b"q", b"r", b"s"],
         Ok(&[b"\t${:Up}${:Uq}", b"\t${:Ur}${:Us}"]),
     ),
-    (
+    TurnsRow(
         "equal names",
         b"$a",
         &[b"a", b"a"],
         &[b"1", b"2"],
         Ok(&[b"${:U1}"]),
     ),
-    ("no words", b"$a", &[b"a", b"b"], &[], Ok(&[])),
-    (
+    TurnsRow("no words", b"$a", &[b"a", b"b"], &[], Ok(&[])),
+    TurnsRow(
         "a word too many",
         b"$a",
         &[b"a", b"b"],
@@ -66,44 +67,60 @@ const ROWS: [Row; 5] = [
 ];
 
 fn are_bodies(bodies: &Bodies, wanted: &[Bytes]) -> bool {
-    bodies.len() == wanted.len()
-        && bodies
-            .as_slice()
-            .iter()
-            .zip(wanted)
-            .all(|(lines, text)| is_body(lines, text))
+    if bodies.len() != wanted.len() {
+        return false;
+    }
+    for (lines, text) in bodies.as_slice().iter().zip(wanted) {
+        if !is_body(lines, text) {
+            return false;
+        }
+    }
+    true
 }
 
-fn has_turns(alloc: Global, row: Row) -> Result<bool, NoMemory> {
-    let (_, line, names, words, wanted) = row;
-    let body = body(alloc, line)?;
-    let names = texts(alloc, names)?;
-    let words = texts(alloc, words)?;
-    if names.is_empty() {
-        return Ok(false);
+fn are_wanted(found: &Result<Bodies, ForFault>, wanted: &Result<&[Bytes], ForFault>) -> bool {
+    match (found, wanted) {
+        (Ok(bodies), Ok(wanted)) => are_bodies(bodies, wanted),
+        (Err(fault), Err(wanted)) => fault == wanted,
+        _ => false,
     }
-    match (unroll(alloc, &body, &names, &words), wanted) {
-        (Ok(bodies), Ok(wanted)) => Ok(are_bodies(&bodies, wanted)),
-        (Err(fault), Err(wanted)) => Ok(fault == wanted),
-        _ => Ok(false),
+}
+
+impl Row for TurnsRow {
+    fn shows(&self) -> &'static str {
+        self.0
+    }
+
+    fn holds(&self, alloc: Global) -> Result<bool, Refused> {
+        let body = body(alloc, self.1)?;
+        let names = texts(alloc, self.2)?;
+        let words = texts(alloc, self.3)?;
+        if names.is_empty() {
+            return Ok(false);
+        }
+        Ok(are_wanted(&unroll(alloc, &body, &names, &words), &self.4))
     }
 }
 
 #[test]
-fn loops_have_turns(rt: HostRuntime) -> Result<(), Refused> {
-    for row in &ROWS {
-        assert!(rt; has_turns(rt.alloc(), *row)?, "{}", row.0);
+fn loops_have_turns(rt: HostRuntime) {
+    check(&rt, rt.alloc(), &ROWS);
+}
+
+// Whether the second turn over four words and two names has this line.
+fn is_second_turn(alloc: Global, line: &[u8], wanted: &[u8]) -> Result<bool, NoMemory> {
+    let body = body(alloc, line)?;
+    let names = texts(alloc, &[b"a", b"b"])?;
+    let words = texts(alloc, &[b"p", b"q", b"r", b"s"])?;
+    if names.len() != 2 || words.len() != 4 {
+        return Ok(false);
     }
-    Ok(())
+    let lines = turn(alloc, &body, &names, &words, 1)?;
+    Ok(is_body(&lines, wanted))
 }
 
 #[test]
 fn a_turn_takes_its_words(rt: HostRuntime) -> Result<(), Refused> {
-    let body = body(rt.alloc(), b"$a-$b")?;
-    let names = texts(rt.alloc(), &[b"a", b"b"])?;
-    let words = texts(rt.alloc(), &[b"p", b"q", b"r", b"s"])?;
-    assert!(rt; names.len() == 2 && words.len() == 4);
-    let lines = turn(rt.alloc(), &body, &names, &words, 1)?;
-    assert!(rt; is_body(&lines, b"${:Ur}-${:Us}"));
+    assert!(rt; is_second_turn(rt.alloc(), b"$a-$b", b"${:Ur}-${:Us}")?);
     Ok(())
 }

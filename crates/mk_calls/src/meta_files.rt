@@ -1,7 +1,9 @@
 //! Meta files, read and written.
 use crate::looks::records_of;
 use crate::refused::Refused;
+use crate::rows::{Row, check};
 use mk_bytes::{Items, NoMemory, Text};
+use mk_filemon::Recs;
 use mk_meta::{Meta, head, read_meta, write_meta};
 use mk_world::{Lines, TaskLine, Time};
 use std::alloc::Global;
@@ -10,119 +12,132 @@ const SAMPLE: &[u8] =
     b"# Meta data file t.meta\nSTAMP 4\nCMD cat t a b\nCWD /w\nTARGET t\nOUTPUT 0\n-- command output --\n\n-- filemon acquired metadata --\nR 1 a\nR 1 b\nW 1 t\n# end 3\n";
 
 // What a row shows, a text, and whether it is a meta file.
-const TEXTS: [(&str, &[u8], bool); 24] = [
-    ("one job", SAMPLE, true),
-    (
+struct TextRow(&'static str, &'static [u8], bool);
+
+impl Row for TextRow {
+    fn shows(&self) -> &'static str {
+        self.0
+    }
+
+    fn holds(&self, alloc: Global) -> Result<bool, Refused> {
+        let found = again(alloc, self.1)?;
+        Ok(is_again(&found, self.1, self.2))
+    }
+}
+
+const TEXTS: [TextRow; 24] = [
+    TextRow("one job", SAMPLE, true),
+    TextRow(
         "no lines, no records, and a large stamp",
         b"# Meta data file .meta\nSTAMP 18446744073709551615\nCWD d/..\nTARGET \nOUTPUT 0\n-- command output --\n\n# end 3\n",
         true,
     ),
-    (
+    TextRow(
         "an ignored line, an empty one, and a text with a sign inside",
         b"# Meta data file t.meta\nSTAMP 4\nCMD -fail 1\nCMD \nCMD a - @\nCWD /w\nTARGET t\nOUTPUT 0\n-- command output --\n\n# end 3\n",
         true,
     ),
-    (
+    TextRow(
         "escapes and exports",
         b"# Meta data file a\\\\\\n.meta\nSTAMP 0\nCWD /w\nENV A=\\n=\nENV _b=\nTARGET a\\\\\\n\nOUTPUT 0\n-- command output --\n\n# end 3\n",
         true,
     ),
-    (
+    TextRow(
         "output as it is, and no records, none in number",
         b"# Meta data file t.meta\nSTAMP 4\nCWD /w\nTARGET t\nOUTPUT 9\n-- command output --\n# end 3\n\\\n-- filemon acquired metadata --\n# end 3\n",
         true,
     ),
-    (
+    TextRow(
         "an older last line",
         b"# Meta data file t.meta\nSTAMP 4\nCWD /w\nTARGET t\nOUTPUT 0\n-- command output --\n\n# end\n",
         false,
     ),
-    (
+    TextRow(
         "a last line of the form before",
         b"# Meta data file t.meta\nSTAMP 4\nCWD /w\nTARGET t\nOUTPUT 0\n-- command output --\n\n# end 2\n",
         false,
     ),
-    (
+    TextRow(
         "a byte behind the last line",
         b"# Meta data file t.meta\nSTAMP 4\nCWD /w\nTARGET t\nOUTPUT 0\n-- command output --\n\n# end 3\n\n",
         false,
     ),
-    (
+    TextRow(
         "a stamp that is too large",
         b"# Meta data file t.meta\nSTAMP 18446744073709551616\nCWD /w\nTARGET t\nOUTPUT 0\n-- command output --\n\n# end 3\n",
         false,
     ),
-    (
+    TextRow(
         "a leading zero",
         b"# Meta data file t.meta\nSTAMP 04\nCWD /w\nTARGET t\nOUTPUT 0\n-- command output --\n\n# end 3\n",
         false,
     ),
-    (
+    TextRow(
         "another target in the first line",
         b"# Meta data file u.meta\nSTAMP 4\nCWD /w\nTARGET t\nOUTPUT 0\n-- command output --\n\n# end 3\n",
         false,
     ),
-    (
+    TextRow(
         "a command with a blank before it",
         b"# Meta data file t.meta\nSTAMP 4\nCMD  a\nCWD /w\nTARGET t\nOUTPUT 0\n-- command output --\n\n# end 3\n",
         false,
     ),
-    (
+    TextRow(
         "a command with a sign before it",
         b"# Meta data file t.meta\nSTAMP 4\nCMD @a\nCWD /w\nTARGET t\nOUTPUT 0\n-- command output --\n\n# end 3\n",
         false,
     ),
-    (
+    TextRow(
         "two signs",
         b"# Meta data file t.meta\nSTAMP 4\nCMD --a\nCWD /w\nTARGET t\nOUTPUT 0\n-- command output --\n\n# end 3\n",
         false,
     ),
-    (
+    TextRow(
         "another escape",
         b"# Meta data file t.meta\nSTAMP 4\nCMD \\a\nCWD /w\nTARGET t\nOUTPUT 0\n-- command output --\n\n# end 3\n",
         false,
     ),
-    (
+    TextRow(
         "exports that are not sorted",
         b"# Meta data file t.meta\nSTAMP 4\nCWD /w\nENV b=\nENV a=\nTARGET t\nOUTPUT 0\n-- command output --\n\n# end 3\n",
         false,
     ),
-    (
+    TextRow(
         "an export that stands twice",
         b"# Meta data file t.meta\nSTAMP 4\nCWD /w\nENV a=\nENV a=\nTARGET t\nOUTPUT 0\n-- command output --\n\n# end 3\n",
         false,
     ),
-    (
+    TextRow(
         "an export that begins with a digit",
         b"# Meta data file t.meta\nSTAMP 4\nCWD /w\nENV 1=\nTARGET t\nOUTPUT 0\n-- command output --\n\n# end 3\n",
         false,
     ),
-    (
+    TextRow(
         "an export without a name",
         b"# Meta data file t.meta\nSTAMP 4\nCWD /w\nENV =\nTARGET t\nOUTPUT 0\n-- command output --\n\n# end 3\n",
         false,
     ),
-    (
+    TextRow(
         "output that is longer",
         b"# Meta data file t.meta\nSTAMP 4\nCWD /w\nTARGET t\nOUTPUT 1\n-- command output --\nab\n# end 3\n",
         false,
     ),
-    (
+    TextRow(
         "output that ends early",
         b"# Meta data file t.meta\nSTAMP 4\nCWD /w\nTARGET t\nOUTPUT 99\n-- command output --\nab\n# end 3\n",
         false,
     ),
-    (
+    TextRow(
         "a record of a line that is not there",
         b"# Meta data file t.meta\nSTAMP 4\nCMD a\nCWD /w\nTARGET t\nOUTPUT 0\n-- command output --\n\n-- filemon acquired metadata --\nR 2 a\n# end 3\n",
         false,
     ),
-    (
+    TextRow(
         "a record of line 0",
         b"# Meta data file t.meta\nSTAMP 4\nCMD a\nCWD /w\nTARGET t\nOUTPUT 0\n-- command output --\n\n-- filemon acquired metadata --\nR 0 a\n# end 3\n",
         false,
     ),
-    (
+    TextRow(
         "records without their marker",
         b"# Meta data file t.meta\nSTAMP 4\nCMD a\nCWD /w\nTARGET t\nOUTPUT 0\n-- command output --\n\nR 1 a\n# end 3\n",
         false,
@@ -145,21 +160,23 @@ fn is_again(found: &Option<Text>, text: &[u8], meta_file: bool) -> bool {
 }
 
 #[test]
-fn meta_files_have_one_spelling(rt: HostRuntime) -> Result<(), Refused> {
-    for row in &TEXTS {
-        let (shows, text, meta_file) = *row;
-        let found = again(rt.alloc(), text)?;
-        assert!(rt; is_again(&found, text, meta_file), "{shows}");
+fn meta_files_have_one_spelling(rt: HostRuntime) {
+    check(&rt, rt.alloc(), &TEXTS);
+}
+
+// The length of the first beginning of the sample that is a meta file.
+fn first_beginning(alloc: Global) -> Result<Option<usize>, NoMemory> {
+    for len in 0..SAMPLE.len() {
+        if read_meta(alloc, &SAMPLE[..len])?.is_some() {
+            return Ok(Some(len));
+        }
     }
-    Ok(())
+    Ok(None)
 }
 
 #[test]
 fn no_beginning_of_a_meta_file_is_one(rt: HostRuntime) -> Result<(), Refused> {
-    for len in 0..SAMPLE.len() {
-        let found = read_meta(rt.alloc(), &SAMPLE[..len])?;
-        assert!(rt; found.is_none(), "{len}");
-    }
+    assert_eq!(rt; first_beginning(rt.alloc())?, None);
     Ok(())
 }
 
@@ -212,6 +229,13 @@ fn a_job_is_written(rt: HostRuntime) -> Result<(), Refused> {
     Ok(())
 }
 
+fn has_three(records: &Option<Recs>) -> bool {
+    match records {
+        Some(records) => records.len() == 3,
+        None => false,
+    }
+}
+
 fn is_that_job(meta: &Meta) -> bool {
     meta.stamp == Time(4)
         && meta.exports.is_empty()
@@ -219,15 +243,19 @@ fn is_that_job(meta: &Meta) -> bool {
         && meta.cwd.bytes() == b"/w".as_slice()
         && meta.target.bytes() == b"t".as_slice()
         && meta.output.is_empty()
-        && meta
-            .records
-            .as_ref()
-            .is_some_and(|records| records.len() == 3)
+        && has_three(&meta.records)
+}
+
+fn is_job(meta: &Option<Meta>) -> bool {
+    match meta {
+        Some(meta) => is_that_job(meta),
+        None => false,
+    }
 }
 
 #[test]
 fn a_job_is_read(rt: HostRuntime) -> Result<(), Refused> {
-    let meta = read_meta(rt.alloc(), SAMPLE)?.expect(&rt, "a meta file");
-    assert!(rt; is_that_job(&meta));
+    let meta = read_meta(rt.alloc(), SAMPLE)?;
+    assert!(rt; is_job(&meta));
     Ok(())
 }

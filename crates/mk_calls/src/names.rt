@@ -10,8 +10,15 @@ const INTERNED: [(&str, &[u8], u32); 3] = [
     ("another text", b"b", 1),
 ];
 
-fn is_interned(pool: &mut Pool, text: &[u8], name: u32) -> Result<bool, PoolFault> {
-    Ok(pool.intern(text)? == Name(name))
+// What the first row shows that is not so, one behind the other.
+fn first_other(pool: &mut Pool) -> Result<Option<&'static str>, PoolFault> {
+    for row in &INTERNED {
+        let (shows, text, name) = *row;
+        if pool.intern(text)? != Name(name) {
+            return Ok(Some(shows));
+        }
+    }
+    Ok(None)
 }
 
 // Whether a pool has two texts, of which `b` is the second one and `c` is none.
@@ -22,29 +29,32 @@ fn has_two(pool: &Pool) -> bool {
 #[test]
 fn equal_texts_share_a_name(rt: HostRuntime) -> Result<(), Refused> {
     let mut pool = Pool::new(rt.alloc())?;
-    for row in &INTERNED {
-        let (shows, text, name) = *row;
-        assert!(rt; is_interned(&mut pool, text, name)?, "{shows}");
-    }
+    let other = first_other(&mut pool)?;
+    assert_eq!(rt; other, None);
     assert!(rt; has_two(&pool));
     Ok(())
 }
 
-// A pool of the four bytes of each number below the most names, in this order.
-fn full_pool(alloc: Global) -> Result<Pool, PoolFault> {
-    let mut pool = Pool::new(alloc)?;
+// The four bytes of each number below the most names, in this order.
+fn fill(pool: &mut Pool) -> Result<(), PoolFault> {
     for n in 0..MAX_NAMES {
         pool.intern(&(n as u32).to_be_bytes())?;
     }
-    Ok(pool)
+    Ok(())
+}
+
+// Whether a pool has that many texts, takes no new one, and still has the first.
+fn is_full(pool: &mut Pool) -> bool {
+    pool.len() == 1_048_576
+        && pool.intern(b"x") == Err(PoolFault::Full)
+        && pool.intern(b"\0\0\0\0") == Ok(Name(0))
 }
 
 #[test]
 fn a_full_pool_takes_no_new_text(rt: HostRuntime) -> Result<(), Refused> {
-    let mut pool = full_pool(rt.alloc())?;
-    assert_eq!(rt; pool.len(), 1_048_576);
-    assert!(rt; pool.intern(b"x") == Err(PoolFault::Full));
-    assert!(rt; pool.intern(b"\0\0\0\0") == Ok(Name(0)));
+    let mut pool = Pool::new(rt.alloc())?;
+    fill(&mut pool)?;
+    assert!(rt; is_full(&mut pool));
     Ok(())
 }
 
@@ -56,13 +66,20 @@ fn placed(alloc: Global) -> Result<(Region, Piece), NoMemory> {
     Ok((region, piece))
 }
 
+// Whether the second word lies there, and the region goes back to four bytes.
+fn goes_back(region: &mut Region) -> bool {
+    if region.len() != 7 {
+        return false;
+    }
+    let has_word = region.bytes(Piece { start: 5, end: 7 }) == b"cd".as_slice();
+    region.back(4);
+    has_word && region.len() == 4
+}
+
 #[test]
 fn a_region_places_and_goes_back(rt: HostRuntime) -> Result<(), Refused> {
     let (mut region, piece) = placed(rt.alloc())?;
-    assert_eq!(rt; region.len(), 7);
     assert!(rt; piece == Piece { start: 2, end: 7 });
-    assert_eq!(rt; region.bytes(Piece { start: 5, end: 7 }), b"cd".as_slice());
-    region.back(4);
-    assert_eq!(rt; region.len(), 4);
+    assert!(rt; goes_back(&mut region));
     Ok(())
 }

@@ -3,6 +3,7 @@ ghost use Rattle.std.specs.Prelude.{◌≡◌, ◌≤◌, [], length, IfOk, IsTr
 ghost use Rattle.mk_plan.specs.Plans.{is_behind};
 
 use crate::refused::Refused;
+use crate::rows::{Row, check};
 use mk_bytes::{Items, NoMemory, Text, Texts};
 use mk_graph::{Marks, Nodes};
 use mk_plan::{Plan, PlanNode};
@@ -96,37 +97,56 @@ fn next_of(
 
 // What a row shows, whether each of three nodes waits for the one before it, the number of jobs, how
 // many nodes were started, and what comes next.
-const NEXT: [(&str, bool, u32, u32, Next); 6] = [
-    ("the first node", false, 2, 0, Next::Decide(0)),
-    (
+struct NextRow(&'static str, bool, u32, u32, Next);
+
+impl Row for NextRow {
+    fn shows(&self) -> &'static str {
+        self.0
+    }
+
+    fn holds(&self, alloc: Global) -> Result<bool, Refused> {
+        Ok(next_of(alloc, self.1, self.2, self.3)? == Some(self.4))
+    }
+}
+
+const NEXT: [NextRow; 6] = [
+    NextRow("the first node", false, 2, 0, Next::Decide(0)),
+    NextRow(
         "the next one, while tokens are free",
         false,
         2,
         1,
         Next::Decide(1),
     ),
-    ("no token is free", false, 1, 1, Next::Wait),
-    ("nor with two jobs", false, 2, 2, Next::Wait),
-    ("the next one waits", true, 256, 1, Next::Wait),
-    ("all are started", false, 256, 3, Next::Wait),
+    NextRow("no token is free", false, 1, 1, Next::Wait),
+    NextRow("nor with two jobs", false, 2, 2, Next::Wait),
+    NextRow("the next one waits", true, 256, 1, Next::Wait),
+    NextRow("all are started", false, 256, 3, Next::Wait),
 ];
 
 #[test]
-fn nodes_come_while_tokens_are_free(rt: HostRuntime) -> Result<(), Refused> {
-    for row in &NEXT {
-        let (shows, in_a_row, jobs, started, next) = *row;
-        let found = next_of(rt.alloc(), in_a_row, jobs, started)?;
-        assert!(rt; found == Some(next), "{shows}");
-    }
-    Ok(())
+fn nodes_come_while_tokens_are_free(rt: HostRuntime) {
+    check(&rt, rt.alloc(), &NEXT);
 }
 
 // What a row shows, whether each node waits for the one before it, and whether there are many jobs.
-const LARGE: [(&str, bool, bool); 4] = [
-    ("one behind the other, one job", true, false),
-    ("one behind the other, many jobs", true, true),
-    ("each by itself, one job", false, false),
-    ("each by itself, many jobs", false, true),
+struct LargeRow(&'static str, bool, bool);
+
+impl Row for LargeRow {
+    fn shows(&self) -> &'static str {
+        self.0
+    }
+
+    fn holds(&self, alloc: Global) -> Result<bool, Refused> {
+        Ok(made_of_many(alloc, self.1, self.2)? == 200_000)
+    }
+}
+
+const LARGE: [LargeRow; 4] = [
+    LargeRow("one behind the other, one job", true, false),
+    LargeRow("one behind the other, many jobs", true, true),
+    LargeRow("each by itself, one job", false, false),
+    LargeRow("each by itself, many jobs", false, true),
 ];
 
 fn made_of_many(alloc: Global, in_a_row: bool, jobs_are_many: bool) -> Result<u32, NoMemory> {
@@ -136,14 +156,6 @@ fn made_of_many(alloc: Global, in_a_row: bool, jobs_are_many: bool) -> Result<u3
 }
 
 #[test]
-fn large_plans_are_made(rt: HostRuntime) -> Result<(), Refused> {
-    for row in &LARGE {
-        let (what, in_a_row, jobs_are_many) = *row;
-        assert_eq!(rt;
-            made_of_many(rt.alloc(), in_a_row, jobs_are_many)?,
-            200_000,
-            "{what}"
-        );
-    }
-    Ok(())
+fn large_plans_are_made(rt: HostRuntime) {
+    check(&rt, rt.alloc(), &LARGE);
 }

@@ -1,6 +1,7 @@
 //! Why targets are out of date. The task of a row is written as a meta file too; each of its lines is
 //! compared but those that begin with `any`.
 use crate::refused::Refused;
+use crate::rows::{Row, check};
 use mk_bytes::{Items, NoMemory};
 use mk_meta::read_meta;
 use mk_oodate::{Age, Ages, NodeMode, Times, Whens, Why, stale};
@@ -77,7 +78,7 @@ const COUNT_ONLY: NodeMode = NodeMode {
     ..META
 };
 
-struct Row {
+struct ReasonRow {
     shows: &'static str,
     mode: NodeMode,
     // The text of the meta file; an empty one is none.
@@ -103,7 +104,7 @@ const AT_5: When = When::At(Time(5));
 const AT_9: When = When::At(Time(9));
 
 // A job that began at 4 made the target at 5 and its meta file at 6; nothing has changed since.
-const SAME: Row = Row {
+const SAME: ReasonRow = ReasonRow {
     shows: "nothing changed",
     mode: META,
     meta: JOB,
@@ -116,174 +117,174 @@ const SAME: Row = Row {
     wanted: None,
 };
 
-const ROWS: [Row; 33] = [
-    Row {
+const ROWS: [ReasonRow; 33] = [
+    ReasonRow {
         shows: "nothing changed",
         ..SAME
     },
-    Row {
+    ReasonRow {
         shows: "a node that is always made",
         mode: ALWAYS,
         wanted: Some(Why::Always),
         ..SAME
     },
-    Row {
+    ReasonRow {
         shows: "its file is missing, and a source is new",
         target: When::Missing,
         sources: &[Age::New],
         wanted: Some(Why::Missing),
         ..SAME
     },
-    Row {
+    ReasonRow {
         shows: "a source is new",
         sources: &[Age::At(Time(3)), Age::New, Age::New],
         wanted: Some(Why::Newer(1)),
         ..SAME
     },
-    Row {
+    ReasonRow {
         shows: "a source is newer, and there is no meta file",
         meta: NONE,
         sources: &[Age::At(Time(6)), Age::Old],
         wanted: Some(Why::Newer(0)),
         ..SAME
     },
-    Row {
+    ReasonRow {
         shows: "a source of the same time",
         sources: &[Age::At(Time(5)), Age::At(Time(5))],
         ..SAME
     },
-    Row {
+    ReasonRow {
         shows: "a source that is older than all",
         sources: &[Age::Old],
         ..SAME
     },
-    Row {
+    ReasonRow {
         shows: "no meta file",
         meta: NONE,
         wanted: Some(Why::NoMeta),
         ..SAME
     },
-    Row {
+    ReasonRow {
         shows: "the meta file of another target",
         meta: OTHER_TARGET,
         wanted: Some(Why::NoMeta),
         ..SAME
     },
-    Row {
+    ReasonRow {
         shows: "no meta file, where it may be missing",
         mode: MAY_BE_MISSING,
         meta: NONE,
         reads: &[When::Missing],
         ..SAME
     },
-    Row {
+    ReasonRow {
         shows: "no meta file, by times",
         mode: BY_TIMES,
         meta: NONE,
         ..SAME
     },
-    Row {
+    ReasonRow {
         shows: "touched, and another command",
         meta: OTHER_TEXT,
         meta_time: When::At(Time(5)),
         wanted: Some(Why::Touched),
         ..SAME
     },
-    Row {
+    ReasonRow {
         shows: "times that are not known",
         target: When::Unknown,
         meta_time: When::Unknown,
         wanted: Some(Why::Touched),
         ..SAME
     },
-    Row {
+    ReasonRow {
         shows: "a meta file of unknown time",
         meta_time: When::Unknown,
         ..SAME
     },
-    Row {
+    ReasonRow {
         shows: "another command, and a changed read",
         meta: OTHER_TEXT,
         reads: &[AT_9],
         wanted: Some(Why::Command),
         ..SAME
     },
-    Row {
+    ReasonRow {
         shows: "an ignored line",
         meta: IGNORED,
         wanted: Some(Why::Command),
         ..SAME
     },
-    Row {
+    ReasonRow {
         shows: "a line that is not compared",
         meta: NOT_COMPARED,
         ..SAME
     },
-    Row {
+    ReasonRow {
         shows: "fewer lines",
         meta: FEWER_LINES,
         wanted: Some(Why::Command),
         ..SAME
     },
-    Row {
+    ReasonRow {
         shows: "another directory",
         meta: OTHER_DIRECTORY,
         wanted: Some(Why::Command),
         ..SAME
     },
-    Row {
+    ReasonRow {
         shows: "another directory, where the number counts",
         mode: COUNT_ONLY,
         meta: OTHER_DIRECTORY,
         ..SAME
     },
-    Row {
+    ReasonRow {
         shows: "another text, where the number counts",
         mode: COUNT_ONLY,
         meta: OTHER_TEXT,
         ..SAME
     },
-    Row {
+    ReasonRow {
         shows: "fewer lines, where the number counts",
         mode: COUNT_ONLY,
         meta: FEWER_LINES,
         wanted: Some(Why::Command),
         ..SAME
     },
-    Row {
+    ReasonRow {
         shows: "another export, where the number counts",
         mode: COUNT_ONLY,
         meta: OTHER_EXPORT,
         wanted: Some(Why::Command),
         ..SAME
     },
-    Row {
+    ReasonRow {
         shows: "commands that do not count",
         mode: IGNORE_CMD,
         meta: OTHER_EXPORT,
         ..SAME
     },
-    Row {
+    ReasonRow {
         shows: "another command without records",
         mode: NO_FILEMON,
         meta: OTHER_TEXT,
         wanted: Some(Why::Command),
         ..SAME
     },
-    Row {
+    ReasonRow {
         shows: "no records",
         meta: NO_RECORDS,
         wanted: Some(Why::NoRecords),
         ..SAME
     },
-    Row {
+    ReasonRow {
         shows: "no records, where they may be missing",
         mode: MAY_BE_MISSING,
         meta: NO_RECORDS,
         reads: &[When::Missing],
         ..SAME
     },
-    Row {
+    ReasonRow {
         shows: "records that do not count",
         mode: NO_FILEMON,
         reads: &[When::Missing],
@@ -291,33 +292,33 @@ const ROWS: [Row; 33] = [
         left: &[When::Missing],
         ..SAME
     },
-    Row {
+    ReasonRow {
         shows: "a read at the stamp, and a file that appeared",
         reads: &[AT_3, AT_4, AT_4],
         misses: &[AT_2],
         wanted: Some(Why::Read(1)),
         ..SAME
     },
-    Row {
+    ReasonRow {
         shows: "a read that is missing",
         reads: &[When::Missing, AT_9],
         wanted: Some(Why::Read(0)),
         ..SAME
     },
-    Row {
+    ReasonRow {
         shows: "a read of unknown time",
         reads: &[AT_3, AT_2, When::Unknown],
         wanted: Some(Why::Read(2)),
         ..SAME
     },
-    Row {
+    ReasonRow {
         shows: "a file that appeared, and a lost one",
         misses: &[When::Missing, AT_2],
         left: &[When::Missing],
         wanted: Some(Why::Appeared(1)),
         ..SAME
     },
-    Row {
+    ReasonRow {
         shows: "a lost file",
         left: &[AT_5, When::Missing, When::Missing],
         wanted: Some(Why::Left(1)),
@@ -369,7 +370,7 @@ fn ages(alloc: Global, all: &[Age]) -> Result<Ages, NoMemory> {
     Ok(ages)
 }
 
-fn times_of(alloc: Global, row: &Row) -> Result<Times, NoMemory> {
+fn times_of(alloc: Global, row: &ReasonRow) -> Result<Times, NoMemory> {
     Ok(Times {
         target: row.target,
         meta: row.meta_time,
@@ -380,25 +381,26 @@ fn times_of(alloc: Global, row: &Row) -> Result<Times, NoMemory> {
     })
 }
 
-fn why_by(alloc: Global, row: &Row, task: &Task) -> Result<Option<Why>, NoMemory> {
+fn why_by(alloc: Global, row: &ReasonRow, task: &Task) -> Result<Option<Why>, NoMemory> {
     let times = times_of(alloc, row)?;
     let meta = read_meta(alloc, row.meta)?;
     Ok(stale(meta.as_ref(), task, &row.mode, &times))
 }
 
-// Why the target of a row is out of date.
-fn why(alloc: Global, row: &Row) -> Result<Option<Why>, NoMemory> {
-    match task_of(alloc)? {
-        Some(task) => why_by(alloc, row, &task),
-        None => Ok(None),
+impl Row for ReasonRow {
+    fn shows(&self) -> &'static str {
+        self.shows
+    }
+
+    fn holds(&self, alloc: Global) -> Result<bool, Refused> {
+        match task_of(alloc)? {
+            Some(task) => Ok(why_by(alloc, self, &task)? == self.wanted),
+            None => Ok(false),
+        }
     }
 }
 
 #[test]
-fn the_first_reason_is_given(rt: HostRuntime) -> Result<(), Refused> {
-    for row in &ROWS {
-        let shows = row.shows;
-        assert!(rt; why(rt.alloc(), row)? == row.wanted, "{shows}");
-    }
-    Ok(())
+fn the_first_reason_is_given(rt: HostRuntime) {
+    check(&rt, rt.alloc(), &ROWS);
 }

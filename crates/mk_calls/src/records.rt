@@ -1,36 +1,51 @@
 //! Records as meta files hold them, and what they say of the files outside a job.
 use crate::looks::records_of;
 use crate::refused::Refused;
-use crate::texts::joined;
+use crate::rows::{Row, check};
 use mk_bytes::{NoMemory, Text, Texts};
-use mk_filemon::{left_written, outer_found, outer_missed, outer_reads, read_op, write_op};
+use mk_filemon::{
+    Rec, Recs, left_written, outer_found, outer_missed, outer_reads, read_op, write_op,
+};
 use mk_world::Op;
 use std::alloc::Global;
 
 // What a row shows, a text, and whether it is a record.
-const LINES: [(&str, &[u8], bool); 22] = [
-    ("a read", b"R 1 a", true),
-    ("a miss", b"N 1 a", true),
-    ("a write", b"W 4294967295 a", true),
-    ("a deletion", b"D 12 a b", true),
-    ("a move", b"M 2 'a\\'b' 'c'", true),
-    ("the empty path", b"R 1 ", true),
-    ("escapes", b"R 1 a\\\\b\\n'", true),
-    ("line 0", b"R 0 a", false),
-    ("a line that is too large", b"R 4294967296 a", false),
-    ("a leading zero", b"R 01 a", false),
-    ("a sign", b"R +1 a", false),
-    ("another letter", b"E 1 a", false),
-    ("no path", b"R 1", false),
-    ("two spaces", b"R  1 a", false),
-    ("another escape", b"R 1 a\\'", false),
-    ("an open escape", b"R 1 a\\", false),
-    ("a raw newline", b"R 1 a\n", false),
-    ("an open quote", b"M 2 'a' 'b", false),
-    ("a raw quote", b"M 2 'a'b' 'c'", false),
-    ("a byte behind the last quote", b"M 2 'a' 'b' ", false),
-    ("paths without quotes", b"M 2 a b", false),
-    ("nothing", b"", false),
+struct LineRow(&'static str, &'static [u8], bool);
+
+impl Row for LineRow {
+    fn shows(&self) -> &'static str {
+        self.0
+    }
+
+    fn holds(&self, alloc: Global) -> Result<bool, Refused> {
+        let found = again(alloc, self.1)?;
+        Ok(is_again(&found, self.1, self.2))
+    }
+}
+
+const LINES: [LineRow; 22] = [
+    LineRow("a read", b"R 1 a", true),
+    LineRow("a miss", b"N 1 a", true),
+    LineRow("a write", b"W 4294967295 a", true),
+    LineRow("a deletion", b"D 12 a b", true),
+    LineRow("a move", b"M 2 'a\\'b' 'c'", true),
+    LineRow("the empty path", b"R 1 ", true),
+    LineRow("escapes", b"R 1 a\\\\b\\n'", true),
+    LineRow("line 0", b"R 0 a", false),
+    LineRow("a line that is too large", b"R 4294967296 a", false),
+    LineRow("a leading zero", b"R 01 a", false),
+    LineRow("a sign", b"R +1 a", false),
+    LineRow("another letter", b"E 1 a", false),
+    LineRow("no path", b"R 1", false),
+    LineRow("two spaces", b"R  1 a", false),
+    LineRow("another escape", b"R 1 a\\'", false),
+    LineRow("an open escape", b"R 1 a\\", false),
+    LineRow("a raw newline", b"R 1 a\n", false),
+    LineRow("an open quote", b"M 2 'a' 'b", false),
+    LineRow("a raw quote", b"M 2 'a'b' 'c'", false),
+    LineRow("a byte behind the last quote", b"M 2 'a' 'b' ", false),
+    LineRow("paths without quotes", b"M 2 a b", false),
+    LineRow("nothing", b"", false),
 ];
 
 // What is read of a text, written again; nothing where it is no record.
@@ -49,13 +64,8 @@ fn is_again(found: &Option<Text>, text: &[u8], record: bool) -> bool {
 }
 
 #[test]
-fn records_have_one_spelling(rt: HostRuntime) -> Result<(), Refused> {
-    for row in &LINES {
-        let (shows, text, record) = *row;
-        let found = again(rt.alloc(), text)?;
-        assert!(rt; is_again(&found, text, record), "{shows}");
-    }
-    Ok(())
+fn records_have_one_spelling(rt: HostRuntime) {
+    check(&rt, rt.alloc(), &LINES);
 }
 
 // A move, as it is written.
@@ -72,17 +82,28 @@ fn a_move_is_written(rt: HostRuntime) -> Result<(), Refused> {
     Ok(())
 }
 
+fn is_read(record: &Option<Rec>) -> bool {
+    match record {
+        Some(
+            Rec {
+                line: 1,
+                op: Op::Read(path),
+            },
+        ) => path.bytes() == b"a".as_slice(),
+        _ => false,
+    }
+}
+
 #[test]
 fn a_record_is_read(rt: HostRuntime) -> Result<(), Refused> {
-    let one = read_op(rt.alloc(), b"R 1 a")?.expect(&rt, "a record");
-    assert_eq!(rt; one.line, 1);
-    assert!(rt; matches!(&one.op, Op::Read(path) if path.bytes() == b"a".as_slice()));
+    let record = read_op(rt.alloc(), b"R 1 a")?;
+    assert!(rt; is_read(&record));
     Ok(())
 }
 
 // What a row shows, the records, and the paths by them: the outer reads, those that
 // were found and those that were missed, and what is left written.
-struct Row {
+struct PathsRow {
     shows: &'static str,
     records: &'static [&'static [u8]],
     outer: &'static [u8],
@@ -91,8 +112,8 @@ struct Row {
     left: &'static [u8],
 }
 
-const RUNS: [Row; 9] = [
-    Row {
+const RUNS: [PathsRow; 9] = [
+    PathsRow {
         shows: "its own output",
         records: &[b"R 1 a", b"W 1 t", b"R 1 t", b"R 2 a"],
         outer: b"a ",
@@ -100,7 +121,7 @@ const RUNS: [Row; 9] = [
         missed: b"",
         left: b"t ",
     },
-    Row {
+    PathsRow {
         shows: "a deleted file",
         records: &[b"W 1 t", b"W 1 s", b"D 2 s"],
         outer: b"",
@@ -108,7 +129,7 @@ const RUNS: [Row; 9] = [
         missed: b"",
         left: b"t ",
     },
-    Row {
+    PathsRow {
         shows: "a read does not change what is left",
         records: &[b"W 1 t", b"R 1 t", b"N 1 t"],
         outer: b"",
@@ -116,7 +137,7 @@ const RUNS: [Row; 9] = [
         missed: b"",
         left: b"t ",
     },
-    Row {
+    PathsRow {
         shows: "left in the order of the first record of any kind",
         records: &[b"R 1 b", b"W 1 t", b"W 1 b"],
         outer: b"b ",
@@ -124,7 +145,7 @@ const RUNS: [Row; 9] = [
         missed: b"",
         left: b"b t ",
     },
-    Row {
+    PathsRow {
         shows: "found in the order of outer reads",
         records: &[b"N 1 p", b"R 1 q", b"R 1 p"],
         outer: b"p q ",
@@ -132,7 +153,7 @@ const RUNS: [Row; 9] = [
         missed: b"p ",
         left: b"",
     },
-    Row {
+    PathsRow {
         shows: "a miss is not found",
         records: &[b"N 1 p", b"W 1 t"],
         outer: b"p ",
@@ -140,7 +161,7 @@ const RUNS: [Row; 9] = [
         missed: b"p ",
         left: b"t ",
     },
-    Row {
+    PathsRow {
         shows: "a move",
         records: &[b"M 1 'a' 'b'", b"R 1 a", b"R 1 b"],
         outer: b"a ",
@@ -148,7 +169,7 @@ const RUNS: [Row; 9] = [
         missed: b"",
         left: b"b ",
     },
-    Row {
+    PathsRow {
         shows: "a move away of its own file",
         records: &[b"W 1 a", b"M 1 'a' 'b'", b"N 1 a"],
         outer: b"",
@@ -156,7 +177,7 @@ const RUNS: [Row; 9] = [
         missed: b"",
         left: b"b ",
     },
-    Row {
+    PathsRow {
         shows: "a move onto itself",
         records: &[b"M 1 'a' 'a'"],
         outer: b"a ",
@@ -166,40 +187,59 @@ const RUNS: [Row; 9] = [
     },
 ];
 
-fn are_joined(alloc: Global, paths: &Texts, wanted: &[u8]) -> Result<bool, NoMemory> {
-    let joined = joined(alloc, paths)?;
-    Ok(joined.bytes() == wanted)
+// Whether these are the paths, with a space behind each.
+fn are_paths(paths: &Texts, wanted: &[u8]) -> bool {
+    let mut rest = wanted;
+    for path in paths.as_slice() {
+        match rest.strip_prefix(path.bytes()) {
+            Some([b' ', behind @ ..]) => rest = behind,
+            _ => return false,
+        }
+    }
+    rest.is_empty()
 }
 
-// Whether the records say so of what the job found or looked for outside.
-fn tell_reads(alloc: Global, row: &Row) -> Result<bool, NoMemory> {
-    let records = records_of(alloc, row.records)?;
-    are_joined(alloc, &outer_reads(alloc, &records)?, row.outer)
+fn tell_reads(alloc: Global, records: &Recs, wanted: &[u8]) -> Result<bool, NoMemory> {
+    let paths = outer_reads(alloc, records)?;
+    Ok(are_paths(&paths, wanted))
 }
 
-fn tell_found(alloc: Global, row: &Row) -> Result<bool, NoMemory> {
-    let records = records_of(alloc, row.records)?;
-    are_joined(alloc, &outer_found(alloc, &records)?, row.found)
+fn tell_found(alloc: Global, records: &Recs, wanted: &[u8]) -> Result<bool, NoMemory> {
+    let paths = outer_found(alloc, records)?;
+    Ok(are_paths(&paths, wanted))
 }
 
-fn tell_missed(alloc: Global, row: &Row) -> Result<bool, NoMemory> {
-    let records = records_of(alloc, row.records)?;
-    are_joined(alloc, &outer_missed(alloc, &records)?, row.missed)
+fn tell_missed(alloc: Global, records: &Recs, wanted: &[u8]) -> Result<bool, NoMemory> {
+    let paths = outer_missed(alloc, records)?;
+    Ok(are_paths(&paths, wanted))
 }
 
-fn tell_left(alloc: Global, row: &Row) -> Result<bool, NoMemory> {
-    let records = records_of(alloc, row.records)?;
-    are_joined(alloc, &left_written(alloc, &records)?, row.left)
+fn tell_left(alloc: Global, records: &Recs, wanted: &[u8]) -> Result<bool, NoMemory> {
+    let paths = left_written(alloc, records)?;
+    Ok(are_paths(&paths, wanted))
+}
+
+// Whether the records say so of what the job found, looked for and left outside.
+fn tell(alloc: Global, records: &Recs, row: &PathsRow) -> Result<bool, NoMemory> {
+    let are_told = tell_reads(alloc, records, row.outer)?
+        && tell_found(alloc, records, row.found)?
+        && tell_missed(alloc, records, row.missed)?
+        && tell_left(alloc, records, row.left)?;
+    Ok(are_told)
+}
+
+impl Row for PathsRow {
+    fn shows(&self) -> &'static str {
+        self.shows
+    }
+
+    fn holds(&self, alloc: Global) -> Result<bool, Refused> {
+        let records = records_of(alloc, self.records)?;
+        Ok(tell(alloc, &records, self)?)
+    }
 }
 
 #[test]
-fn records_tell_of_the_files_outside(rt: HostRuntime) -> Result<(), Refused> {
-    for row in &RUNS {
-        let shows = row.shows;
-        assert!(rt; tell_reads(rt.alloc(), row)?, "{shows}: reads");
-        assert!(rt; tell_found(rt.alloc(), row)?, "{shows}: found");
-        assert!(rt; tell_missed(rt.alloc(), row)?, "{shows}: missed");
-        assert!(rt; tell_left(rt.alloc(), row)?, "{shows}: left");
-    }
-    Ok(())
+fn records_tell_of_the_files_outside(rt: HostRuntime) {
+    check(&rt, rt.alloc(), &RUNS);
 }

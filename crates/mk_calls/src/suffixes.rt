@@ -3,6 +3,7 @@ ghost use Rattle.std.specs.Prelude.{◌≡◌, [], IfOk};
 ghost use Rattle.mk_world.specs.History.{state_of, tickets_of};
 
 use crate::refused::Refused;
+use crate::rows::{Row, check};
 use crate::texts::{are, texts};
 use mk_bytes::{Items, NoMemory, Pair, Pairs, Text, is_clean_directory};
 use mk_graph::{Attr, Graph};
@@ -96,20 +97,29 @@ fn a_rule_makes_a_chain(rt: HostRuntime) -> Result<(), Refused> {
     Ok(())
 }
 
-const PREFIXES: [(&[u8], &[u8]); 5] = [
-    (b"x.o", b"x"),
-    (b"d/x.y.c", b"x.y"),
-    (b"x.h", b"x.h"),
-    (b"d/.c", b".c"),
-    (b"d.c/x", b"x"),
+// A name, and what it is without its suffix.
+struct PrefixRow(&'static [u8], &'static [u8]);
+
+impl Row for PrefixRow {
+    fn shows(&self) -> &'static str {
+        "a name without its suffix"
+    }
+
+    fn holds(&self, alloc: Global) -> Result<bool, Refused> {
+        let known = texts(alloc, &[b".c", b".o", b".y"])?;
+        Ok(prefix_of(&known, self.0) == self.1)
+    }
+}
+
+const PREFIXES: [PrefixRow; 5] = [
+    PrefixRow(b"x.o", b"x"),
+    PrefixRow(b"d/x.y.c", b"x.y"),
+    PrefixRow(b"x.h", b"x.h"),
+    PrefixRow(b"d/.c", b".c"),
+    PrefixRow(b"d.c/x", b"x"),
 ];
 
 #[test]
-fn prefixes_are_without_suffixes(rt: HostRuntime) -> Result<(), Refused> {
-    let known = texts(rt.alloc(), &[b".c", b".o", b".y"])?;
-    for row in &PREFIXES {
-        let (name, wanted) = *row;
-        assert_eq!(rt; prefix_of(&known, name), wanted);
-    }
-    Ok(())
+fn prefixes_are_without_suffixes(rt: HostRuntime) {
+    check(&rt, rt.alloc(), &PREFIXES);
 }

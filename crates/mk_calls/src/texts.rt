@@ -13,20 +13,13 @@ pub fn texts(alloc: Global, all: &[&[u8]]) -> Result<Texts, NoMemory> {
 
 /// Whether these are the texts.
 pub fn are(texts: &Texts, wanted: &[&[u8]]) -> bool {
-    texts.len() == wanted.len()
-        && texts
-            .as_slice()
-            .iter()
-            .zip(wanted)
-            .all(|(text, bytes)| text.bytes() == *bytes)
-}
-
-/// The texts as one, with a space behind each.
-pub fn joined(alloc: Global, texts: &Texts) -> Result<Text, NoMemory> {
-    let mut joined = Text::new(alloc);
-    for text in texts.as_slice() {
-        joined.push(text.bytes())?;
-        joined.push(b" ")?;
+    if texts.len() != wanted.len() {
+        return false;
     }
-    Ok(joined)
+    for (text, bytes) in texts.as_slice().iter().zip(wanted) {
+        if text.bytes() != *bytes {
+            return false;
+        }
+    }
+    true
 }

@@ -3,15 +3,36 @@ ghost use Rattle.std.specs.Prelude.{IsTrue};
 ghost use Rattle.mk_graph.specs.Numbers.{AreBelow, EachBelow};
 
 use crate::refused::Refused;
+use crate::rows::{Row, check};
 use mk_bytes::{Items, NoMemory};
 use mk_graph::{Nodes, Preds, cycle};
 use std::alloc::Global;
 
 // What a row shows, the predecessors of each node, where the walk begins, and the closed walk.
-const CYCLES: [(&str, &[&[u32]], &[u32], Option<&[u32]>); 3] = [
-    ("two nodes", &[&[1], &[0]], &[0], Some(&[0, 1, 0])),
-    ("no predecessors", &[&[1], &[]], &[0], None),
-    ("from nowhere", &[&[0]], &[], None),
+struct CycleRow(
+    &'static str,
+    &'static [&'static [u32]],
+    &'static [u32],
+    Option<&'static [u32]>,
+);
+
+impl Row for CycleRow {
+    fn shows(&self) -> &'static str {
+        self.0
+    }
+
+    fn holds(&self, alloc: Global) -> Result<bool, Refused> {
+        let preds = preds_of(alloc, self.1)?;
+        let from = nodes_of(alloc, self.2)?;
+        let found = walk_met(alloc, &preds, &from)?;
+        Ok(is_met(&found, self.3))
+    }
+}
+
+const CYCLES: [CycleRow; 3] = [
+    CycleRow("two nodes", &[&[1], &[0]], &[0], Some(&[0, 1, 0])),
+    CycleRow("no predecessors", &[&[1], &[]], &[0], None),
+    CycleRow("from nowhere", &[&[0]], &[], None),
 ];
 
 fn are_below(bound: usize, nodes: &[u32]) -> bool
@@ -93,23 +114,30 @@ fn walk_len(alloc: Global, count: u32, last: &[u32]) -> Result<usize, NoMemory> 
 }
 
 #[test]
-fn closed_walks_are_met(rt: HostRuntime) -> Result<(), Refused> {
-    let alloc = rt.alloc();
-    for row in &CYCLES {
-        let (shows, lists, from, wanted) = *row;
-        let preds = preds_of(alloc, lists)?;
-        let from = nodes_of(alloc, from)?;
-        let found = walk_met(alloc, &preds, &from)?;
-        assert!(rt; is_met(&found, wanted), "{shows}");
-    }
-    Ok(())
+fn closed_walks_are_met(rt: HostRuntime) {
+    check(&rt, rt.alloc(), &CYCLES);
 }
 
+// What a row shows, the predecessors of the last of many nodes, and how many nodes the closed walk has.
+struct ChainRow(&'static str, &'static [u32], usize);
+
+impl Row for ChainRow {
+    fn shows(&self) -> &'static str {
+        self.0
+    }
+
+    fn holds(&self, alloc: Global) -> Result<bool, Refused> {
+        Ok(walk_len(alloc, 100_000, self.1)? == self.2)
+    }
+}
+
+const CHAINS: [ChainRow; 3] = [
+    ChainRow("back to the first", &[0], 100_001),
+    ChainRow("the last one alone", &[99_999], 2),
+    ChainRow("no closed walk", &[], 0),
+];
+
 #[test]
-fn long_chains_are_walked(rt: HostRuntime) -> Result<(), Refused> {
-    let alloc = rt.alloc();
-    assert_eq!(rt; walk_len(alloc, 100_000, &[0])?, 100_001);
-    assert_eq!(rt; walk_len(alloc, 100_000, &[99_999])?, 2);
-    assert_eq!(rt; walk_len(alloc, 100_000, &[])?, 0);
-    Ok(())
+fn long_chains_are_walked(rt: HostRuntime) {
+    check(&rt, rt.alloc(), &CHAINS);
 }

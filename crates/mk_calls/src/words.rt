@@ -1,70 +1,102 @@
 //! Words at their places, patterns and the empty word, and the directories that paths are cleaned
 //! against.
+use crate::refused::Refused;
+use crate::rows::{Row, check};
 use mk_bytes::{Span, is_clean_directory, next_word};
 use mk_glob::matches;
+use std::alloc::Global;
 
-const WORDS: [(&str, &[u8], usize, Option<Span>); 6] = [
-    (
+// What a row shows, a text, a place in it, and the word there.
+struct CutRow(&'static str, &'static [u8], usize, Option<Span>);
+
+impl Row for CutRow {
+    fn shows(&self) -> &'static str {
+        self.0
+    }
+
+    fn holds(&self, _alloc: Global) -> Result<bool, Refused> {
+        Ok(self.2 <= self.1.len() && next_word(self.1, self.2) == self.3)
+    }
+}
+
+const WORDS: [CutRow; 6] = [
+    CutRow(
         "behind a space",
         b" ab c",
         0,
         Some(Span { start: 1, end: 3 }),
     ),
-    ("the next one", b" ab c", 3, Some(Span { start: 4, end: 5 })),
-    (
+    CutRow("the next one", b" ab c", 3, Some(Span { start: 4, end: 5 })),
+    CutRow(
         "a word that is cut",
         b" ab c",
         2,
         Some(Span { start: 2, end: 3 }),
     ),
-    (
+    CutRow(
         "tabs and newlines",
         b"\t\na\n",
         0,
         Some(Span { start: 2, end: 3 }),
     ),
-    ("white space alone", b"a \n\t", 1, None),
-    ("the end", b"a", 1, None),
+    CutRow("white space alone", b"a \n\t", 1, None),
+    CutRow("the end", b"a", 1, None),
 ];
 
 #[test]
 fn words_are_cut_at_white_space(rt: HostRuntime) {
-    for row in &WORDS {
-        let (shows, text, from, span) = *row;
-        assert!(rt; from <= text.len());
-        assert!(rt; next_word(text, from) == span, "{shows}");
+    check(&rt, rt.alloc(), &WORDS);
+}
+
+// What a row shows, a path, and whether it is a clean, absolute directory.
+struct DirectoryRow(&'static str, &'static [u8], bool);
+
+impl Row for DirectoryRow {
+    fn shows(&self) -> &'static str {
+        self.0
+    }
+
+    fn holds(&self, _alloc: Global) -> Result<bool, Refused> {
+        Ok(is_clean_directory(self.1) == self.2)
     }
 }
 
-const DIRECTORIES: [(&str, &[u8], bool); 8] = [
-    ("the root", b"/", true),
-    ("names with slashes", b"/usr/src", true),
-    ("a relative path", b"usr", false),
-    ("nothing", b"", false),
-    ("a slash at the end", b"/usr/", false),
-    ("a doubled slash", b"//usr", false),
-    ("a dot", b"/usr/.", false),
-    ("a step up", b"/usr/../a", false),
+const DIRECTORIES: [DirectoryRow; 8] = [
+    DirectoryRow("the root", b"/", true),
+    DirectoryRow("names with slashes", b"/usr/src", true),
+    DirectoryRow("a relative path", b"usr", false),
+    DirectoryRow("nothing", b"", false),
+    DirectoryRow("a slash at the end", b"/usr/", false),
+    DirectoryRow("a doubled slash", b"//usr", false),
+    DirectoryRow("a dot", b"/usr/.", false),
+    DirectoryRow("a step up", b"/usr/../a", false),
 ];
 
 #[test]
 fn clean_directories_are_known(rt: HostRuntime) {
-    for row in &DIRECTORIES {
-        let (shows, path, clean) = *row;
-        assert_eq!(rt; is_clean_directory(path), clean, "{shows}");
+    check(&rt, rt.alloc(), &DIRECTORIES);
+}
+
+// What a row shows, a pattern, and whether it matches the empty word.
+struct PatternRow(&'static str, &'static [u8], bool);
+
+impl Row for PatternRow {
+    fn shows(&self) -> &'static str {
+        self.0
+    }
+
+    fn holds(&self, _alloc: Global) -> Result<bool, Refused> {
+        Ok(matches(self.1, b"") == self.2)
     }
 }
 
-const PATTERNS: [(&str, &[u8], bool); 3] = [
-    ("a question mark takes a byte", b"?", false),
-    ("a star takes nothing", b"*", true),
-    ("the empty pattern", b"", true),
+const PATTERNS: [PatternRow; 3] = [
+    PatternRow("a question mark takes a byte", b"?", false),
+    PatternRow("a star takes nothing", b"*", true),
+    PatternRow("the empty pattern", b"", true),
 ];
 
 #[test]
 fn patterns_take_the_empty_word(rt: HostRuntime) {
-    for row in &PATTERNS {
-        let (shows, pattern, wanted) = *row;
-        assert_eq!(rt; matches(pattern, b""), wanted, "{shows}");
-    }
+    check(&rt, rt.alloc(), &PATTERNS);
 }
