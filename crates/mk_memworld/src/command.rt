@@ -1,5 +1,5 @@
 //! What each command does.
-ghost use Rattle.std.specs.Prelude.{◌≡◌, [], is_some, IfOk};
+ghost use Rattle.std.specs.Prelude.{◌≡◌, [], Some, is_some, IfOk};
 ghost use Rattle.mk_memworld.specs.Commands as spec;
 ghost use Rattle.mk_memworld.specs.Seen.{contents_of, turn_of};
 ghost use Rattle.mk_memworld.specs.Turns.{found};
@@ -231,9 +231,23 @@ fn pick<'a>(
     let [target, number, source] = words else {
         return Ok(misused(alloc, seen));
     };
-    let Some(place) = place_of(number) else {
-        return Ok(misused(alloc, seen));
-    };
+    match place_of(number) {
+        Some(place) => picks(alloc, cwd, target, source, place, seen),
+        None => Ok(misused(alloc, seen)),
+    }
+}
+
+fn picks<'a>(
+    alloc: Global,
+    cwd: &[u8],
+    target: &[u8],
+    source: &[u8],
+    place: u32,
+    seen: &'a [Answer],
+) -> Result<Turn<'a>, NoMemory>
+    ensures { IfOk result
+        (λ turn. turn_of turn ≡ spec.picks cwd.now target.now source.now (Some place) seen.now) }
+{
     match seen {
         [] => look(alloc, cwd, source),
         [Answer::Found { bytes }] => {
