@@ -1,6 +1,6 @@
 //! Ends, plans and events as cases write them.
 use crate::said::Said;
-use mk_ast::AstFault as TreeFault;
+use mk_ast::TreeFault;
 use mk_bytes::{Kind, Texts};
 use mk_expand::ExpandFault;
 use mk_reader::What;
@@ -28,14 +28,13 @@ fn say_numbers(said: &mut Said, first: u64, second: u64) {
     said.close();
 }
 
-// The name of a fault of the grammar, and its place; none is told of the want of memory.
-fn tree_parts(fault: &TreeFault) -> (&'static str, Option<usize>) {
+// The name of a fault of the grammar, and its place.
+fn tree_parts(fault: &TreeFault) -> (&'static str, usize) {
     match fault {
-        TreeFault::Unclosed(place) => ("Unclosed", Some(*place)),
-        TreeFault::UnknownModifier(place) => ("UnknownModifier", Some(*place)),
-        TreeFault::BadModifier(place) => ("BadModifier", Some(*place)),
-        TreeFault::TooDeep(place) => ("TooDeep", Some(*place)),
-        TreeFault::NoMemory => ("NoMemory", None),
+        TreeFault::Unclosed(place) => ("Unclosed", *place),
+        TreeFault::UnknownModifier(place) => ("UnknownModifier", *place),
+        TreeFault::BadModifier(place) => ("BadModifier", *place),
+        TreeFault::TooDeep(place) => ("TooDeep", *place),
     }
 }
 
@@ -43,9 +42,7 @@ fn say_tree(said: &mut Said, fault: &TreeFault) {
     let (name, place) = tree_parts(fault);
     said.open();
     said.part(name.as_bytes());
-    if let Some(place) = place {
-        say_number(said, place as u64);
-    }
+    say_number(said, place as u64);
     said.close();
 }
 
