@@ -14,6 +14,6 @@ returns c =
       plan_is = refl;
       nodes_are = nodes_are;
       ordered = stand-behind c.args.plan c.len-many.ensures.ordered;
-      events = c.new.ensures;
+      events = c.new.ensures.items;
       failure = refl;
     }
