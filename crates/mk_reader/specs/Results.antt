@@ -41,11 +41,10 @@ Went outer x y before after answer question =
     (λ answers. question answers (run_at (standing x) before))
 
 -- All was read, and how a build goes.
-abbrev pub Ended : {W S : Type 0} → Outer W S → Reader W S → Reader W S → ℕ → Result Mode Stop
-    → Type 0
-Ended outer x y before answer =
+abbrev pub Ended : {W S : Type 0} → Outer W S → Reader W S → Reader W S → Result Mode Stop → Type 0
+Ended outer x y answer =
     Does (reader_ties outer) sorted x y (λ answers mode. done (mode, standing y)) answer
-    (λ answers. run_read answers (run_at (standing x) before))
+    (λ answers. run_read answers (run_at (standing x) 0))
 
 -- how the outside may have failed behind the questions
 abbrev pub failure_by : ReadFault → Option Outside

@@ -177,11 +177,12 @@ impl<'a, W: World, S: Sink> Reader<'a, W, S> {
     }
 
     // Reads all of a run: the command line, the makefiles, and how a build goes.
-    fn read_to_end(&mut self, alloc: Global, count: &mut u32) -> Result<Mode, Stop>
+    fn read_to_end(&mut self, alloc: Global) -> Result<Mode, Stop>
         ensures { Ended (outer W.meaning W.history W.faults W.runs S.held S.faults)
-            self.old self.new count.old result }
+            self.old self.new result }
     {
-        self.read_all(alloc, count)?;
+        let mut count = 0;
+        self.read_all(alloc, &mut count)?;
         self.mode_at_end(alloc)
     }
 }
@@ -250,8 +251,7 @@ pub fn read<W: World, S: Sink>(
     ensures idle { W.runs world.new [] }
 {
     let mut state = first_state(alloc, env, order)?;
-    let mut count = 0;
     let mut reader = Reader::new(world, err, &mut state, order);
-    let mode = reader.read_to_end(alloc, &mut count)?;
+    let mode = reader.read_to_end(alloc)?;
     Ok(made_of(state.made, mode)?)
 }
