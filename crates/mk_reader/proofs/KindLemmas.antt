@@ -32,10 +32,11 @@ Alike (one ∷ first) (byte ∷ second) = (one ≡ byte) × ((byte == dollar) �
 no_dollar : (test : ℕ → Bool) (byte : ℕ) → test dollar ≡ false → test byte ≡ true
     → (byte == dollar) ≡ false
 no_dollar test byte none passes =
-    elim (byte == dollar) as (λ v. (byte == dollar) ≡ v → v ≡ false)
-    [ true ↦ λ is. let same : byte ≡ dollar = grind (arith, is, nat_tests) in
-      absurd (true≢false (sym passes ∙ ap test same ∙ none))
-    | false ↦ λ is. refl ] refl
+    elim (byte == dollar) as (λ v. (byte == dollar) ≡ v → v ≡ false) [
+      | true ↦ λ is. let same : byte ≡ dollar = grind (arith, is, nat_tests) in
+          absurd (true≢false (sym passes ∙ ap test same ∙ none))
+      | false ↦ λ is. refl
+    ] refl
 
 dropped-alike : (test : ℕ → Bool) → test dollar ≡ false → (first second : List ℕ)
     → Alike first second
@@ -46,11 +47,12 @@ dropped-alike test none (byte ∷ first) [] alike = absurd alike
 dropped-alike test none (one ∷ first) (byte ∷ second) alike =
     rw alike.0
     (elim (test byte) as (λ v. test byte ≡ v
-      → Alike (drop (if v then 1 + prefix_len test first else 0) (byte ∷ first))
-      (drop (if v then 1 + prefix_len test second else 0) (byte ∷ second)))
-    [ true ↦ λ passes. rw (one-add (prefix_len test first), one-add (prefix_len test second))
-      (dropped-alike test none first second (alike.1 (no_dollar test byte none passes)))
-    | false ↦ λ fails. (refl, alike.1) ] refl)
+    → Alike (drop (if v then 1 + prefix_len test first else 0) (byte ∷ first))
+    (drop (if v then 1 + prefix_len test second else 0) (byte ∷ second))) [
+      | true ↦ λ passes. rw (one-add (prefix_len test first), one-add (prefix_len test second))
+          (dropped-alike test none first second (alike.1 (no_dollar test byte none passes)))
+      | false ↦ λ fails. (refl, alike.1)
+    ] refl)
 
 taken-same : (test : ℕ → Bool) → test dollar ≡ false → (first second : List ℕ)
     → Alike first second
@@ -61,11 +63,12 @@ taken-same test none (byte ∷ first) [] alike = absurd alike
 taken-same test none (one ∷ first) (byte ∷ second) alike =
     rw alike.0
     (elim (test byte) as (λ v. test byte ≡ v
-      → take (if v then 1 + prefix_len test first else 0) (byte ∷ first)
-      ≡ take (if v then 1 + prefix_len test second else 0) (byte ∷ second))
-    [ true ↦ λ passes. rw (one-add (prefix_len test first), one-add (prefix_len test second)) (ap (λ (text : List ℕ). byte ∷ text)
-      (taken-same test none first second (alike.1 (no_dollar test byte none passes))))
-    | false ↦ λ fails. refl ] refl)
+    → take (if v then 1 + prefix_len test first else 0) (byte ∷ first)
+    ≡ take (if v then 1 + prefix_len test second else 0) (byte ∷ second)) [
+      | true ↦ λ passes. rw (one-add (prefix_len test first), one-add (prefix_len test second)) (ap (λ (text : List ℕ). byte ∷ text)
+          (taken-same test none first second (alike.1 (no_dollar test byte none passes))))
+      | false ↦ λ fails. refl
+    ] refl)
 
 all-same : (test : ℕ → Bool) → test dollar ≡ false → (first second : List ℕ)
     → Alike first second → list_all test first ≡ list_all test second
@@ -75,9 +78,10 @@ all-same test none (byte ∷ first) [] alike = absurd alike
 all-same test none (one ∷ first) (byte ∷ second) alike =
     rw alike.0
     (elim (test byte) as (λ v. test byte ≡ v
-      → (v && list_all test first) ≡ (v && list_all test second))
-    [ true ↦ λ passes. all-same test none first second (alike.1 (no_dollar test byte none passes))
-    | false ↦ λ fails. refl ] refl)
+    → (v && list_all test first) ≡ (v && list_all test second)) [
+      | true ↦ λ passes. all-same test none first second (alike.1 (no_dollar test byte none passes))
+      | false ↦ λ fails. refl
+    ] refl)
 
 comment-same : (first second : List ℕ) → Alike first second
     → begins_comment first ≡ begins_comment second
@@ -110,8 +114,10 @@ dotted-same : (first second one other : List ℕ) → Alike one other
     → by_directive first (behind_dot one) ≡ by_directive second (behind_dot other)
 dotted-same first second one other alike comment =
     let behind = dropped-alike is_word_byte refl one other alike in
-    rw (name-same (drop (word_len one) one) (drop (word_len other) other) behind,
-    taken-same is_word_byte refl one other alike)
+    rw (
+      name-same (drop (word_len one) one) (drop (word_len other) other) behind,
+      taken-same is_word_byte refl one other alike,
+    )
     (kind_by-same (begins_with_name_byte (drop (word_len other) other))
     (named (take (word_len other) other)) first second
     (without_blanks (drop (word_len one) one)) (without_blanks (drop (word_len other) other)) comment)
@@ -122,17 +128,18 @@ plain-same [] (byte ∷ second) alike = absurd alike
 plain-same (byte ∷ first) [] alike = absurd alike
 plain-same (one ∷ first) (byte ∷ second) alike =
     let comment = comment-same (without_blanks (byte ∷ first)) (without_blanks (byte ∷ second))
-        (dropped-alike is_blank refl (byte ∷ first) (byte ∷ second) (refl, alike.1)) in
+    (dropped-alike is_blank refl (byte ∷ first) (byte ∷ second) (refl, alike.1)) in
     rw alike.0
     (elim (byte == dot) as (λ v. (byte == dot) ≡ v
-      → by_directive (byte ∷ first) (if v then behind_dot (without_blanks first) else None)
-      ≡ by_directive (byte ∷ second) (if v then behind_dot (without_blanks second) else None))
-    [ true ↦ λ is. dotted-same (byte ∷ first) (byte ∷ second) (without_blanks first)
-      (without_blanks second)
-      (dropped-alike is_blank refl first second
-      (alike.1 (no_dollar (λ one. one == dot) byte refl is)))
-      comment
-    | false ↦ λ is. rw comment refl ] refl)
+    → by_directive (byte ∷ first) (if v then behind_dot (without_blanks first) else None)
+    ≡ by_directive (byte ∷ second) (if v then behind_dot (without_blanks second) else None)) [
+      | true ↦ λ is. dotted-same (byte ∷ first) (byte ∷ second) (without_blanks first)
+          (without_blanks second)
+          (dropped-alike is_blank refl first second
+          (alike.1 (no_dollar (λ one. one == dot) byte refl is)))
+          comment
+      | false ↦ λ is. rw comment refl
+    ] refl)
 
 kinds-same : (first second : List ℕ) → Alike first second → line_kind first ≡ line_kind second
 kinds-same [] [] alike = refl
@@ -142,13 +149,14 @@ kinds-same (one ∷ first) (byte ∷ second) alike =
     let spaces = dropped-alike is_space refl (byte ∷ first) (byte ∷ second) (refl, alike.1) in
     rw alike.0
     (elim (byte == tab) as (λ v. (byte == tab) ≡ v
-      → by_command (byte ∷ first) (if v then Some first else None)
-      ≡ by_command (byte ∷ second) (if v then Some second else None))
-    [ true ↦ λ is.
-      rw (all-same is_white refl first second
-      (alike.1 (no_dollar (λ one. one == tab) byte refl is))) refl
-    | false ↦ λ is. plain-same (without_spaces (byte ∷ first)) (without_spaces (byte ∷ second))
-      spaces ] refl)
+    → by_command (byte ∷ first) (if v then Some first else None)
+    ≡ by_command (byte ∷ second) (if v then Some second else None)) [
+      | true ↦ λ is.
+          rw (all-same is_white refl first second
+          (alike.1 (no_dollar (λ one. one == tab) byte refl is))) refl
+      | false ↦ λ is. plain-same (without_spaces (byte ∷ first)) (without_spaces (byte ∷ second))
+          spaces
+    ] refl)
 
 -- what is written behind a `$` begins with one
 abbrev BeginsWithDollar : (text : List ℕ) → Type 0
@@ -168,8 +176,8 @@ piece-dollar : (names words : List (List ℕ)) (text : List ℕ)
     → BeginsWithDollar (piece names words text).1
 piece-dollar names words text =
     elim (starts_with nat_eq text (dollar ∷ [])) as (λ v.
-      BeginsWithDollar (if v then (1, dollar ∷ dollar ∷ [])
-      else loop.reference_piece names words (reference names text)).1)
+    BeginsWithDollar (if v then (1, dollar ∷ dollar ∷ [])
+    else loop.reference_piece names words (reference names text)).1)
     [ true ↦ (dollar ∷ [], refl) | false ↦ reference-dollar names words (reference names text) ]
 
 replaced-alike : (names words : List (List ℕ)) (text : List ℕ) → Alike (replaced names words text) text
@@ -177,14 +185,15 @@ unfolding replaced_behind
 replaced-alike names words [] = tt
 replaced-alike names words (byte ∷ text) =
     elim (byte == dollar) as (λ v. (byte == dollar) ≡ v
-      → Alike (if v
-      then (piece names words text).1 ++ replaced_behind names words (piece names words text).0 text
-      else byte ∷ replaced_behind names words 0 text) (byte ∷ text))
-    [ true ↦ λ is.
-      let same : byte ≡ dollar = grind (arith, is, nat_tests) in
-      let begun = piece-dollar names words text in
-      rw begun.1 (sym same, λ other. absurd (true≢false (sym is ∙ other)))
-    | false ↦ λ is. (refl, λ other. replaced-alike names words text) ] refl
+    → Alike (if v
+    then (piece names words text).1 ++ replaced_behind names words (piece names words text).0 text
+    else byte ∷ replaced_behind names words 0 text) (byte ∷ text)) [
+      | true ↦ λ is.
+          let same : byte ≡ dollar = grind (arith, is, nat_tests) in
+          let begun = piece-dollar names words text in
+          rw begun.1 (sym same, λ other. absurd (true≢false (sym is ∙ other)))
+      | false ↦ λ is. (refl, λ other. replaced-alike names words text)
+    ] refl
 
 pub turns_keep_kinds : TurnsKeepKinds
 turns_keep_kinds names words text =
