@@ -1,9 +1,9 @@
 //! The files as they are before a run, where no run before it is repeated.
-use crate::case::{Case, Item, Step};
-use crate::directive::Directive;
-use crate::fault::Trouble;
 use crate::idle::IdleWorld;
 use crate::running::edit;
+use mk_cases::case::{Case, Item, Step};
+use mk_cases::directive::Directive;
+use mk_cases::fault::Trouble;
 
 // Whether a line names this path, or the file whose meta file it is.
 fn names(item: &Item, path: &str) -> bool {

@@ -1,15 +1,15 @@
 //! The clean build beside a run: of the sources as they stand, by one job, with nothing of earlier builds.
 use crate::before::{change_sources, is_left};
-use crate::case::{Case, Item, Job, find};
 use crate::compare::Ran;
-use crate::directive::Directive;
-use crate::fault::Trouble;
-use crate::found::Found;
 use crate::idle::IdleWorld;
 use crate::setup::{plain_world, run_words, unrefused};
 use crate::shown::end_text;
-use crate::words::words_of;
 use mk_bytes::{Items, NoMemory, Text, Texts};
+use mk_cases::case::{Case, Item, Job, find};
+use mk_cases::directive::Directive;
+use mk_cases::fault::Trouble;
+use mk_cases::found::Found;
+use mk_cases::words::words_of;
 use std::alloc::Global;
 
 // What builds leave is taken away.

@@ -1,12 +1,12 @@
 //! What a run did, and what is wanted of it.
-use crate::case::{Item, Step, find};
-use crate::directive::Directive;
-use crate::fault::Trouble;
-use crate::found::Found;
 use crate::idle::IdleWorld;
-use crate::kinds::{Counted, Counts, kind_named};
 use crate::shown::{end_text, events_text, plan_text};
 use itoa::Buffer;
+use mk_cases::case::{Item, Step, find};
+use mk_cases::directive::Directive;
+use mk_cases::fault::Trouble;
+use mk_cases::found::Found;
+use mk_cases::kinds::{Counted, Counts, kind_named};
 use mk_memworld::{CallKind, MemSink};
 use mk_top::Report;
 

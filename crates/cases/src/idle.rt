@@ -3,11 +3,11 @@ ghost use Rattle.std.specs.Prelude.{◌≡◌, [], IsTrue};
 ghost use Rattle.mk_bytes.specs.Paths.{is_clean_directory};
 ghost use Rattle.mk_world.specs.History.{state_of, tickets_of};
 
-use crate::case::Item;
 use crate::compare::{Ran, Sinks};
-use crate::fault::Trouble;
-use crate::kinds::Counts;
 use mk_bytes::Texts;
+use mk_cases::case::Item;
+use mk_cases::fault::Trouble;
+use mk_cases::kinds::Counts;
 use mk_memworld::MemWorld;
 use mk_scopes::Env;
 use mk_top::{Report, run};

@@ -3,31 +3,22 @@
 #![tactic(auto)]
 
 mod before;
-mod body;
-mod case;
 mod clean;
 mod compare;
-mod directive;
-mod fault;
-mod found;
 mod idle;
-mod kinds;
 mod refused;
 mod running;
-mod said;
 mod setup;
 mod shown;
-mod tally;
-mod words;
 
-use case::{Case, read_cases};
-use found::Found;
+use mk_cases::case::{Case, read_cases};
+use mk_cases::found::Found;
+use mk_cases::tally::Tally;
 use running::run_case;
 use std::alloc::Global;
 use std::io::{ErrorKind, Print};
 use std::process::ExitCode;
 use std::{env, fs};
-use tally::Tally;
 
 fn main(rt: HostRuntime) -> ExitCode {
     let mut tally = Tally::new(rt.alloc());

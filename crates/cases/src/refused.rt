@@ -1,19 +1,20 @@
 //! Each call of a run refused in turn: the run ends as that call has it, and the next one makes all that is
 //! to be made.
 use crate::before::change_files;
-use crate::case::{Case, Job, find};
 use crate::clean::compare_made;
 use crate::compare::{Ran, Sinks, made};
-use crate::directive::Directive;
-use crate::fault::Trouble;
-use crate::found::Found;
 use crate::idle::IdleWorld;
-use crate::kinds::{Counted, Failing, KINDS, Where, one_fail};
 use crate::running::run_step;
-use crate::said::Said;
-use crate::setup::{Course, schedule_of, sinks_with, unrefused, world_with};
+use crate::setup::{Course, sinks_with, unrefused, world_with};
 use crate::shown::say_end;
 use mk_bytes::NoMemory;
+use mk_cases::case::{Case, Job, find};
+use mk_cases::directive::Directive;
+use mk_cases::fault::Trouble;
+use mk_cases::found::Found;
+use mk_cases::given::schedule_of;
+use mk_cases::kinds::{Counted, Failing, KINDS, Where, one_fail};
+use mk_cases::said::Said;
 use mk_memworld::CallKind;
 use mk_top::End;
 use std::alloc::Global;

@@ -1,14 +1,15 @@
 //! The steps of a case, one behind the other.
-use crate::case::{Case, Job, Step};
 use crate::clean::compare_clean;
 use crate::compare::{Ran, Sinks, compare};
-use crate::directive::Directive;
-use crate::fault::Trouble;
-use crate::found::Found;
 use crate::idle::IdleWorld;
 use crate::refused::refuse_all;
-use crate::setup::{generated, run_words, schedule_of, schedules_of, sinks_of, world_of};
-use crate::words::words_of;
+use crate::setup::{run_words, sinks_of, world_of};
+use mk_cases::case::{Case, Job, Step};
+use mk_cases::directive::Directive;
+use mk_cases::fault::Trouble;
+use mk_cases::found::Found;
+use mk_cases::given::{generated, schedule_of, schedules_of};
+use mk_cases::words::words_of;
 use mk_memworld::Turns;
 use mk_top::End;
 use std::alloc::Global;

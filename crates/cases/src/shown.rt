@@ -1,7 +1,7 @@
 //! Ends, plans and events as cases write them.
-use crate::said::Said;
 use mk_ast::TreeFault;
 use mk_bytes::{Kind, Texts};
+use mk_cases::said::Said;
 use mk_expand::ExpandFault;
 use mk_reader::What;
 use mk_top::{End, Event, PlanNames};

@@ -22,6 +22,13 @@ impl Said {
         }
     }
 
+    /// These bytes.
+    pub fn of(alloc: Global, bytes: &[u8]) -> Said {
+        let mut said = Said::new(alloc);
+        said.push(bytes);
+        said
+    }
+
     /// The bytes of the text.
     pub fn bytes(&self) -> &[u8] {
         self.text.bytes()

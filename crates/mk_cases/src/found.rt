@@ -2,7 +2,6 @@
 use crate::directive::Directive;
 use crate::fault::Trouble;
 use crate::said::Said;
-use mk_bytes::{NoMemory, Text};
 use std::alloc::Global;
 
 /// A run of a case, counted from 1, under a generated schedule, or under the case's own, which is 0.
@@ -19,8 +18,8 @@ pub struct Difference {
     /// The line of the file that wants it.
     pub line: u32,
     pub turn: Turn,
-    pub wanted: Text,
-    pub got: Text,
+    pub wanted: Said,
+    pub got: Said,
 }
 
 /// All that differs in a case, and why it was not run to its end, if it was not.
@@ -80,29 +79,27 @@ impl Found {
         }
     }
 
-    fn push(
-        &mut self,
-        what: Directive,
-        line: u32,
-        wanted: &[u8],
-        got: &[u8],
-    ) -> Result<(), NoMemory> {
-        let wanted = Text::from_bytes(self.alloc, wanted)?;
-        let got = Text::from_bytes(self.alloc, got)?;
-        self.all.push(Difference {
+    // Adds a difference, where there was memory for both texts.
+    fn push(&mut self, what: Directive, line: u32, wanted: Said, got: Said) {
+        let is_whole = wanted.is_whole() && got.is_whole();
+        let one = Difference {
             what,
             line,
             turn: self.turn,
             wanted,
             got,
-        })?;
-        Ok(())
+        };
+        if self.all.push(one).is_err() || !is_whole {
+            self.refuse(Trouble::NoMemory);
+        }
     }
 
     /// Two texts are compared.
     pub fn compare(&mut self, what: Directive, line: u32, wanted: &[u8], got: &[u8]) {
-        if wanted != got && self.push(what, line, wanted, got).is_err() {
-            self.refuse(Trouble::NoMemory);
+        if wanted != got {
+            let wanted = Said::of(self.alloc, wanted);
+            let got = Said::of(self.alloc, got);
+            self.push(what, line, wanted, got);
         }
     }
 

@@ -166,7 +166,12 @@ fn is_wrong(file: &str) -> bool {
 
 // Whether nothing differs but the thing with this name.
 fn are_all(differences: &[Difference], name: &str) -> bool {
-    differences.iter().all(|one| one.what.name() == name)
+    for one in differences {
+        if one.what.name() != name {
+            return false;
+        }
+    }
+    true
 }
 
 // Whether something differs, and only the thing that the text of a case begins with, before a colon.
