@@ -97,6 +97,24 @@ abbrev pub meet : List (List ℕ) → Request
 meet (own ∷ other ∷ []) = behind other (act.Meet own)
 meet words = misused
 
+-- the verb that a word is, of the last four
+abbrev pub verb_behind_pick : List ℕ → Option Verb
+verb_behind_pick word =
+    if bytes_eq word (codes "probe") then Some Probe
+    else if bytes_eq word (codes "fail") then Some Fail
+    else if bytes_eq word (codes "env") then Some Env
+    else if bytes_eq word (codes "meet") then Some Meet
+    else None
+
+-- of the last eight
+abbrev pub verb_behind_move : List ℕ → Option Verb
+verb_behind_move word =
+    if bytes_eq word (codes "del") then Some Del
+    else if bytes_eq word (codes "show") then Some Show
+    else if bytes_eq word (codes "say") then Some Say
+    else if bytes_eq word (codes "pick") then Some Pick
+    else verb_behind_pick word
+
 -- the verb that a word is
 abbrev pub verb_of : List ℕ → Option Verb
 verb_of word =
@@ -104,15 +122,7 @@ verb_of word =
     else if bytes_eq word (codes "cat") then Some Cat
     else if bytes_eq word (codes "copy") then Some Copy
     else if bytes_eq word (codes "move") then Some Move
-    else if bytes_eq word (codes "del") then Some Del
-    else if bytes_eq word (codes "show") then Some Show
-    else if bytes_eq word (codes "say") then Some Say
-    else if bytes_eq word (codes "pick") then Some Pick
-    else if bytes_eq word (codes "probe") then Some Probe
-    else if bytes_eq word (codes "fail") then Some Fail
-    else if bytes_eq word (codes "env") then Some Env
-    else if bytes_eq word (codes "meet") then Some Meet
-    else None
+    else verb_behind_move word
 
 -- an unknown word ends with status 127
 abbrev pub by_verb : Option Verb → List (List ℕ) → Request

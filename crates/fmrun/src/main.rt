@@ -11,7 +11,7 @@ mod request;
 mod verb;
 mod word;
 
-use crate::deed::deed_of;
+use crate::deed::{Change, Deed, Sight, deed_of};
 use crate::log::{log_of, ops_of};
 use crate::look::{Seen, refused_at, see};
 use crate::refusal::Refusal;
@@ -90,31 +90,68 @@ fn status(rt: &HostRuntime, words: &Texts) -> u8 {
     }
 }
 
+// Where a command line is run: the current directory, and the log of a recorder, where there is one.
+#[derive(Drop)]
+struct Place {
+    directory: Text,
+    log: Option<Text>,
+}
+
 // Does what the words ask for, and gives its status.
 fn obey(rt: &HostRuntime, words: &[Text]) -> Result<u8, Refusal> {
-    let Request { looks, act } = asked(rt.alloc(), words)?;
+    let request = asked(rt.alloc(), words)?;
+    let place = place_of_run(rt, words)?;
+    answered(rt, &place, request)
+}
+
+// Where a command line of these words is run.
+fn place_of_run(rt: &HostRuntime, words: &[Text]) -> Result<Place, Refusal> {
     let directory = directory(rt)?;
     let log = log_path(rt, words)?;
+    Ok(Place { directory, log })
+}
+
+// Looks at what a request asks for, and does what it comes to.
+fn answered(rt: &HostRuntime, place: &Place, request: Request) -> Result<u8, Refusal> {
+    let Request { looks, act } = request;
     let Seen { sights, text } = see(rt, &act, looks.as_slice())?;
     let deed = deed_of(rt.alloc(), act, sights.as_slice(), text)?;
-    if let Some(path) = log {
-        let ops = ops_of(
-            rt.alloc(),
-            looks.as_slice(),
-            sights.as_slice(),
-            &deed.change,
-        )?;
-        let lines = log_of(rt.alloc(), directory.bytes(), ops.as_slice())?;
-        file::append(rt, path.bytes(), lines.bytes())?;
-    }
-    file::make(rt, directory.bytes(), &deed.change)?;
+    done(rt, place, looks.as_slice(), sights.as_slice(), &deed)
+}
+
+// Records what a request comes to, does it, and gives its status.
+fn done(
+    rt: &HostRuntime,
+    place: &Place,
+    looks: &[Text],
+    sights: &[Sight],
+    deed: &Deed,
+) -> Result<u8, Refusal> {
+    recorded(rt, place, looks, sights, &deed.change)?;
+    file::make(rt, place.directory.bytes(), &deed.change)?;
     if rt.stdout().write_all(deed.output.bytes()).is_err() {
         return Err(Refusal::of(rt.alloc(), b"standard output"));
     }
-    match refused_at(looks.as_slice(), sights.as_slice()) {
+    match refused_at(looks, sights) {
         Some(path) => Err(Refusal::of(rt.alloc(), path.bytes())),
         None => Ok(deed.status),
     }
+}
+
+// Appends looks and what changes to the log, where there is one.
+fn recorded(
+    rt: &HostRuntime,
+    place: &Place,
+    looks: &[Text],
+    sights: &[Sight],
+    change: &Change,
+) -> Result<(), Refusal> {
+    let Some(path) = &place.log else {
+        return Ok(());
+    };
+    let ops = ops_of(rt.alloc(), looks, sights, change)?;
+    let lines = log_of(rt.alloc(), place.directory.bytes(), ops.as_slice())?;
+    file::append(rt, path.bytes(), lines.bytes())
 }
 
 // The current directory.

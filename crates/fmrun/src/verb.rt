@@ -31,7 +31,16 @@ pub fn verb_of(word: &[u8]) -> Option<Verb>
         Some(Verb::Copy)
     } else if word == b"move".as_slice() {
         Some(Verb::Move)
-    } else if word == b"del".as_slice() {
+    } else {
+        verb_behind_move(word)
+    }
+}
+
+// The verb that a word is, of the last eight.
+fn verb_behind_move(word: &[u8]) -> Option<Verb>
+    ensures { result ≡ spec.verb_behind_move word.now }
+{
+    if word == b"del".as_slice() {
         Some(Verb::Del)
     } else if word == b"show".as_slice() {
         Some(Verb::Show)
@@ -39,7 +48,16 @@ pub fn verb_of(word: &[u8]) -> Option<Verb>
         Some(Verb::Say)
     } else if word == b"pick".as_slice() {
         Some(Verb::Pick)
-    } else if word == b"probe".as_slice() {
+    } else {
+        verb_behind_pick(word)
+    }
+}
+
+// The verb that a word is, of the last four.
+fn verb_behind_pick(word: &[u8]) -> Option<Verb>
+    ensures { result ≡ spec.verb_behind_pick word.now }
+{
+    if word == b"probe".as_slice() {
         Some(Verb::Probe)
     } else if word == b"fail".as_slice() {
         Some(Verb::Fail)
