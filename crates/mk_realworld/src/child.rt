@@ -1,23 +1,21 @@
 //! Children: shells that run one command each.
 ghost use Rattle.std.specs.Prelude.{◌≡◌, ◌<◌, length, IfOk, IfSome};
 
-use crate::file::{file_text, remove_file};
+use crate::child_files::ChildFiles;
+use crate::file::{file_text, open, read_all, remove_file};
 use crate::refusal::Refusal;
-use crate::script::{ChildFiles, Streams, script};
+use crate::shell::{Streams, connect, shell};
 use crate::system::System;
 use mk_bytes::Text;
 use mk_filemon::read_log;
 use mk_world::{Cmd, Ended, Kids, Ops, Ticket};
-use std::fs::Files;
+use std::fs::{File, Files};
 use std::marker::Model;
-use std::process::{Child, Command, ExitStatus, OpenProcess, Processes};
+use std::process::{Child, ExitStatus, OpenProcess, Processes};
+use std::thread;
 use std::time::{Clock, Duration};
-use std::{str, thread};
 
-// The shell of the system, whatever `PATH` a makefile gives.
-const SHELL: &str = "/bin/sh";
-
-// Pauses between two rounds of questions, in microseconds. Each is a quarter longer than the one before, so
+// Pauses between two rounds of questions, in microseconds. Each is an eighth longer than the one before, so
 // that no child is found much later than it ended, by the time that it took.
 const FIRST_PAUSE: u64 = 10;
 
@@ -27,7 +25,10 @@ const LONGEST_PAUSE: u64 = 2_000;
 #[derive(Drop)]
 pub struct RealKid<P: OpenProcess + Drop> {
     child: Child<P>,
+    slot: u32,
     files: ChildFiles,
+    // Whether the file of its output is locked by those that have it from the shell.
+    is_locked: bool,
     cwd: Text,
 }
 
@@ -55,28 +56,47 @@ fn status_of(status: ExitStatus) -> u8 {
 
 impl<P: OpenProcess + Drop> RealKid<P> {
     /// Starts a shell that runs a command.
-    pub fn start<R: Processes<Started = P> + Files + AllocGlobal>(
+    pub fn start<R: Processes<Started = P> + Files<File = File> + AllocGlobal>(
         system: &mut System<R>,
+        streams: Streams,
+        ticket: Ticket,
+        cmd: &Cmd,
+    ) -> Result<RealKid<P>, Refusal> {
+        let slot = system.slots.take()?;
+        match RealKid::start_in(system, slot, streams, ticket, cmd) {
+            Ok(kid) => {
+                system.running = system.running.saturating_add(1);
+                Ok(kid)
+            }
+            Err(refusal) => {
+                system.slots.give_back(slot);
+                Err(refusal)
+            }
+        }
+    }
+
+    // Starts a shell whose output goes into the file of a slot.
+    fn start_in<R: Processes<Started = P> + Files<File = File> + AllocGlobal>(
+        system: &mut System<R>,
+        slot: u32,
         streams: Streams,
         ticket: Ticket,
         cmd: &Cmd,
     ) -> Result<RealKid<P>, Refusal> {
         let rt = &system.rt;
         let directory = system.room.enter(rt)?;
-        let files = ChildFiles::new(rt.alloc(), directory.bytes(), ticket.0)?;
-        let script = script(rt.alloc(), streams, &files, cmd.text.bytes())?;
+        let files = ChildFiles::new(rt.alloc(), directory.bytes(), slot, ticket.0)?;
         let cwd = cmd.cwd.copy(rt.alloc())?;
-        let mut command = Command::new(rt.alloc(), SHELL)?;
-        command.arg("-c")?.arg(str::from_utf8(script.bytes())?)?;
-        for pair in cmd.exports.as_slice() {
-            command.env(
-                str::from_utf8(pair.name.bytes())?,
-                str::from_utf8(pair.value.bytes())?,
-            )?;
-        }
-        let child = command.spawn(rt)?;
-        system.running = system.running.saturating_add(1);
-        Ok(RealKid { child, files, cwd })
+        let mut shell = shell(rt, &files, cmd)?;
+        let is_locked = connect(rt, &mut shell, streams, files.output.bytes())?;
+        let child = shell.spawn(rt)?;
+        Ok(RealKid {
+            child,
+            slot,
+            files,
+            is_locked,
+            cwd,
+        })
     }
 
     // The exit status, where it has ended.
@@ -104,18 +124,37 @@ impl<P: OpenProcess + Drop> RealKid<P> {
         }
     }
 
-    // What is told of it. Its files are removed behind the last that is read; a command that removed
-    // the file of its output itself is refused.
-    fn told<R: Files + AllocGlobal>(&self, system: &mut System<R>) -> Result<Told, Refusal> {
-        let path = self.files.output.bytes();
-        let Some(output) = file_text(&system.rt, system.buffer.as_mut_slice(), path)? else {
+    // What it printed, and whether the file of that may serve another child: nothing stands in it, and
+    // nobody has it that could still write. A command that removed this file is refused.
+    fn output<R: Files<File = File> + AllocGlobal>(
+        &self,
+        system: &mut System<R>,
+    ) -> Result<(Text, bool), Refusal> {
+        let Some(mut file) = open(&system.rt, self.files.output.bytes())? else {
             return Err(Refusal::Outside);
         };
+        let is_alone = self.is_locked && file.try_lock().is_ok();
+        let buffer = system.buffer.as_mut_slice();
+        let output = read_all(system.rt.alloc(), buffer, &mut file)?;
+        let serves = is_alone && output.is_empty();
+        Ok((output, serves))
+    }
+
+    // What is told of it. Its files are removed behind the last that is read, but for an output file
+    // that may serve another child.
+    fn told<R: Files<File = File> + AllocGlobal>(
+        &self,
+        system: &mut System<R>,
+    ) -> Result<Told, Refusal> {
+        let (output, serves) = self.output(system)?;
         let records = self.records(system)?;
-        remove_file(&system.rt, path)?;
+        if !serves {
+            remove_file(&system.rt, self.files.output.bytes())?;
+        }
         if records.is_some() {
             remove_file(&system.rt, self.files.log.bytes())?;
         }
+        system.slots.give_back(self.slot);
         system.running = system.running.saturating_sub(1);
         Ok(Told { output, records })
     }
@@ -175,7 +214,7 @@ fn next_ended<R: Clock, P: OpenProcess + Drop>(
             return Ok(found);
         }
         thread::sleep(rt, Duration::from_micros(pause));
-        pause = pause.saturating_add(pause / 4).min(LONGEST_PAUSE);
+        pause = pause.saturating_add(pause / 8).min(LONGEST_PAUSE);
     }
     Err(Refusal::Outside)
 }
@@ -199,7 +238,7 @@ fn one_ended<R: Clock, P: OpenProcess + Drop>(
 
 /// Waits until a child has ended, and reads its files. It stays among the children.
 #[tactic(auto, using(crate::proofs::KidLemmas::with_kid_unseen))]
-pub fn wait_over<R: Files + Clock + AllocGlobal, P: OpenProcess + Drop>(
+pub fn wait_over<R: Files<File = File> + Clock + AllocGlobal, P: OpenProcess + Drop>(
     system: &mut System<R>,
     kids: &mut Kids<RealKid<P>>,
 ) -> Result<Over, Refusal>
@@ -217,7 +256,7 @@ pub fn wait_over<R: Files + Clock + AllocGlobal, P: OpenProcess + Drop>(
 }
 
 /// Runs a command to its end. Standard error is that of make.
-pub fn run<R: Processes + Files + AllocGlobal>(
+pub fn run<R: Processes + Files<File = File> + AllocGlobal>(
     system: &mut System<R>,
     cmd: &Cmd,
 ) -> Result<Ended, Refusal>

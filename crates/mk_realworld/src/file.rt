@@ -16,9 +16,9 @@ fn is_missing(error: &Error) -> bool {
     error.kind() == ErrorKind::NotFound || error.kind() == ErrorKind::NotADirectory
 }
 
-// All bytes of a reader, of which there are no more than a file may have. Each call of the system
-// asks for as many as the buffer holds.
-fn read_all<F: Read>(alloc: Global, buffer: &mut [u8], file: &mut F) -> Result<Text, Refusal> {
+/// All bytes of a reader, of which there are no more than a file may have. Each call of the system
+/// asks for as many as the buffer holds, which must not be empty.
+pub fn read_all<F: Read>(alloc: Global, buffer: &mut [u8], file: &mut F) -> Result<Text, Refusal> {
     let mut text = Text::new(alloc);
     for _ in 0..u64::MAX {
         let count = match file.read(buffer) {
@@ -35,6 +35,19 @@ fn read_all<F: Read>(alloc: Global, buffer: &mut [u8], file: &mut F) -> Result<T
     Err(Refusal::Outside)
 }
 
+/// A file for reading, or `None` where it is missing.
+pub fn open<R: Files>(rt: &R, path: &[u8]) -> Result<Option<R::File>, Refusal> {
+    match fs::open(rt, str::from_utf8(path)?) {
+        Ok(file) => Ok(Some(file)),
+        Err(error) => {
+            if is_missing(&error) {
+                return Ok(None);
+            }
+            Err(Refusal::from(error))
+        }
+    }
+}
+
 /// The bytes of a file, or `None` where it is missing. They are read by way of a buffer, which must
 /// not be empty.
 pub fn file_text<R: Files + AllocGlobal>(
@@ -42,16 +55,10 @@ pub fn file_text<R: Files + AllocGlobal>(
     buffer: &mut [u8],
     path: &[u8],
 ) -> Result<Option<Text>, Refusal> {
-    let mut file = match fs::open(rt, str::from_utf8(path)?) {
-        Ok(file) => file,
-        Err(error) => {
-            if is_missing(&error) {
-                return Ok(None);
-            }
-            return Err(Refusal::from(error));
-        }
-    };
-    Ok(Some(read_all(rt.alloc(), buffer, &mut file)?))
+    match open(rt, path)? {
+        Some(mut file) => Ok(Some(read_all(rt.alloc(), buffer, &mut file)?)),
+        None => Ok(None),
+    }
 }
 
 /// The time of a file or directory.

@@ -6,12 +6,14 @@
 #![tactic(auto)]
 
 mod child;
+mod child_files;
 mod count;
 mod file;
 mod refusal;
 mod room;
-mod script;
+mod shell;
 mod sink;
+mod slots;
 mod system;
 mod world;
 mod write;

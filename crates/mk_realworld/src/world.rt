@@ -3,13 +3,13 @@ ghost use Rattle.std.specs.Prelude.{◌≡◌, IfOk};
 use crate::child::{RealKid, run, wait_over};
 use crate::file::{file_text, file_time, remove_file};
 use crate::refusal::counted;
-use crate::script::Streams;
+use crate::shell::Streams;
 use crate::system::System;
 use crate::write::write_later;
 use mk_bytes::{NoMemory, Text};
 use mk_world::{Cmd, Ended, Kids, Ticket, Time, When, World, WorldFault};
 use std::alloc::Global;
-use std::fs::Files;
+use std::fs::{File, Files};
 use std::process::Processes;
 use std::time::Clock;
 
@@ -35,7 +35,7 @@ impl<R: Files + Processes + Clock + AllocGlobal + Drop> RealWorld<R> {
     }
 }
 
-impl<R: Files + Processes + Clock + AllocGlobal> World for RealWorld<R> {
+impl<R: Files<File = File> + Processes + Clock + AllocGlobal> World for RealWorld<R> {
     ghost use Rattle.std.specs.Prelude.{None};
     ghost use Rattle.mk_world.specs.Untold.{untold};
     ghost use Rattle.mk_world.specs.Talks.{silent};
@@ -122,8 +122,9 @@ impl<R: Files + Processes + Clock + AllocGlobal> World for RealWorld<R> {
     }
 
     /// Starts `/bin/sh -c` with the command. What it prints on standard output and standard error
-    /// goes into the file `out.TICKET` of the world's own directory, and a recorder may write its
-    /// log into `fm.TICKET` there, of which the records are told when the child is taken in. Where the directory cannot be made, that is a counted fault.
+    /// goes into a file of the world's own directory, and a recorder may write its log into the file
+    /// `fm.TICKET` there, of which the records are told when the child is taken in. Where the
+    /// directory cannot be made, that is a counted fault.
     fn start(
         &mut self,
         _: Global,
