@@ -218,6 +218,10 @@ row shows='a command that removes its own output file' \
     makefile=$'t:\n\t@rm "$${BMAKE_FILEMON%/*}"/out.*\n' \
     status=3 err="$outside"
 
+row shows='what a process in the background prints late comes into no other output' \
+    makefile=$'all: x y\nx:\n\t@(sleep 0.3; echo late) &\ny:\n\t@sleep 0.6; echo y\n' \
+    out=$'y\n'
+
 row shows='a name that stands already in the directory for temporary files' \
     before='mkdir tmp' \
     makefile=$'t:\n\t@echo "$${BMAKE_FILEMON##*/tmp/}" | sed "s/[0-9][0-9]*/N/"\n' \
