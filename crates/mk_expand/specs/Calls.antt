@@ -1,16 +1,21 @@
 -- What one call of an evaluation is given, and what it leaves.
-use Rattle.std.specs.Prelude.{◌≡◌, ◌⊎◌, ℕ, Bool, List, [], Result, Ok, Err}
+use Rattle.std.specs.Prelude.{◌≡◌, ◌⊎◌, ℕ, Bool, false, List, [], Result, Ok, Err}
 use Rattle.mk_mods.specs.Pieces.{Begins}
 use Rattle.mk_scopes.specs.Scopes.{Variables}
 use Rattle.mk_world.specs.Causes.{HasCause}
+use Rattle.mk_expand.specs.Chains.{Chain}
 use Rattle.mk_expand.specs.Evaluators.{Answer, Counted, Progress, progress}
 use Rattle.mk_expand.specs.Facts.{Answers, AnsweredBy, AsksMore, IsOutside, Lists}
 use Rattle.mk_expand.specs.declared.facts.Asked.{Asked}
+use Rattle.mk_expand.specs.declared.facts.Facts.{Ghosts}
 use Rattle.mk_expand.specs.Names.{Context, raw_in}
+use Rattle.mk_expand.specs.View.{chain_view}
+use Rattle.mk_expand.specs.declared.chain.Chain.{Chain as CodeChain}
 use Rattle.mk_expand.specs.declared.evaluation.Run.{Run}
 use Rattle.mk_expand.specs.declared.fault.ExpandFault.{ExpandFault}
 use Rattle.mk_expand.specs.declared.fault.ExpandFault.TheVariants.{Failed}
 use Rattle.mk_expand.specs.declared.local.Locals.{Locals}
+use Rattle.mk_expand.specs.declared.name.Names.{Names}
 
 -- what names and facts mean in a call
 abbrev pub here : Variables → Locals → Lists → Run → Bool → Answers → Context
@@ -41,6 +46,27 @@ Evaluates run asked view result defined =
     (answers : Answers) → AnsweredBy answers asked
     → Gives view (at run asked) result (defined answers).answer
 
+-- A call with these names, runs and facts gives what is defined, seen by `view`.
+abbrev pub FindsAs : {F X Y : Type 0} → Ghosts F → Names → Bool → Run → Run → F → F → (X → Y)
+    → Result X ExpandFault → (Context → Progress → Counted Y) → Type 0
+FindsAs meaning names keep old new before after view result defined =
+    Evaluates new (meaning.asked after) view result
+    (λ answers. defined
+    (here names.scopes.now names.locals.now (meaning.lists before) old keep answers)
+    (at old (meaning.asked before)))
+
+-- the same, of what is given as it is
+abbrev pub Finds : {F X : Type 0} → Ghosts F → Names → Bool → Run → Run → F → F
+    → Result X ExpandFault → (Context → Progress → Counted X) → Type 0
+Finds meaning names keep old new before after result defined =
+    FindsAs meaning names keep old new before after (λ given. given) result defined
+
+-- the same, of what is made of a chain, by its items in the region behind the call
+abbrev pub Modifies : {F : Type 0} → Ghosts F → Names → Run → Run → F → F
+    → Result CodeChain ExpandFault → (Context → Progress → Counted Chain) → Type 0
+Modifies meaning names old new before after result defined =
+    FindsAs meaning names false old new before after (chain_view new.region.bytes) result defined
+
 -- what a call leaves of a run as it was
 pub record Keeps (old new : Run) : Type 0 where
   pub open_names : new.open_names ≡ old.open_names
@@ -62,6 +88,12 @@ pub record Asks {A : Type 0} (leads : Type 0) (old_lists new_lists : Lists) (old
     pub lists : new_lists ≡ old_lists
     pub asked : AsksMore old new
     pub cause : HasCause Failed before after answer
+
+-- what a call asks of these facts
+abbrev pub AsksOf : {F A : Type 0} → Ghosts F → F → F → Result A ExpandFault → Type 0
+AsksOf meaning before after answer =
+    Asks (meaning.leads before after) (meaning.lists before) (meaning.lists after)
+    (meaning.asked before) (meaning.asked after) (meaning.faults before) (meaning.faults after) answer
 
 -- a run before its first reference
 abbrev pub IsFirst : Run → Type 0

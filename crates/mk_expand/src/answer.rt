@@ -4,7 +4,7 @@ ghost use Rattle.std.specs.Option.{option_copied, option_map};
 ghost use Rattle.mk_ast.specs.View.{part_view, tree_view};
 ghost use Rattle.mk_bytes.specs.Agrees.{Agrees};
 ghost use Rattle.mk_bytes.specs.Paths.{clean};
-ghost use Rattle.mk_expand.specs.Calls.{Asks, Evaluates, at, here};
+ghost use Rattle.mk_expand.specs.Calls.{AsksOf, Finds};
 ghost use Rattle.mk_expand.specs.Conditions as spec;
 ghost use Rattle.mk_expand.specs.Facts.{Means, is_fact};
 ghost use Rattle.mk_expand.specs.Names.{is_defined, last_value, raw_in};
@@ -44,8 +44,7 @@ fn ask<F: Facts>(
     requires { IsTrue (is_fact fun) }
     ensures value { Means (F.asked facts.new) (λ answer. (answer, F.asked facts.new)) result
         (λ answers. Ok (spec.fact (F.lists facts.old) answers (F.asked facts.old) fun argument.now)) }
-    ensures facts { Asks (F.leads facts.old facts.new) (F.lists facts.old) (F.lists facts.new) (F.asked facts.old)
-        (F.asked facts.new) (F.faults facts.old) (F.faults facts.new) result }
+    ensures facts { AsksOf F.Facts facts.old facts.new result }
 {
     Ok(facts.fact(alloc, fun, argument)?)
 }
@@ -61,8 +60,7 @@ fn ask_path<F: Facts>(
     ensures value { Means (F.asked facts.new) (λ answer. (answer, F.asked facts.new)) result
         (λ answers. Ok (spec.fact (F.lists facts.old) answers (F.asked facts.old) fun
         (clean names.now.scopes.now.cwd name.now))) }
-    ensures facts { Asks (F.leads facts.old facts.new) (F.lists facts.old) (F.lists facts.new) (F.asked facts.old)
-        (F.asked facts.new) (F.faults facts.old) (F.faults facts.new) result }
+    ensures facts { AsksOf F.Facts facts.old facts.new result }
 {
     let path = clean_path(names.alloc, names.scopes.cwd(), name)?;
     ask(names.alloc, facts, fun, path.bytes())
@@ -76,12 +74,9 @@ pub fn answer_of<F: Facts>(
     fun: Fun,
     value: &[u8],
 ) -> Result<bool, ExpandFault>
-    ensures value { Evaluates run.now (F.asked facts.new) (λ given. given) result
-        (λ answers. spec.answer_of
-        (here names.now.scopes.now names.now.locals.now (F.lists facts.old) run.now false answers)
-        (at run.now (F.asked facts.old)) fun value.now) }
-    ensures facts { Asks (F.leads facts.old facts.new) (F.lists facts.old) (F.lists facts.new) (F.asked facts.old)
-        (F.asked facts.new) (F.faults facts.old) (F.faults facts.new) result }
+    ensures value { Finds F.Facts names.now false run.now run.now facts.old facts.new result
+        (λ c p. spec.answer_of c p fun value.now) }
+    ensures facts { AsksOf F.Facts facts.old facts.new result }
 {
     match fun {
         Fun::Defined => Ok(is_defined(names, run.bound.as_slice(), trimmed(value))),

@@ -2,7 +2,7 @@
 ghost use Rattle.std.specs.Prelude.{◌≡◌, ◌∷◌, [], false, OnOk};
 ghost use Rattle.mk_ast.specs.View.{tree_view};
 ghost use Rattle.mk_cond.specs.View.{cond_view, side_view};
-ghost use Rattle.mk_expand.specs.Calls.{Asks, Evaluates, Keeps, at, here};
+ghost use Rattle.mk_expand.specs.Calls.{AsksOf, Finds, Keeps};
 ghost use Rattle.mk_expand.specs.Conditions as spec;
 ghost use Rattle.mk_expand.specs.Outer.{leaf_truth};
 ghost use Rattle.mk_expand.specs.Value.{found_at};
@@ -27,13 +27,10 @@ pub fn truth_of<F: Facts>(
     room: usize,
     cond: &Cond,
 ) -> Result<bool, ExpandFault>
-    ensures value { Evaluates run.new (F.asked facts.new) (λ given. given) result
-        (λ answers. spec.truth_of (found_at room)
-        (here names.now.scopes.now names.now.locals.now (F.lists facts.old) run.old false answers)
-        (at run.old (F.asked facts.old)) (cond_view cond.now)) }
+    ensures value { Finds F.Facts names.now false run.old run.new facts.old facts.new result
+        (λ c p. spec.truth_of (found_at room) c p (cond_view cond.now)) }
     ensures run { OnOk result (Keeps run.old run.new) }
-    ensures facts { Asks (F.leads facts.old facts.new) (F.lists facts.old) (F.lists facts.new) (F.asked facts.old)
-        (F.asked facts.new) (F.faults facts.old) (F.faults facts.new) result }
+    ensures facts { AsksOf F.Facts facts.old facts.new result }
 {
     let mut outer = Vec::new(names.alloc);
     let mut step = Step::Inside(cond);
@@ -60,13 +57,10 @@ fn leaf_truth<F: Facts>(
     room: usize,
     leaf: Leaf<'_>,
 ) -> Result<bool, ExpandFault>
-    ensures value { Evaluates run.new (F.asked facts.new) (λ given. given) result
-        (λ answers. leaf_truth (found_at room)
-        (here names.now.scopes.now names.now.locals.now (F.lists facts.old) run.old false answers)
-        (at run.old (F.asked facts.old)) leaf.entry) }
+    ensures value { Finds F.Facts names.now false run.old run.new facts.old facts.new result
+        (λ c p. leaf_truth (found_at room) c p leaf.entry) }
     ensures run { OnOk result (Keeps run.old run.new) }
-    ensures facts { Asks (F.leads facts.old facts.new) (F.lists facts.old) (F.lists facts.new) (F.asked facts.old)
-        (F.asked facts.new) (F.faults facts.old) (F.faults facts.new) result }
+    ensures facts { AsksOf F.Facts facts.old facts.new result }
 {
     match leaf {
         Leaf::Known(truth) => Ok(truth),
@@ -86,13 +80,10 @@ fn test_truth<F: Facts>(
     fun: Fun,
     argument: &Tree,
 ) -> Result<bool, ExpandFault>
-    ensures value { Evaluates run.new (F.asked facts.new) (λ given. given) result
-        (λ answers. spec.test_truth (found_at room)
-        (here names.now.scopes.now names.now.locals.now (F.lists facts.old) run.old false answers)
-        (at run.old (F.asked facts.old)) fun (tree_view argument.now)) }
+    ensures value { Finds F.Facts names.now false run.old run.new facts.old facts.new result
+        (λ c p. spec.test_truth (found_at room) c p fun (tree_view argument.now)) }
     ensures run { OnOk result (Keeps run.old run.new) }
-    ensures facts { Asks (F.leads facts.old facts.new) (F.lists facts.old) (F.lists facts.new) (F.asked facts.old)
-        (F.asked facts.new) (F.faults facts.old) (F.faults facts.new) result }
+    ensures facts { AsksOf F.Facts facts.old facts.new result }
 {
     if let Some(value) = plain_bytes(argument.as_slice()) {
         return answer_of(names, run, facts, fun, value);
@@ -110,13 +101,10 @@ fn alone_truth<F: Facts>(
     room: usize,
     side: &Side,
 ) -> Result<bool, ExpandFault>
-    ensures value { Evaluates run.new (F.asked facts.new) (λ given. given) result
-        (λ answers. spec.alone_truth (found_at room)
-        (here names.now.scopes.now names.now.locals.now (F.lists facts.old) run.old false answers)
-        (at run.old (F.asked facts.old)) (side_view side.now)) }
+    ensures value { Finds F.Facts names.now false run.old run.new facts.old facts.new result
+        (λ c p. spec.alone_truth (found_at room) c p (side_view side.now)) }
     ensures run { OnOk result (Keeps run.old run.new) }
-    ensures facts { Asks (F.leads facts.old facts.new) (F.lists facts.old) (F.lists facts.new) (F.asked facts.old)
-        (F.asked facts.new) (F.faults facts.old) (F.faults facts.new) result }
+    ensures facts { AsksOf F.Facts facts.old facts.new result }
 {
     let value = side_value(names, run, facts, room, side)?;
     Ok(truth(value.bytes(), side.quoted))
@@ -133,13 +121,10 @@ fn both_truth<F: Facts>(
     op: CmpOp,
     right: &Side,
 ) -> Result<bool, ExpandFault>
-    ensures value { Evaluates run.new (F.asked facts.new) (λ given. given) result
-        (λ answers. spec.both_truth (found_at room)
-        (here names.now.scopes.now names.now.locals.now (F.lists facts.old) run.old false answers)
-        (at run.old (F.asked facts.old)) (side_view left.now) op (side_view right.now)) }
+    ensures value { Finds F.Facts names.now false run.old run.new facts.old facts.new result
+        (λ c p. spec.both_truth (found_at room) c p (side_view left.now) op (side_view right.now)) }
     ensures run { OnOk result (Keeps run.old run.new) }
-    ensures facts { Asks (F.leads facts.old facts.new) (F.lists facts.old) (F.lists facts.new) (F.asked facts.old)
-        (F.asked facts.new) (F.faults facts.old) (F.faults facts.new) result }
+    ensures facts { AsksOf F.Facts facts.old facts.new result }
 {
     let first = side_value(names, run, facts, room, left)?;
     if let Some(second) = plain_bytes(right.text.as_slice()) {
@@ -158,13 +143,10 @@ fn side_value<F: Facts>(
     room: usize,
     side: &Side,
 ) -> Result<Text, ExpandFault>
-    ensures value { Evaluates run.new (F.asked facts.new) (λ given. given) result
-        (λ answers. spec.side_value (found_at room)
-        (here names.now.scopes.now names.now.locals.now (F.lists facts.old) run.old false answers)
-        (at run.old (F.asked facts.old)) (side_view side.now)) }
+    ensures value { Finds F.Facts names.now false run.old run.new facts.old facts.new result
+        (λ c p. spec.side_value (found_at room) c p (side_view side.now)) }
     ensures run { OnOk result (Keeps run.old run.new) }
-    ensures facts { Asks (F.leads facts.old facts.new) (F.lists facts.old) (F.lists facts.new) (F.asked facts.old)
-        (F.asked facts.new) (F.faults facts.old) (F.faults facts.new) result }
+    ensures facts { AsksOf F.Facts facts.old facts.new result }
 {
     if side.quoted {
         return tree_value(names, run, facts, room, false, &side.text);

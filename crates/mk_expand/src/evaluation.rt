@@ -1,7 +1,7 @@
 //! The value of a tree: the values of its parts, joined.
 ghost use Rattle.std.specs.Prelude.{◌≡◌, ◌∷◌, [], OnOk};
 ghost use Rattle.mk_ast.specs.View.{mods_view, part_view, tree_view};
-ghost use Rattle.mk_expand.specs.Calls.{Asks, Evaluates, Keeps, at, here};
+ghost use Rattle.mk_expand.specs.Calls.{AsksOf, Finds, FindsAs, Keeps};
 ghost use Rattle.mk_expand.specs.Parts as joint;
 ghost use Rattle.mk_expand.specs.Steps.{named};
 ghost use Rattle.mk_expand.specs.Value as spec;
@@ -40,13 +40,10 @@ pub fn text_value<F: Facts>(
     keep: bool,
     text: &[u8],
 ) -> Result<Text, ExpandFault>
-    ensures value { Evaluates run.new (F.asked facts.new) (λ given. given) result
-        (λ answers. joint.text_value (found_at room)
-        (here names.now.scopes.now names.now.locals.now (F.lists facts.old) run.old keep answers)
-        (at run.old (F.asked facts.old)) text.now) }
+    ensures value { Finds F.Facts names.now keep run.old run.new facts.old facts.new result
+        (λ c p. joint.text_value (found_at room) c p text.now) }
     ensures run { OnOk result (Keeps run.old run.new) }
-    ensures facts { Asks (F.leads facts.old facts.new) (F.lists facts.old) (F.lists facts.new) (F.asked facts.old)
-        (F.asked facts.new) (F.faults facts.old) (F.faults facts.new) result }
+    ensures facts { AsksOf F.Facts facts.old facts.new result }
 {
     if !has_dollar(text) {
         return plain_value(names.alloc, text);
@@ -65,13 +62,10 @@ pub fn tree_value<F: Facts>(
     keep: bool,
     tree: &Tree,
 ) -> Result<Text, ExpandFault>
-    ensures value { Evaluates run.new (F.asked facts.new) (λ given. given) result
-        (λ answers. joint.tree_value (found_at room)
-        (here names.now.scopes.now names.now.locals.now (F.lists facts.old) run.old keep answers)
-        (at run.old (F.asked facts.old)) (tree_view tree.now)) }
+    ensures value { Finds F.Facts names.now keep run.old run.new facts.old facts.new result
+        (λ c p. joint.tree_value (found_at room) c p (tree_view tree.now)) }
     ensures run { OnOk result (Keeps run.old run.new) }
-    ensures facts { Asks (F.leads facts.old facts.new) (F.lists facts.old) (F.lists facts.new) (F.asked facts.old)
-        (F.asked facts.new) (F.faults facts.old) (F.faults facts.new) result }
+    ensures facts { AsksOf F.Facts facts.old facts.new result }
 {
     let text = Text::new(names.alloc);
     joined(names, run, facts, room, keep, text, tree.as_slice())
@@ -88,13 +82,10 @@ pub fn joined<F: Facts>(
     text: Text,
     parts: &[Part],
 ) -> Result<Text, ExpandFault>
-    ensures value { Evaluates run.new (F.asked facts.new) (λ given. given) result
-        (λ answers. joint.joined (found_at room)
-        (here names.now.scopes.now names.now.locals.now (F.lists facts.old) run.old keep answers)
-        (at run.old (F.asked facts.old)) text (tree_view parts.now)) }
+    ensures value { Finds F.Facts names.now keep run.old run.new facts.old facts.new result
+        (λ c p. joint.joined (found_at room) c p text (tree_view parts.now)) }
     ensures run { OnOk result (Keeps run.old run.new) }
-    ensures facts { Asks (F.leads facts.old facts.new) (F.lists facts.old) (F.lists facts.new) (F.asked facts.old)
-        (F.asked facts.new) (F.faults facts.old) (F.faults facts.new) result }
+    ensures facts { AsksOf F.Facts facts.old facts.new result }
 {
     let mut text = text;
     for part in parts {
@@ -114,13 +105,11 @@ pub fn append_part<F: Facts>(
     text: &mut Text,
     part: &Part,
 ) -> Result<(), ExpandFault>
-    ensures value { Evaluates run.new (F.asked facts.new) (λ done. text.new) result
-        (λ answers. joint.part_appended (found_at room)
-        (here names.now.scopes.now names.now.locals.now (F.lists facts.old) run.old keep answers)
-        (at run.old (F.asked facts.old)) text.old (part_view part.now)) }
+    ensures value { FindsAs F.Facts names.now keep run.old run.new facts.old facts.new
+        (λ done. text.new) result (λ c p. joint.part_appended (found_at room) c p text.old
+        (part_view part.now)) }
     ensures run { OnOk result (Keeps run.old run.new) }
-    ensures facts { Asks (F.leads facts.old facts.new) (F.lists facts.old) (F.lists facts.new) (F.asked facts.old)
-        (F.asked facts.new) (F.faults facts.old) (F.faults facts.new) result }
+    ensures facts { AsksOf F.Facts facts.old facts.new result }
 {
     match part {
         Part::Plain(bytes) => append(text, bytes.bytes()),
@@ -147,13 +136,11 @@ fn append_reference<F: Facts>(
     text: &mut Text,
     part: &Part,
 ) -> Result<(), ExpandFault>
-    ensures value { Evaluates run.new (F.asked facts.new) (λ done. text.new) result
-        (λ answers. joint.reference_appended (found_at room)
-        (here names.now.scopes.now names.now.locals.now (F.lists facts.old) run.old keep answers)
-        (at run.old (F.asked facts.old)) text.old (part_view part.now)) }
+    ensures value { FindsAs F.Facts names.now keep run.old run.new facts.old facts.new
+        (λ done. text.new) result (λ c p. joint.reference_appended (found_at room) c p text.old
+        (part_view part.now)) }
     ensures run { OnOk result (Keeps run.old run.new) }
-    ensures facts { Asks (F.leads facts.old facts.new) (F.lists facts.old) (F.lists facts.new) (F.asked facts.old)
-        (F.asked facts.new) (F.faults facts.old) (F.faults facts.new) result }
+    ensures facts { AsksOf F.Facts facts.old facts.new result }
 {
     if let Some(word) = lent_word(&run.open_names, run.bound.as_slice(), part) {
         open_reference(&mut run.references, room)?;
@@ -173,13 +160,10 @@ pub fn found<F: Facts>(
     keep: bool,
     part: &Part,
 ) -> Result<Found, ExpandFault>
-    ensures value { Evaluates run.new (F.asked facts.new) (λ given. given) result
-        (λ answers. found_at room
-        (here names.now.scopes.now names.now.locals.now (F.lists facts.old) run.old keep answers)
-        (at run.old (F.asked facts.old)) (part_view part.now)) }
+    ensures value { Finds F.Facts names.now keep run.old run.new facts.old facts.new result
+        (λ c p. found_at room c p (part_view part.now)) }
     ensures run { OnOk result (Keeps run.old run.new) }
-    ensures facts { Asks (F.leads facts.old facts.new) (F.lists facts.old) (F.lists facts.new) (F.asked facts.old)
-        (F.asked facts.new) (F.faults facts.old) (F.faults facts.new) result }
+    ensures facts { AsksOf F.Facts facts.old facts.new result }
 {
     open_reference(&mut run.references, room)?;
     found_inside(names, run, facts, room - 1, keep, part)
@@ -195,13 +179,10 @@ fn found_inside<F: Facts>(
     keep: bool,
     part: &Part,
 ) -> Result<Found, ExpandFault>
-    ensures value { Evaluates run.new (F.asked facts.new) (λ given. given) result
-        (λ answers. spec.found (found_at room)
-        (here names.now.scopes.now names.now.locals.now (F.lists facts.old) run.old keep answers)
-        (at run.old (F.asked facts.old)) (part_view part.now)) }
+    ensures value { Finds F.Facts names.now keep run.old run.new facts.old facts.new result
+        (λ c p. spec.found (found_at room) c p (part_view part.now)) }
     ensures run { OnOk result (Keeps run.old run.new) }
-    ensures facts { Asks (F.leads facts.old facts.new) (F.lists facts.old) (F.lists facts.new) (F.asked facts.old)
-        (F.asked facts.new) (F.faults facts.old) (F.faults facts.new) result }
+    ensures facts { AsksOf F.Facts facts.old facts.new result }
 {
     match part {
         Part::Short(byte) => variable(names, run, facts, room, keep, &[*byte]),
@@ -225,13 +206,10 @@ fn reference<F: Facts>(
     name: &Tree,
     mods: &ModTrees,
 ) -> Result<Found, ExpandFault>
-    ensures value { Evaluates run.new (F.asked facts.new) (λ given. given) result
-        (λ answers. spec.reference (found_at room)
-        (here names.now.scopes.now names.now.locals.now (F.lists facts.old) run.old keep answers)
-        (at run.old (F.asked facts.old)) (tree_view name.now) (mods_view mods.now)) }
+    ensures value { Finds F.Facts names.now keep run.old run.new facts.old facts.new result
+        (λ c p. spec.reference (found_at room) c p (tree_view name.now) (mods_view mods.now)) }
     ensures run { OnOk result (Keeps run.old run.new) }
-    ensures facts { Asks (F.leads facts.old facts.new) (F.lists facts.old) (F.lists facts.new) (F.asked facts.old)
-        (F.asked facts.new) (F.faults facts.old) (F.faults facts.new) result }
+    ensures facts { AsksOf F.Facts facts.old facts.new result }
 {
     if let Some(name) = plain_bytes(name.as_slice()) {
         return named(names, run, facts, room, keep, name, mods);
@@ -251,13 +229,10 @@ fn named<F: Facts>(
     name: &[u8],
     mods: &ModTrees,
 ) -> Result<Found, ExpandFault>
-    ensures value { Evaluates run.new (F.asked facts.new) (λ given. given) result
-        (λ answers. named (found_at room)
-        (here names.now.scopes.now names.now.locals.now (F.lists facts.old) run.old keep answers)
-        (at run.old (F.asked facts.old)) name.now (mods_view mods.now)) }
+    ensures value { Finds F.Facts names.now keep run.old run.new facts.old facts.new result
+        (λ c p. named (found_at room) c p name.now (mods_view mods.now)) }
     ensures run { OnOk result (Keeps run.old run.new) }
-    ensures facts { Asks (F.leads facts.old facts.new) (F.lists facts.old) (F.lists facts.new) (F.asked facts.old)
-        (F.asked facts.new) (F.faults facts.old) (F.faults facts.new) result }
+    ensures facts { AsksOf F.Facts facts.old facts.new result }
 {
     let found = variable(names, run, facts, room, keep, name)?;
     chained(names, run, facts, room, name, found, mods)
@@ -273,13 +248,10 @@ fn variable<F: Facts>(
     keep: bool,
     name: &[u8],
 ) -> Result<Found, ExpandFault>
-    ensures value { Evaluates run.new (F.asked facts.new) (λ given. given) result
-        (λ answers. spec.variable (found_at room)
-        (here names.now.scopes.now names.now.locals.now (F.lists facts.old) run.old keep answers)
-        (at run.old (F.asked facts.old)) name.now) }
+    ensures value { Finds F.Facts names.now keep run.old run.new facts.old facts.new result
+        (λ c p. spec.variable (found_at room) c p name.now) }
     ensures run { OnOk result (Keeps run.old run.new) }
-    ensures facts { Asks (F.leads facts.old facts.new) (F.lists facts.old) (F.lists facts.new) (F.asked facts.old)
-        (F.asked facts.new) (F.faults facts.old) (F.faults facts.new) result }
+    ensures facts { AsksOf F.Facts facts.old facts.new result }
 {
     if is_among(&run.open_names, name) {
         return Err(ExpandFault::Recursive(Text::from_bytes(names.alloc, name)?));
@@ -307,13 +279,10 @@ fn known_value<F: Facts>(
     name: &[u8],
     raw: &Text,
 ) -> Result<Found, ExpandFault>
-    ensures value { Evaluates run.new (F.asked facts.new) (λ given. given) result
-        (λ answers. spec.opened_value (found_at room)
-        (here names.now.scopes.now names.now.locals.now (F.lists facts.old) run.old keep answers)
-        (at run.old (F.asked facts.old)) name.now raw.now) }
+    ensures value { Finds F.Facts names.now keep run.old run.new facts.old facts.new result
+        (λ c p. spec.opened_value (found_at room) c p name.now raw.now) }
     ensures run { OnOk result (Keeps run.old run.new) }
-    ensures facts { Asks (F.leads facts.old facts.new) (F.lists facts.old) (F.lists facts.new) (F.asked facts.old)
-        (F.asked facts.new) (F.faults facts.old) (F.faults facts.new) result }
+    ensures facts { AsksOf F.Facts facts.old facts.new result }
 {
     if !has_dollar(raw.bytes()) {
         return plain_found(raw.copy(names.alloc)?);
@@ -332,13 +301,10 @@ fn opened_value<F: Facts>(
     name: &[u8],
     raw: &[u8],
 ) -> Result<Found, ExpandFault>
-    ensures value { Evaluates run.new (F.asked facts.new) (λ given. given) result
-        (λ answers. spec.opened_value (found_at room)
-        (here names.now.scopes.now names.now.locals.now (F.lists facts.old) run.old keep answers)
-        (at run.old (F.asked facts.old)) name.now raw.now) }
+    ensures value { Finds F.Facts names.now keep run.old run.new facts.old facts.new result
+        (λ c p. spec.opened_value (found_at room) c p name.now raw.now) }
     ensures run { OnOk result (Keeps run.old run.new) }
-    ensures facts { Asks (F.leads facts.old facts.new) (F.lists facts.old) (F.lists facts.new) (F.asked facts.old)
-        (F.asked facts.new) (F.faults facts.old) (F.faults facts.new) result }
+    ensures facts { AsksOf F.Facts facts.old facts.new result }
 {
     run.open_names.push(Text::from_bytes(names.alloc, name)?)?;
     let value = text_value(names, run, facts, room, keep, raw)?;

@@ -2,13 +2,15 @@
 ghost use Rattle.std.specs.Prelude.{◌≡◌, ◌≤◌, length, false, IfOk, IfSome, OnOk};
 ghost use Rattle.mk_ast.specs.Tree.{if_undefined, mod_then, no_mods};
 ghost use Rattle.mk_ast.specs.View.{mod_view, mods_view, tree_view};
-ghost use Rattle.mk_expand.specs.Calls.{Asks, Evaluates, Extends, Keeps, at, here};
+ghost use Rattle.mk_expand.specs.Calls.{AsksOf, Extends, Finds, FindsAs, Keeps, Modifies};
 ghost use Rattle.mk_expand.specs.Chains as spec;
 ghost use Rattle.mk_expand.specs.Names.{while_bound};
 ghost use Rattle.mk_expand.specs.Parts.{tree_value};
 ghost use Rattle.mk_expand.specs.Value.{found_at};
 ghost use Rattle.mk_expand.specs.View.{chain_view};
-ghost use Rattle.mk_mods.specs.Pieces.{end_of, texts_of};
+ghost use Rattle.mk_mods.specs.Pieces.{end_of, seen, texts_of};
+ghost use Rattle.mk_mods.specs.Results.{no_results};
+ghost use Rattle.mk_mods.specs.State.{words_of};
 
 use crate::bound::{Binding, bind, unbind};
 use crate::chain::{Chain, Found, compacted, given};
@@ -45,13 +47,10 @@ fn default_found<F: Facts>(
     room: usize,
     text: &Tree,
 ) -> Result<Found, ExpandFault>
-    ensures value { Evaluates run.new (F.asked facts.new) (λ given. given) result
-        (λ answers. spec.found_as (tree_value (found_at room)
-        (here names.now.scopes.now names.now.locals.now (F.lists facts.old) run.old false answers)
-        (at run.old (F.asked facts.old)) (tree_view text.now))) }
+    ensures value { Finds F.Facts names.now false run.old run.new facts.old facts.new result
+        (λ c p. spec.found_as (tree_value (found_at room) c p (tree_view text.now))) }
     ensures run { OnOk result (Keeps run.old run.new) }
-    ensures facts { Asks (F.leads facts.old facts.new) (F.lists facts.old) (F.lists facts.new) (F.asked facts.old)
-        (F.asked facts.new) (F.faults facts.old) (F.faults facts.new) result }
+    ensures facts { AsksOf F.Facts facts.old facts.new result }
 {
     let value = tree_value(names, run, facts, room, false, text)?;
     Ok(Found {
@@ -73,13 +72,10 @@ pub fn chained<F: Facts>(
     found: Found,
     mods: &ModTrees,
 ) -> Result<Found, ExpandFault>
-    ensures value { Evaluates run.new (F.asked facts.new) (λ given. given) result
-        (λ answers. spec.chained (found_at room)
-        (here names.now.scopes.now names.now.locals.now (F.lists facts.old) run.old false answers)
-        (at run.old (F.asked facts.old)) name.now found (mods_view mods.now)) }
+    ensures value { Finds F.Facts names.now false run.old run.new facts.old facts.new result
+        (λ c p. spec.chained (found_at room) c p name.now found (mods_view mods.now)) }
     ensures run { OnOk result (Keeps run.old run.new) }
-    ensures facts { Asks (F.leads facts.old facts.new) (F.lists facts.old) (F.lists facts.new) (F.asked facts.old)
-        (F.asked facts.new) (F.faults facts.old) (F.faults facts.new) result }
+    ensures facts { AsksOf F.Facts facts.old facts.new result }
 {
     if mods.is_empty() {
         return Ok(found);
@@ -115,13 +111,11 @@ fn all_modified<F: Facts>(
     mods: &ModTrees,
 ) -> Result<Chain, ExpandFault>
     requires { end_of chain.val ≤ length run.old.region.bytes }
-    ensures value { Evaluates run.new (F.asked facts.new) (λ chain. chain_view run.new.region.bytes chain) result
-        (λ answers. spec.all_modified (found_at room)
-        (here names.now.scopes.now names.now.locals.now (F.lists facts.old) run.old false answers)
-        (at run.old (F.asked facts.old)) name.now (chain_view run.old.region.bytes chain) (mods_view mods.now)) }
+    ensures value { Modifies F.Facts names.now run.old run.new facts.old facts.new result
+        (λ c p. spec.all_modified (found_at room) c p name.now
+        (chain_view run.old.region.bytes chain) (mods_view mods.now)) }
     ensures run { OnOk result (Extends run.old run.new) }
-    ensures facts { Asks (F.leads facts.old facts.new) (F.lists facts.old) (F.lists facts.new) (F.asked facts.old)
-        (F.asked facts.new) (F.faults facts.old) (F.faults facts.new) result }
+    ensures facts { AsksOf F.Facts facts.old facts.new result }
 {
     let len = run.region.len();
     let mut chain = chain;
@@ -144,13 +138,11 @@ fn modified<F: Facts>(
     one: &ModTree,
 ) -> Result<Chain, ExpandFault>
     requires { end_of chain.val ≤ length run.old.region.bytes }
-    ensures value { Evaluates run.new (F.asked facts.new) (λ chain. chain_view run.new.region.bytes chain) result
-        (λ answers. spec.modified (found_at room)
-        (here names.now.scopes.now names.now.locals.now (F.lists facts.old) run.old false answers)
-        (at run.old (F.asked facts.old)) name.now (chain_view run.old.region.bytes chain) (mod_view one.now)) }
+    ensures value { Modifies F.Facts names.now run.old run.new facts.old facts.new result
+        (λ c p. spec.modified (found_at room) c p name.now (chain_view run.old.region.bytes chain)
+        (mod_view one.now)) }
     ensures run { OnOk result (Extends run.old run.new) }
-    ensures facts { Asks (F.leads facts.old facts.new) (F.lists facts.old) (F.lists facts.new) (F.asked facts.old)
-        (F.asked facts.new) (F.faults facts.old) (F.faults facts.new) result }
+    ensures facts { AsksOf F.Facts facts.old facts.new result }
     ensures within { IfOk result (λ chain. end_of chain.val ≤ length run.new.region.bytes) }
 {
     match one {
@@ -174,13 +166,11 @@ fn given_modified<F: Facts>(
     one: &ModTree,
 ) -> Result<Chain, ExpandFault>
     requires { end_of chain.val ≤ length run.old.region.bytes }
-    ensures value { Evaluates run.new (F.asked facts.new) (λ chain. chain_view run.new.region.bytes chain) result
-        (λ answers. spec.given_modified (found_at room)
-        (here names.now.scopes.now names.now.locals.now (F.lists facts.old) run.old false answers)
-        (at run.old (F.asked facts.old)) name.now (chain_view run.old.region.bytes chain) (mod_view one.now)) }
+    ensures value { Modifies F.Facts names.now run.old run.new facts.old facts.new result
+        (λ c p. spec.given_modified (found_at room) c p name.now
+        (chain_view run.old.region.bytes chain) (mod_view one.now)) }
     ensures run { OnOk result (Extends run.old run.new) }
-    ensures facts { Asks (F.leads facts.old facts.new) (F.lists facts.old) (F.lists facts.new) (F.asked facts.old)
-        (F.asked facts.new) (F.faults facts.old) (F.faults facts.new) result }
+    ensures facts { AsksOf F.Facts facts.old facts.new result }
     ensures within { IfOk result (λ chain. end_of chain.val ≤ length run.new.region.bytes) }
 {
     match one {
@@ -207,13 +197,11 @@ fn choose<F: Facts>(
     no: &Tree,
 ) -> Result<Chain, ExpandFault>
     requires { end_of chain.val ≤ length run.old.region.bytes }
-    ensures value { Evaluates run.new (F.asked facts.new) (λ chain. chain_view run.new.region.bytes chain) result
-        (λ answers. spec.choose (found_at room)
-        (here names.now.scopes.now names.now.locals.now (F.lists facts.old) run.old false answers)
-        (at run.old (F.asked facts.old)) name.now (chain_view run.old.region.bytes chain) (tree_view yes.now) (tree_view no.now)) }
+    ensures value { Modifies F.Facts names.now run.old run.new facts.old facts.new result
+        (λ c p. spec.choose (found_at room) c p name.now (chain_view run.old.region.bytes chain)
+        (tree_view yes.now) (tree_view no.now)) }
     ensures run { OnOk result (Extends run.old run.new) }
-    ensures facts { Asks (F.leads facts.old facts.new) (F.lists facts.old) (F.lists facts.new) (F.asked facts.old)
-        (F.asked facts.new) (F.faults facts.old) (F.faults facts.new) result }
+    ensures facts { AsksOf F.Facts facts.old facts.new result }
     ensures within { IfOk result (λ chain. end_of chain.val ≤ length run.new.region.bytes) }
 {
     let text = chosen(names, run, facts, room, name, yes, no)?;
@@ -231,13 +219,11 @@ fn if_undefined<F: Facts>(
     text: &Tree,
 ) -> Result<Chain, ExpandFault>
     requires { end_of chain.val ≤ length run.old.region.bytes }
-    ensures value { Evaluates run.new (F.asked facts.new) (λ chain. chain_view run.new.region.bytes chain) result
-        (λ answers. spec.if_undefined (found_at room)
-        (here names.now.scopes.now names.now.locals.now (F.lists facts.old) run.old false answers)
-        (at run.old (F.asked facts.old)) (chain_view run.old.region.bytes chain) (tree_view text.now)) }
+    ensures value { Modifies F.Facts names.now run.old run.new facts.old facts.new result
+        (λ c p. spec.if_undefined (found_at room) c p (chain_view run.old.region.bytes chain)
+        (tree_view text.now)) }
     ensures run { OnOk result (Extends run.old run.new) }
-    ensures facts { Asks (F.leads facts.old facts.new) (F.lists facts.old) (F.lists facts.new) (F.asked facts.old)
-        (F.asked facts.new) (F.faults facts.old) (F.faults facts.new) result }
+    ensures facts { AsksOf F.Facts facts.old facts.new result }
     ensures within { IfOk result (λ chain. end_of chain.val ≤ length run.new.region.bytes) }
 {
     if chain.defined {
@@ -257,13 +243,11 @@ fn if_defined<F: Facts>(
     chain: Chain,
     text: &Tree,
 ) -> Result<Chain, ExpandFault>
-    ensures value { Evaluates run.new (F.asked facts.new) (λ chain. chain_view run.new.region.bytes chain) result
-        (λ answers. spec.if_defined (found_at room)
-        (here names.now.scopes.now names.now.locals.now (F.lists facts.old) run.old false answers)
-        (at run.old (F.asked facts.old)) (chain_view run.old.region.bytes chain) (tree_view text.now)) }
+    ensures value { Modifies F.Facts names.now run.old run.new facts.old facts.new result
+        (λ c p. spec.if_defined (found_at room) c p (chain_view run.old.region.bytes chain)
+        (tree_view text.now)) }
     ensures run { OnOk result (Extends run.old run.new) }
-    ensures facts { Asks (F.leads facts.old facts.new) (F.lists facts.old) (F.lists facts.new) (F.asked facts.old)
-        (F.asked facts.new) (F.faults facts.old) (F.faults facts.new) result }
+    ensures facts { AsksOf F.Facts facts.old facts.new result }
     ensures within { IfOk result (λ chain. end_of chain.val ≤ length run.new.region.bytes) }
 {
     if !chain.defined {
@@ -285,13 +269,10 @@ fn chosen<F: Facts>(
     yes: &Tree,
     no: &Tree,
 ) -> Result<Text, ExpandFault>
-    ensures value { Evaluates run.new (F.asked facts.new) (λ given. given) result
-        (λ answers. spec.chosen (found_at room)
-        (here names.now.scopes.now names.now.locals.now (F.lists facts.old) run.old false answers)
-        (at run.old (F.asked facts.old)) name.now (tree_view yes.now) (tree_view no.now)) }
+    ensures value { Finds F.Facts names.now false run.old run.new facts.old facts.new result
+        (λ c p. spec.chosen (found_at room) c p name.now (tree_view yes.now) (tree_view no.now)) }
     ensures run { OnOk result (Keeps run.old run.new) }
-    ensures facts { Asks (F.leads facts.old facts.new) (F.lists facts.old) (F.lists facts.new) (F.asked facts.old)
-        (F.asked facts.new) (F.faults facts.old) (F.faults facts.new) result }
+    ensures facts { AsksOf F.Facts facts.old facts.new result }
 {
     let cond = parse_cond(names.alloc, name, Form::Inner)?;
     if truth_of(names, run, facts, room, &cond)? {
@@ -312,18 +293,42 @@ fn each<F: Facts>(
     body: &Tree,
 ) -> Result<Chain, ExpandFault>
     requires { end_of chain.val ≤ length run.old.region.bytes }
-    ensures value { Evaluates run.new (F.asked facts.new) (λ chain. chain_view run.new.region.bytes chain) result
-        (λ answers. spec.each (found_at room)
-        (here names.now.scopes.now names.now.locals.now (F.lists facts.old) run.old false answers)
-        (at run.old (F.asked facts.old)) (chain_view run.old.region.bytes chain) variable.now (tree_view body.now)) }
+    ensures value { Modifies F.Facts names.now run.old run.new facts.old facts.new result
+        (λ c p. spec.each (found_at room) c p (chain_view run.old.region.bytes chain) variable.now
+        (tree_view body.now)) }
     ensures run { OnOk result (Extends run.old run.new) }
-    ensures facts { Asks (F.leads facts.old facts.new) (F.lists facts.old) (F.lists facts.new) (F.asked facts.old)
-        (F.asked facts.new) (F.faults facts.old) (F.faults facts.new) result }
+    ensures facts { AsksOf F.Facts facts.old facts.new result }
     ensures within { IfOk result (λ chain. end_of chain.val ≤ length run.new.region.bytes) }
 {
-    let words = word_pieces(names.alloc, &mut run.region, &chain.val)?;
-    let none = Results::new(names.alloc, &chain.val)?;
-    let results = each_behind(
+    let results = all_results(names, run, facts, room, &chain.val, variable, body)?;
+    Ok(Chain {
+        val: with_results(names.alloc, &mut run.region, &results)?,
+        defined: chain.defined,
+    })
+}
+
+// The results of the body of `:@` for the words of a value.
+#[cycle(value)]
+fn all_results<F: Facts>(
+    names: &Names<'_>,
+    run: &mut Run,
+    facts: &mut F,
+    room: usize,
+    val: &Val,
+    variable: &[u8],
+    body: &Tree,
+) -> Result<Results, ExpandFault>
+    requires { end_of val.now ≤ length run.old.region.bytes }
+    ensures value { Finds F.Facts names.now false run.old run.new facts.old facts.new result
+        (λ c p. spec.each_behind (found_at room) c p variable.now (tree_view body.now)
+        (no_results (seen run.old.region.bytes val.now))
+        (words_of (seen run.old.region.bytes val.now))) }
+    ensures run { OnOk result (Extends run.old run.new) }
+    ensures facts { AsksOf F.Facts facts.old facts.new result }
+{
+    let words = word_pieces(names.alloc, &mut run.region, val)?;
+    let none = Results::new(names.alloc, val)?;
+    each_behind(
         names,
         run,
         facts,
@@ -332,11 +337,7 @@ fn each<F: Facts>(
         body,
         none,
         words.as_slice(),
-    )?;
-    Ok(Chain {
-        val: with_results(names.alloc, &mut run.region, &results)?,
-        defined: chain.defined,
-    })
+    )
 }
 
 // The body of `:@` for each word, behind the results so far.
@@ -351,14 +352,11 @@ fn each_behind<F: Facts>(
     results: Results,
     words: &[Piece],
 ) -> Result<Results, ExpandFault>
-    ensures value { Evaluates run.new (F.asked facts.new) (λ given. given) result
-        (λ answers. spec.each_behind (found_at room)
-        (here names.now.scopes.now names.now.locals.now (F.lists facts.old) run.old false answers)
-        (at run.old (F.asked facts.old)) variable.now (tree_view body.now) results
+    ensures value { Finds F.Facts names.now false run.old run.new facts.old facts.new result
+        (λ c p. spec.each_behind (found_at room) c p variable.now (tree_view body.now) results
         (texts_of run.old.region.bytes words.now)) }
     ensures run { OnOk result (Keeps run.old run.new) }
-    ensures facts { Asks (F.leads facts.old facts.new) (F.lists facts.old) (F.lists facts.new) (F.asked facts.old)
-        (F.asked facts.new) (F.faults facts.old) (F.faults facts.new) result }
+    ensures facts { AsksOf F.Facts facts.old facts.new result }
 {
     let mut results = results;
     let mut binding = Binding::new(names.alloc, variable)?;
@@ -381,14 +379,12 @@ fn word_result<F: Facts>(
     binding: Binding,
     body: &Tree,
 ) -> Result<(Text, Binding), ExpandFault>
-    ensures value { Evaluates run.new (F.asked facts.new) (λ given. given.0) result
-        (λ answers. tree_value (found_at room) (while_bound
-        (here names.now.scopes.now names.now.locals.now (F.lists facts.old) run.old false answers)
-        binding.name binding.value) (at run.old (F.asked facts.old)) (tree_view body.now)) }
+    ensures value { FindsAs F.Facts names.now false run.old run.new facts.old facts.new
+        (λ given. given.0) result (λ c p. tree_value (found_at room)
+        (while_bound c binding.name binding.value) p (tree_view body.now)) }
     ensures binding { IfOk result (λ given. given.1 ≡ binding) }
     ensures run { OnOk result (Keeps run.old run.new) }
-    ensures facts { Asks (F.leads facts.old facts.new) (F.lists facts.old) (F.lists facts.new) (F.asked facts.old)
-        (F.asked facts.new) (F.faults facts.old) (F.faults facts.new) result }
+    ensures facts { AsksOf F.Facts facts.old facts.new result }
 {
     bind(&mut run.bound, binding)?;
     let result = tree_value(names, run, facts, room, false, body)?;
@@ -406,13 +402,11 @@ fn word_modified<F: Facts>(
     one: &ModTree,
 ) -> Result<Chain, ExpandFault>
     requires { end_of chain.val ≤ length run.old.region.bytes }
-    ensures value { Evaluates run.new (F.asked facts.new) (λ chain. chain_view run.new.region.bytes chain) result
-        (λ answers. spec.word_modified (found_at room)
-        (here names.now.scopes.now names.now.locals.now (F.lists facts.old) run.old false answers)
-        (at run.old (F.asked facts.old)) (chain_view run.old.region.bytes chain) (mod_view one.now)) }
+    ensures value { Modifies F.Facts names.now run.old run.new facts.old facts.new result
+        (λ c p. spec.word_modified (found_at room) c p (chain_view run.old.region.bytes chain)
+        (mod_view one.now)) }
     ensures run { OnOk result (Extends run.old run.new) }
-    ensures facts { Asks (F.leads facts.old facts.new) (F.lists facts.old) (F.lists facts.new) (F.asked facts.old)
-        (F.asked facts.new) (F.faults facts.old) (F.faults facts.new) result }
+    ensures facts { AsksOf F.Facts facts.old facts.new result }
     ensures within { IfOk result (λ chain. end_of chain.val ≤ length run.new.region.bytes) }
 {
     match modifier(names, run, facts, room, one)? {

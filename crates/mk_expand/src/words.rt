@@ -1,7 +1,7 @@
 //! The modifiers of words, with their texts evaluated.
 ghost use Rattle.std.specs.Prelude.{◌≡◌, false, Some, OnOk};
 ghost use Rattle.mk_ast.specs.View.{mod_view, part_view, tree_view};
-ghost use Rattle.mk_expand.specs.Calls.{Asks, Evaluates, Keeps, at, here};
+ghost use Rattle.mk_expand.specs.Calls.{AsksOf, Finds, FindsAs, Keeps};
 ghost use Rattle.mk_expand.specs.Chains as spec;
 ghost use Rattle.mk_expand.specs.Parts.{part_appended, tree_value};
 ghost use Rattle.mk_expand.specs.Substitutions.{old_in_part, old_in_tree, without_anchors};
@@ -29,13 +29,10 @@ pub fn modifier<F: Facts>(
     room: usize,
     one: &ModTree,
 ) -> Result<Option<Mod>, ExpandFault>
-    ensures value { Evaluates run.new (F.asked facts.new) (λ given. given) result
-        (λ answers. spec.mod_of (found_at room)
-        (here names.now.scopes.now names.now.locals.now (F.lists facts.old) run.old false answers)
-        (at run.old (F.asked facts.old)) (mod_view one.now)) }
+    ensures value { Finds F.Facts names.now false run.old run.new facts.old facts.new result
+        (λ c p. spec.mod_of (found_at room) c p (mod_view one.now)) }
     ensures run { OnOk result (Keeps run.old run.new) }
-    ensures facts { Asks (F.leads facts.old facts.new) (F.lists facts.old) (F.lists facts.new) (F.asked facts.old)
-        (F.asked facts.new) (F.faults facts.old) (F.faults facts.new) result }
+    ensures facts { AsksOf F.Facts facts.old facts.new result }
 {
     match one {
         ModTree::Keep(pattern) => {
@@ -70,13 +67,11 @@ fn substitution<F: Facts>(
     to: &Tree,
     flags: &[u8],
 ) -> Result<Mod, ExpandFault>
-    ensures value { Evaluates run.new (F.asked facts.new) (λ found. Some found) result
-        (λ answers. spec.subst_of (found_at room)
-        (here names.now.scopes.now names.now.locals.now (F.lists facts.old) run.old false answers)
-        (at run.old (F.asked facts.old)) (tree_view from.now) (tree_view to.now) flags.now) }
+    ensures value { FindsAs F.Facts names.now false run.old run.new facts.old facts.new
+        (λ found. Some found) result (λ c p. spec.subst_of (found_at room) c p (tree_view from.now)
+        (tree_view to.now) flags.now) }
     ensures run { OnOk result (Keeps run.old run.new) }
-    ensures facts { Asks (F.leads facts.old facts.new) (F.lists facts.old) (F.lists facts.new) (F.asked facts.old)
-        (F.asked facts.new) (F.faults facts.old) (F.faults facts.new) result }
+    ensures facts { AsksOf F.Facts facts.old facts.new result }
 {
     let old = old_text(names, run, facts, room, from)?;
     let new = new_text(names, run, facts, room, old.bytes(), to)?;
@@ -101,13 +96,11 @@ fn range<F: Facts>(
     room: usize,
     number: &Tree,
 ) -> Result<Mod, ExpandFault>
-    ensures value { Evaluates run.new (F.asked facts.new) (λ found. Some found) result
-        (λ answers. spec.with_text (found_at room)
-        (here names.now.scopes.now names.now.locals.now (F.lists facts.old) run.old false answers)
-        (at run.old (F.asked facts.old)) (tree_view number.now) Range) }
+    ensures value { FindsAs F.Facts names.now false run.old run.new facts.old facts.new
+        (λ found. Some found) result (λ c p. spec.with_text (found_at room) c p
+        (tree_view number.now) Range) }
     ensures run { OnOk result (Keeps run.old run.new) }
-    ensures facts { Asks (F.leads facts.old facts.new) (F.lists facts.old) (F.lists facts.new) (F.asked facts.old)
-        (F.asked facts.new) (F.faults facts.old) (F.faults facts.new) result }
+    ensures facts { AsksOf F.Facts facts.old facts.new result }
 {
     let text = tree_value(names, run, facts, room, false, number)?;
     Ok(Mod::Range(text))
@@ -123,13 +116,11 @@ fn suffix<F: Facts>(
     from: &Tree,
     to: &Tree,
 ) -> Result<Mod, ExpandFault>
-    ensures value { Evaluates run.new (F.asked facts.new) (λ found. Some found) result
-        (λ answers. spec.suffix_of (found_at room)
-        (here names.now.scopes.now names.now.locals.now (F.lists facts.old) run.old false answers)
-        (at run.old (F.asked facts.old)) (tree_view from.now) (tree_view to.now)) }
+    ensures value { FindsAs F.Facts names.now false run.old run.new facts.old facts.new
+        (λ found. Some found) result (λ c p. spec.suffix_of (found_at room) c p (tree_view from.now)
+        (tree_view to.now)) }
     ensures run { OnOk result (Keeps run.old run.new) }
-    ensures facts { Asks (F.leads facts.old facts.new) (F.lists facts.old) (F.lists facts.new) (F.asked facts.old)
-        (F.asked facts.new) (F.faults facts.old) (F.faults facts.new) result }
+    ensures facts { AsksOf F.Facts facts.old facts.new result }
 {
     let old = tree_value(names, run, facts, room, false, from)?;
     let new = tree_value(names, run, facts, room, false, to)?;
@@ -146,13 +137,10 @@ fn old_text<F: Facts>(
     room: usize,
     from: &Tree,
 ) -> Result<Text, ExpandFault>
-    ensures value { Evaluates run.new (F.asked facts.new) (λ given. given) result
-        (λ answers. tree_value (found_at room)
-        (here names.now.scopes.now names.now.locals.now (F.lists facts.old) run.old false answers)
-        (at run.old (F.asked facts.old)) (without_anchors (tree_view from.now))) }
+    ensures value { Finds F.Facts names.now false run.old run.new facts.old facts.new result
+        (λ c p. tree_value (found_at room) c p (without_anchors (tree_view from.now))) }
     ensures run { OnOk result (Keeps run.old run.new) }
-    ensures facts { Asks (F.leads facts.old facts.new) (F.lists facts.old) (F.lists facts.new) (F.asked facts.old)
-        (F.asked facts.new) (F.faults facts.old) (F.faults facts.new) result }
+    ensures facts { AsksOf F.Facts facts.old facts.new result }
 {
     let parts = without_end(from.as_slice());
     let mut text = Text::new(names.alloc);
@@ -175,13 +163,10 @@ fn new_text<F: Facts>(
     old: &[u8],
     to: &Tree,
 ) -> Result<Text, ExpandFault>
-    ensures value { Evaluates run.new (F.asked facts.new) (λ given. given) result
-        (λ answers. tree_value (found_at room)
-        (here names.now.scopes.now names.now.locals.now (F.lists facts.old) run.old false answers)
-        (at run.old (F.asked facts.old)) (old_in_tree old.now (tree_view to.now))) }
+    ensures value { Finds F.Facts names.now false run.old run.new facts.old facts.new result
+        (λ c p. tree_value (found_at room) c p (old_in_tree old.now (tree_view to.now))) }
     ensures run { OnOk result (Keeps run.old run.new) }
-    ensures facts { Asks (F.leads facts.old facts.new) (F.lists facts.old) (F.lists facts.new) (F.asked facts.old)
-        (F.asked facts.new) (F.faults facts.old) (F.faults facts.new) result }
+    ensures facts { AsksOf F.Facts facts.old facts.new result }
 {
     let mut text = Text::new(names.alloc);
     for part in to.as_slice() {
@@ -201,13 +186,11 @@ fn append_new<F: Facts>(
     old: &[u8],
     part: &Part,
 ) -> Result<(), ExpandFault>
-    ensures value { Evaluates run.new (F.asked facts.new) (λ done. text.new) result
-        (λ answers. part_appended (found_at room)
-        (here names.now.scopes.now names.now.locals.now (F.lists facts.old) run.old false answers)
-        (at run.old (F.asked facts.old)) text.old (old_in_part old.now (part_view part.now))) }
+    ensures value { FindsAs F.Facts names.now false run.old run.new facts.old facts.new
+        (λ done. text.new) result (λ c p. part_appended (found_at room) c p text.old
+        (old_in_part old.now (part_view part.now))) }
     ensures run { OnOk result (Keeps run.old run.new) }
-    ensures facts { Asks (F.leads facts.old facts.new) (F.lists facts.old) (F.lists facts.new) (F.asked facts.old)
-        (F.asked facts.new) (F.faults facts.old) (F.faults facts.new) result }
+    ensures facts { AsksOf F.Facts facts.old facts.new result }
 {
     match part {
         Part::Plain(bytes) => append_with_old(text, bytes.bytes(), old),

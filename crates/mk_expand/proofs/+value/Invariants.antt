@@ -79,8 +79,11 @@ decreases-modifiers::word_result g l = 4096 * l.room + 5
 abbrev pub decreases-modifiers::each_behind : goal.decreases-modifiers::each_behind
 decreases-modifiers::each_behind g l = 4096 * l.room + 6
 
+abbrev pub decreases-modifiers::all_results : goal.decreases-modifiers::all_results
+decreases-modifiers::all_results g l = 4096 * l.room + 7
+
 abbrev pub decreases-modifiers::each : goal.decreases-modifiers::each
-decreases-modifiers::each g l = 4096 * l.room + 7
+decreases-modifiers::each g l = 4096 * l.room + 8
 
 abbrev pub decreases-modifiers::chosen : goal.decreases-modifiers::chosen
 decreases-modifiers::chosen g l = 4096 * l.room + 2060
