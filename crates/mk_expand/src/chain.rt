@@ -8,13 +8,14 @@ ghost use Rattle.mk_expand.specs.Parts.{shown};
 ghost use Rattle.mk_expand.specs.Plain.{plain_found};
 ghost use Rattle.mk_expand.specs.View.{chain_view};
 ghost use Rattle.mk_mods.specs.Pieces.{end_of, Begins};
+ghost use Rattle.mk_mods.specs.State.{items_of};
 ghost use Rattle.mk_expand.specs.declared.fault.ExpandFault.TheVariants.{NoMemory as no_memory};
 
 use crate::fault::ExpandFault;
 use crate::limit::{MAX_TEXT, append};
 use crate::separator::separator_of;
 use mk_ast::{ModTree, Part, print_part};
-use mk_bytes::{Items, NoMemory, Text};
+use mk_bytes::{Items, NoMemory, Text, Texts};
 use mk_mods::{Mod, Val, placed_anew, with_items};
 use mk_pool::Region;
 use std::alloc::Global;
@@ -33,6 +34,17 @@ pub struct Chain {
     pub defined: bool,
 }
 
+// The one item that a text is, or none where it is empty.
+fn item_in(alloc: Global, text: Text) -> Result<Texts, NoMemory>
+    ensures { IfOk result (λ items. items ≡ items_of text) }
+{
+    let mut items = Items::new(alloc, 1)?;
+    if !text.is_empty() {
+        items.push(text)?;
+    }
+    Ok(items)
+}
+
 /// A text in place of the value: its one item, or none where it is empty. It is defined.
 pub fn given(
     alloc: Global,
@@ -45,10 +57,7 @@ pub fn given(
     ensures within { IfOk result (λ new. end_of new.val ≤ length region.new.bytes) }
     ensures begins { Begins region.old.bytes region.new.bytes }
 {
-    let mut items = Items::new(alloc, 1)?;
-    if !text.is_empty() {
-        items.push(text)?;
-    }
+    let items = item_in(alloc, text)?;
     Ok(Chain {
         val: with_items(alloc, region, chain.val, &items)?,
         defined: true,
