@@ -3,7 +3,7 @@ ghost use Rattle.std.specs.Prelude.{◌≡◌, IfOk};
 ghost use Rattle.std.specs.Option.{option_copied};
 ghost use Rattle.mk_world.specs.declared.step.Deed.TheVariants.{Move};
 
-use mk_bytes::{Items, NoMemory, Pair, Pairs, Text};
+use mk_bytes::{NoMemory, Text, copy_pairs};
 use mk_world::{Cmd, Deed};
 use std::alloc::Global;
 
@@ -17,25 +17,6 @@ pub fn copy_bytes(alloc: Global, bytes: Option<&Text>) -> Result<Option<Text>, N
     }
 }
 
-fn copy_pair(alloc: Global, pair: &Pair) -> Result<Pair, NoMemory>
-    ensures { IfOk result (λ copy. copy ≡ pair.now) }
-{
-    Ok(Pair {
-        name: pair.name.copy(alloc)?,
-        value: pair.value.copy(alloc)?,
-    })
-}
-
-fn copy_pairs(alloc: Global, pairs: &Pairs) -> Result<Pairs, NoMemory>
-    ensures { IfOk result (λ copies. copies ≡ pairs.now) }
-{
-    let mut copies = Items::new(alloc, 0)?;
-    for pair in pairs.as_slice() {
-        copies.push(copy_pair(alloc, pair)?)?;
-    }
-    Ok(copies)
-}
-
 /// A command.
 pub fn copy_cmd(alloc: Global, cmd: &Cmd) -> Result<Cmd, NoMemory>
     ensures { IfOk result (λ copy. copy ≡ cmd.now) }
@@ -43,7 +24,7 @@ pub fn copy_cmd(alloc: Global, cmd: &Cmd) -> Result<Cmd, NoMemory>
     Ok(Cmd {
         text: cmd.text.copy(alloc)?,
         cwd: cmd.cwd.copy(alloc)?,
-        exports: copy_pairs(alloc, &cmd.exports)?,
+        exports: copy_pairs(alloc, cmd.exports.as_slice())?,
     })
 }
 

@@ -2,17 +2,10 @@
 ghost use Rattle.std.specs.Prelude.{◌≡◌, ◌∷◌, ◌++◌, position, slice_get, IfOk, OnOk};
 ghost use Rattle.std.specs.Option.{option_copied};
 ghost use Rattle.std.specs.List.{slice_split};
-ghost use Rattle.mk_bytes.specs.Words.{is_white};
 ghost use Rattle.mk_memworld.specs.Words as spec;
 
-use mk_bytes::{NoMemory, Text};
+use mk_bytes::{NoMemory, Text, is_white};
 use std::alloc::Global;
-
-fn is_white(byte: u8) -> bool
-    ensures { result ≡ is_white byte }
-{
-    byte == b' ' || byte == b'\t' || byte == b'\n'
-}
 
 /// The words of a text, cut at spaces, tabs and newlines.
 pub fn words_of<'t>(alloc: Global, text: &'t [u8]) -> Result<Vec<&'t [u8]>, NoMemory>
