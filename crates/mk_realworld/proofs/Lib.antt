@@ -1,1 +1,2 @@
 pub mod KidLemmas
+pub mod KnownLemmas

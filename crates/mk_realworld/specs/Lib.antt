@@ -1,1 +1,2 @@
 pub mod ChildFiles
+pub mod Known

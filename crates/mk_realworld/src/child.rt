@@ -62,6 +62,7 @@ impl<P: OpenProcess + Drop> RealKid<P> {
         ticket: Ticket,
         cmd: &Cmd,
     ) -> Result<RealKid<P>, Refusal> {
+        system.times.forget();
         let slot = system.slots.take()?;
         match RealKid::start_in(system, slot, streams, ticket, cmd) {
             Ok(kid) => {

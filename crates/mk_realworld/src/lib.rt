@@ -9,6 +9,7 @@ mod child;
 mod child_files;
 mod count;
 mod file;
+mod known;
 mod refusal;
 mod room;
 mod shell;

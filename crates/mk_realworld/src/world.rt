@@ -1,7 +1,7 @@
 ghost use Rattle.std.specs.Prelude.{◌≡◌, IfOk};
 
 use crate::child::{RealKid, run, wait_over};
-use crate::file::{file_text, file_time, remove_file};
+use crate::file::{file_text, remove_file};
 use crate::refusal::counted;
 use crate::shell::Streams;
 use crate::system::System;
@@ -62,9 +62,10 @@ impl<R: Files<File = File> + Processes + Clock + AllocGlobal> World for RealWorl
         }
     }
 
-    /// The time of a file or directory, in nanoseconds.
+    /// The time of a file or directory, in nanoseconds. While no child runs, the system is asked once for
+    /// a path, until make changes a file or starts a child.
     fn time(&mut self, _: Global, path: &[u8]) -> Result<When, WorldFault> {
-        match file_time(&self.system.rt, path) {
+        match self.system.time(path) {
             Ok(when) => Ok(when),
             Err(refusal) => Err(counted(refusal, &mut self.faults)),
         }
@@ -103,6 +104,7 @@ impl<R: Files<File = File> + Processes + Clock + AllocGlobal> World for RealWorl
 
     /// Removes a file. A directory is a counted fault.
     fn remove(&mut self, _: Global, path: &[u8]) -> Result<(), WorldFault> {
+        self.system.times.forget();
         match remove_file(&self.system.rt, path) {
             Ok(()) => Ok(()),
             Err(refusal) => Err(counted(refusal, &mut self.faults)),

@@ -150,6 +150,7 @@ pub fn write_later<R: Files + Clock>(
     if bytes.len() > MAX_FILE {
         return Err(Refusal::Outside);
     }
+    system.times.forget();
     for _ in 0..TRIES {
         let time = write_once(&system.rt, system.buffer.as_mut_slice(), path, bytes)?;
         if time.0 > after.0 {
