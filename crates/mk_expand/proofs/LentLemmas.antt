@@ -5,12 +5,13 @@ use Rattle.std.proofs.lemmas.Bool.Decides.{nat_tests}
 use Rattle.mk_ast.specs.Tree as tree
 use Rattle.mk_ast.specs.Tree.{no_mods}
 use Rattle.mk_bytes.specs.Agrees.{Agrees}
+use Rattle.mk_bytes.specs.Texts.{is_among}
 use Rattle.mk_bytes.specs.declared.pair.Pair.{Pair}
 use Rattle.mk_expand.specs.Calls.{Gives}
 use Rattle.mk_expand.specs.Chains.{chained, defined_as}
 use Rattle.mk_expand.specs.Evaluators.{Answer, Counted, Finder, Progress, ◌>>=◌, answer_then, behind, gives, tried}
 use Rattle.mk_expand.specs.Limits.{appended, max_text}
-use Rattle.mk_expand.specs.Names.{Context, in_name, is_among, last_value, raw_of}
+use Rattle.mk_expand.specs.Names.{Context, in_name, last_value, raw_of}
 use Rattle.mk_expand.specs.Parts.{reference_appended, shown}
 use Rattle.mk_expand.specs.Steps.{IsNamed, Lends}
 use Rattle.mk_expand.specs.Texts.{has_dollar}

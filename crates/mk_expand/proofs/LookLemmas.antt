@@ -1,5 +1,6 @@
 -- Each step of an evaluation is the same where the raw values of the names that are looked up are.
 use Rattle.std.proofs.Common.{ℕ, zero, suc, nat_lt, List, [], ◌∷◌, Option, Some, None, Err}
+use Rattle.mk_bytes.specs.Texts.{is_among}
 use Rattle.mk_ast.specs.Tree as tree
 use Rattle.mk_ast.specs.Tree.{Tree, Part, Mods, end, part, plain, escaped, double, lone, short, ref}
 use Rattle.mk_ast.specs.Tree.{no_mods, mod_then}
@@ -20,7 +21,7 @@ use Rattle.mk_expand.specs.Evaluators.{Counted, Finder, Progress, gives, with_re
 use Rattle.mk_expand.specs.Limits.{max_open, max_references}
 use Rattle.mk_expand.specs.Looks.{ConditionsAreByNames, Raw, TreesAreByNames, with_raw}
 use Rattle.mk_expand.specs.ModFaults.{with_fault}
-use Rattle.mk_expand.specs.Names.{Context, in_name, is_among, is_defined, last_value, or_below}
+use Rattle.mk_expand.specs.Names.{Context, in_name, is_defined, last_value, or_below}
 use Rattle.mk_expand.specs.Names.{while_bound, while_open}
 use Rattle.mk_expand.specs.Parts as joint
 use Rattle.mk_expand.specs.Parts.{shown, double_value}

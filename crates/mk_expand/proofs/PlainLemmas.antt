@@ -6,6 +6,7 @@ use Rattle.std.proofs.lemmas.Bool.{or_parts}
 use Rattle.std.proofs.lemmas.List.{append-nil}
 use Rattle.mk_bytes.specs.Agrees.{AgreesErr}
 use Rattle.mk_bytes.specs.Bytes.{dollar, backslash}
+use Rattle.mk_bytes.specs.Texts.{is_among}
 use Rattle.mk_ast.specs.Tree.{end, part, plain}
 use Rattle.mk_ast.specs.Places.{is_escape}
 use Rattle.mk_ast.specs.References.{tree_of_text}
@@ -21,7 +22,7 @@ use Rattle.mk_expand.specs.Conditions.{side_value}
 use Rattle.mk_expand.specs.Limits.{appended, max_text}
 use Rattle.mk_expand.specs.Chains.{defined_as, undefined}
 use Rattle.mk_expand.specs.Plain.{found_of, plain_found}
-use Rattle.mk_expand.specs.Names.{Context, is_among, raw_of, while_open}
+use Rattle.mk_expand.specs.Names.{Context, raw_of, while_open}
 use Rattle.mk_expand.specs.Parts.{text_value, tree_value, joined}
 use Rattle.mk_expand.specs.Texts.{has_dollar, with_fault, parsed}
 use Rattle.mk_expand.specs.Value.{opened_value, variable}

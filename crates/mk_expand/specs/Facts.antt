@@ -7,6 +7,8 @@ use Rattle.mk_bytes.specs.Agrees.{AgreesBut}
 use Rattle.mk_cond.specs.declared.cond.Fun.{Fun}
 use Rattle.mk_cond.specs.declared.cond.Fun.TheVariants.{Make, Exists, Target, Commands}
 use Rattle.mk_glob.specs.Patterns.{matches}
+use Rattle.mk_world.specs.declared.fault.WorldFault.{WorldFault}
+use Rattle.mk_world.specs.declared.fault.WorldFault.TheVariants as world
 use Rattle.mk_expand.specs.declared.facts.Asked.{Asked}
 use Rattle.mk_expand.specs.declared.facts.FactFault.{FactFault}
 use Rattle.mk_expand.specs.declared.facts.FactFault.TheVariants as of_facts
@@ -67,6 +69,11 @@ asked_with asked fun argument answer = asked
 pub record AsksMore (old new : List Asked) : Type 0 where
   pub more : List Asked
   pub added : new ≡ old ++ more
+
+-- how a fault of the world is answered
+abbrev pub of_world : WorldFault → FactFault
+of_world world.Failed = of_facts.Failed
+of_world world.NoMemory = of_facts.NoMemory
 
 abbrev pub of_fact : FactFault → ExpandFault
 of_fact of_facts.Failed = Failed

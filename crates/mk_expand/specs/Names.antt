@@ -1,7 +1,6 @@
 -- What a name stands for: a variable of `:@`, a local name, or a variable of a class.
 use Rattle.std.specs.Prelude.{ℕ, ◌||◌, Bool, true, false, List, [], ◌∷◌, ◌++◌, Option, Some, None}
 use Rattle.std.specs.Prelude.{is_some, Result, Ok, Err, if◌then◌else◌}
-use Rattle.std.specs.List.{list_any}
 use Rattle.std.specs.Str.{bytes_eq}
 use Rattle.mk_bytes.specs.Agrees.{◌>>=◌}
 use Rattle.mk_bytes.specs.declared.pair.Pair.{Pair}
@@ -59,9 +58,6 @@ while_open c name = record c { open_names = c.open_names ++ name ∷ [] }
 abbrev pub while_bound : Context → List ℕ → List ℕ → Context
 while_bound c name word =
     record c { bound = c.bound ++ record { name = name; value = word } ∷ [] }
-
-abbrev pub is_among : List (List ℕ) → List ℕ → Bool
-is_among names name = list_any (λ one. bytes_eq one name) names
 
 -- the value of a name among those of `:@`, where the last of a name counts
 abbrev pub last_value : List Pair → List ℕ → Option (List ℕ)

@@ -1,6 +1,7 @@
 -- The value of a text, and the truth of a condition.
 use Rattle.std.specs.Prelude.{ℕ, zero, suc, Bool, false, nat_lt, List, [], ◌∷◌, Option, Some, None}
 use Rattle.std.specs.Prelude.{Result, Ok, Err}
+use Rattle.mk_bytes.specs.Texts.{is_among}
 use Rattle.mk_ast.specs.Tree.{Tree, Part, Mods, short, ref}
 use Rattle.mk_cond.specs.Cond.{Cond}
 use Rattle.mk_scopes.specs.Scopes.{Variables}
@@ -11,7 +12,7 @@ use Rattle.mk_expand.specs.Evaluators.{progress, tried, with_reference}
 use Rattle.mk_expand.specs.Facts.{Answers, Lists}
 use Rattle.mk_expand.specs.declared.facts.Asked.{Asked}
 use Rattle.mk_expand.specs.Limits.{max_open, max_references}
-use Rattle.mk_expand.specs.Names.{Context, context, in_name, while_open, is_among, raw_of}
+use Rattle.mk_expand.specs.Names.{Context, context, in_name, while_open, raw_of}
 use Rattle.mk_expand.specs.Parts.{tree_value, text_value}
 use Rattle.mk_expand.specs.declared.chain.Found.{Found}
 use Rattle.mk_expand.specs.declared.fault.ExpandFault.{ExpandFault}

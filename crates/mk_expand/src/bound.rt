@@ -7,10 +7,9 @@ ghost use Rattle.mk_expand.specs.Names as spec;
 ghost use Rattle.mk_expand.specs.Steps.{IsNamed, Lends};
 
 use crate::limit::MAX_TEXT;
-use crate::name::is_among;
 use crate::plain::{has_dollar, plain_bytes};
 use mk_ast::Part;
-use mk_bytes::{NoMemory, Text, Texts};
+use mk_bytes::{NoMemory, Text, is_among};
 use std::alloc::Global;
 use std::marker::Model;
 
@@ -114,7 +113,7 @@ fn plain_name<'t>(part: &'t Part) -> Option<&'t [u8]>
 
 /// The word that a reference without modifiers finds: that of a variable of `:@` that is not open,
 /// where the word has no `$`.
-pub fn lent_word<'b>(open_names: &Texts, bound: &'b [Binding], part: &Part) -> Option<&'b [u8]>
+pub fn lent_word<'b>(open_names: &[Text], bound: &'b [Binding], part: &Part) -> Option<&'b [u8]>
     ensures { IfSome result (λ word.
         Lends open_names.now bound.now (part_view part.now) word.now) }
 {

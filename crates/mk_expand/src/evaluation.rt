@@ -13,10 +13,10 @@ use crate::facts::Facts;
 use crate::fault::ExpandFault;
 use crate::limit::{append, open_reference};
 use crate::modifiers::chained;
-use crate::name::{Names, is_among, known, raw_above};
+use crate::name::{Names, known, raw_above};
 use crate::plain::{double, has_dollar, plain_bytes, plain_value};
 use mk_ast::{ModTrees, Part, Tree, parse};
-use mk_bytes::{Text, Texts};
+use mk_bytes::{Text, Texts, is_among};
 use mk_pool::Region;
 
 /// How far an evaluation is: the variables whose values are being expanded, the variables of `:@`
@@ -142,7 +142,7 @@ fn append_reference<F: Facts>(
     ensures run { OnOk result (Keeps run.old run.new) }
     ensures facts { AsksOf F.Facts facts.old facts.new result }
 {
-    if let Some(word) = lent_word(&run.open_names, run.bound.as_slice(), part) {
+    if let Some(word) = lent_word(run.open_names.as_slice(), run.bound.as_slice(), part) {
         open_reference(&mut run.references, room)?;
         return append(text, word);
     }
@@ -253,7 +253,7 @@ fn variable<F: Facts>(
     ensures run { OnOk result (Keeps run.old run.new) }
     ensures facts { AsksOf F.Facts facts.old facts.new result }
 {
-    if is_among(&run.open_names, name) {
+    if is_among(run.open_names.as_slice(), name) {
         return Err(ExpandFault::Recursive(Text::from_bytes(names.alloc, name)?));
     }
     if let Some(raw) = raw_above(names, run.bound.as_slice(), name)? {

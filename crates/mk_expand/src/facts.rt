@@ -7,6 +7,7 @@ ghost use Rattle.mk_world.specs.Causes.{HasCause};
 
 use mk_bytes::{NoMemory, Text};
 use mk_cond::Fun;
+use mk_world::WorldFault;
 use std::alloc::Global;
 
 /// A path that `exists` was asked of, and the answer.
@@ -35,6 +36,20 @@ impl From<NoMemory> for FactFault {
 
     fn from(_: NoMemory) -> FactFault {
         FactFault::NoMemory
+    }
+}
+
+impl From<WorldFault> for FactFault {
+    ghost use Rattle.std.specs.Prelude.{◌≡◌};
+    ghost use Rattle.mk_expand.specs.Facts.{of_world};
+
+    ghost from_gives = { λ given fault. fault ≡ of_world given };
+
+    fn from(fault: WorldFault) -> FactFault {
+        match fault {
+            WorldFault::Failed => FactFault::Failed,
+            WorldFault::NoMemory => FactFault::NoMemory,
+        }
     }
 }
 

@@ -8,7 +8,7 @@ ghost use Rattle.mk_expand.specs.declared.fault.ExpandFault.TheVariants.{NoMemor
 use crate::bound::{Binding, last_value};
 use crate::fault::ExpandFault;
 use crate::local::{Locals, local_raw};
-use mk_bytes::{Text, Texts};
+use mk_bytes::Text;
 use mk_scopes::Scopes;
 use std::alloc::Global;
 
@@ -18,12 +18,6 @@ pub struct Names<'n> {
     pub alloc: Global,
     pub scopes: &'n Scopes,
     pub locals: &'n Locals,
-}
-
-pub fn is_among(names: &Texts, name: &[u8]) -> bool
-    ensures { result ≡ spec.is_among names.now name.now }
-{
-    names.as_slice().iter().any(|one| one.bytes() == name)
 }
 
 /// The raw value of a variable. The empty name has none.

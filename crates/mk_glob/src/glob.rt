@@ -1,9 +1,11 @@
 //! The match of a pattern with a word.
 ghost use Rattle.std.specs.Prelude.{◌≡◌};
+ghost use Rattle.std.specs.List.{list_any};
 ghost use Rattle.mk_glob.specs.Patterns as spec;
 ghost use Rattle.mk_glob.specs.Heads.{TellsOf, IsShorter};
 
 use crate::part::{Part, Pattern};
+use mk_bytes::Text;
 
 // How far a pattern goes with a word before its next `*`.
 enum Head<'p, 'w> {
@@ -75,4 +77,11 @@ pub fn matches(pattern: &[u8], word: &[u8]) -> bool
         Head::Settled(answer) => answer,
         Head::AtStar(after, left) => matches_some_end(after, left),
     }
+}
+
+/// Whether a pattern matches one of these texts. Takes no memory.
+pub fn matches_one_of(pattern: &[u8], texts: &[Text]) -> bool
+    ensures { result ≡ list_any (spec.matches pattern.now) texts.now }
+{
+    texts.iter().any(|text| matches(pattern, text.bytes()))
 }

@@ -9,4 +9,4 @@ mod glob;
 mod part;
 mod set;
 
-pub use glob::matches;
+pub use glob::{matches, matches_one_of};

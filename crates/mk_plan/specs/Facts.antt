@@ -1,12 +1,8 @@
 -- What conditions ask of the makefiles that were read.
 use Rattle.std.specs.Prelude.{ℕ, List, [], ◌∷◌}
 use Rattle.mk_expand.specs.Facts.{Lists}
-use Rattle.mk_expand.specs.declared.facts.FactFault.{FactFault}
-use Rattle.mk_expand.specs.declared.facts.FactFault.TheVariants as facts
 use Rattle.mk_graph.specs.Where.{has_commands, is_target, names_where}
 use Rattle.mk_graph.specs.declared.Made.{Made}
-use Rattle.mk_world.specs.declared.fault.WorldFault.{WorldFault}
-use Rattle.mk_world.specs.declared.fault.WorldFault.TheVariants as world
 
 -- the requested names, or where there are none the main targets
 abbrev pub wanted_of : List (List ℕ) → List (List ℕ) → List (List ℕ)
@@ -20,8 +16,3 @@ lists_of made requested = record {
   targets = names_where is_target made.graph;
   with_commands = names_where has_commands made.graph;
 }
-
--- how a fault of the world is answered
-abbrev pub of_world : WorldFault → FactFault
-of_world world.Failed = facts.Failed
-of_world world.NoMemory = facts.NoMemory

@@ -12,9 +12,9 @@ ghost use Rattle.mk_world.specs.Causes.{HasCause};
 use mk_bytes::{Text, Texts};
 use mk_cond::Fun;
 use mk_expand::{Asked, FactFault, Facts};
-use mk_glob::matches;
+use mk_glob::matches_one_of;
 use mk_graph::Made;
-use mk_world::{World, WorldFault};
+use mk_world::World;
 use std::alloc::Global;
 
 /// What conditions ask: `make` of the requested names, or of the main targets where there are none,
@@ -28,33 +28,15 @@ pub struct MadeFacts<'a, W: World> {
     asked: &'a mut Vec<Asked>,
 }
 
-fn of_world(fault: WorldFault) -> FactFault
-    ensures { result ≡ spec.of_world fault }
-{
-    match fault {
-        WorldFault::Failed => FactFault::Failed,
-        WorldFault::NoMemory => FactFault::NoMemory,
-    }
-}
-
-fn is_among(names: &Texts, pattern: &[u8]) -> bool
-    ensures { result ≡ list_any (patterns.matches pattern.now) names.now }
-{
-    names
-        .as_slice()
-        .iter()
-        .any(|name| matches(pattern, name.bytes()))
-}
-
 // Whether a pattern matches a requested name, or a main target where none is requested.
 fn is_wanted(main: &Texts, requested: &Texts, pattern: &[u8]) -> bool
     ensures { result ≡ list_any (patterns.matches pattern.now)
         (spec.wanted_of main.now requested.now) }
 {
     if requested.is_empty() {
-        return is_among(main, pattern);
+        return matches_one_of(pattern, main.as_slice());
     }
-    is_among(requested, pattern)
+    matches_one_of(pattern, requested.as_slice())
 }
 
 impl<'a, W: World> MadeFacts<'a, W> {
@@ -106,7 +88,7 @@ impl<'a, W: World> MadeFacts<'a, W> {
                 self.asked.push(Asked { path, answer }).unwrap();
                 Ok(answer)
             }
-            Err(fault) => Err(of_world(fault)),
+            Err(fault) => Err(FactFault::from(fault)),
         }
     }
 }

@@ -14,9 +14,9 @@ use crate::note::Note;
 use mk_bytes::{Text, Texts};
 use mk_cond::Fun;
 use mk_expand::{FactFault, Facts};
-use mk_glob::matches;
+use mk_glob::{matches, matches_one_of};
 use mk_rules::Rules;
-use mk_world::{World, WorldFault};
+use mk_world::World;
 use std::alloc::Global;
 use std::snapshot::Snapshot;
 
@@ -31,34 +31,16 @@ pub struct ReadFacts<'a, W: World> {
     pub notes: &'a mut Vec<Note>,
 }
 
-fn of_world(fault: WorldFault) -> FactFault
-    ensures { result ≡ spec.of_world fault }
-{
-    match fault {
-        WorldFault::Failed => FactFault::Failed,
-        WorldFault::NoMemory => FactFault::NoMemory,
-    }
-}
-
-fn is_among(names: &Texts, pattern: &[u8]) -> bool
-    ensures { result ≡ list_any (patterns.matches pattern.now) names.now }
-{
-    names
-        .as_slice()
-        .iter()
-        .any(|name| matches(pattern, name.bytes()))
-}
-
 // Whether a pattern matches a requested name, or a main target so far where none is requested.
 fn is_wanted(rules: &Rules, requested: &Texts, pattern: &[u8]) -> bool
     ensures { result ≡ list_any (patterns.matches pattern.now)
         (spec.wanted_of rules.now requested.now) }
 {
     if !requested.is_empty() {
-        return is_among(requested, pattern);
+        return matches_one_of(pattern, requested.as_slice());
     }
     if !rules.main().is_empty() {
-        return is_among(rules.main(), pattern);
+        return matches_one_of(pattern, rules.main().as_slice());
     }
     match rules.first_main() {
         Some(name) => matches(pattern, name),
@@ -95,7 +77,7 @@ impl<'a, W: World> ReadFacts<'a, W> {
                     .unwrap();
                 Ok(!when.is_missing())
             }
-            Err(fault) => Err(of_world(fault)),
+            Err(fault) => Err(FactFault::from(fault)),
         }
     }
 }

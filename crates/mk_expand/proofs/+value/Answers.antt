@@ -457,13 +457,13 @@ pub evaluation::variable-returns-then-not-has_dollar-clause-value : goal.evaluat
 evaluation::variable-returns-then-not-has_dollar-clause-value g t c =
     let raw = c.in-Some.raw in
     let plain = rw c.bytes.ensures.value at (sym c.has_dollar.ensures ∙ c.if-not-has_dollar.true) in
-    let among = sym c.is_among.ensures ∙ c.if-is_among.false in
+    let among = rw c.as_slice.ensures.value at (sym c.is_among.ensures ∙ c.if-is_among.false) in
     λ answers by.
     let here = here c.args.names.now.scopes.now c.args.names.now.locals.now
     (g.F.Facts.lists c.args.facts.now) c.args.run.now c.args.keep answers in
     let p = at c.args.run.now (g.F.Facts.asked c.args.facts.now) in
     let name = c.args.name.now in
-    let above = rw (c.as_slice.ensures.value, c.in-Some.is) at c.in_ok-raw.ensures in
+    let above = rw (c.as_slice-2.ensures.value, c.in-Some.is) at c.in_ok-raw.ensures in
     let raw_is = raw_of-above c.args.names.now.scopes.now c.args.names.now.locals.now
     c.args.run.now.bound.items name raw above in
     rw (ap (λ one. one.answer) (variable-plain (found_at c.args.room) here p name raw among raw_is plain))
@@ -472,21 +472,21 @@ evaluation::variable-returns-then-not-has_dollar-clause-value g t c =
 pub evaluation::variable-returns-in_err-raw-clause-value : goal.evaluation::variable-returns-in_err-raw-clause-value
 evaluation::variable-returns-in_err-raw-clause-value g t c =
     let p = err_from_is_err_and c.from_residual-in_err-raw.result c.from_residual-in_err-raw.ensures.1 in
-    let among = sym c.is_among.ensures ∙ c.if-is_among.false in
+    let among = rw c.as_slice.ensures.value at (sym c.is_among.ensures ∙ c.if-is_among.false) in
     rw (p.1, p.2) (λ answers by.
     let here = here c.args.names.now.scopes.now c.args.names.now.locals.now
     (g.F.Facts.lists c.args.facts.now) c.args.run.now c.args.keep answers in
     variable-fault (found_at c.args.room) here (at c.args.run.now (g.F.Facts.asked c.args.facts.now))
     c.args.name.now _ among
     (raw_of-fault c.args.names.now.scopes.now c.args.names.now.locals.now c.args.run.now.bound.items
-    c.args.name.now _ (rw c.as_slice.ensures.value at c.in_err-raw.ensures)))
+    c.args.name.now _ (rw c.as_slice-2.ensures.value at c.in_err-raw.ensures)))
 
 pub evaluation::variable-returns-in_err-raw-clause-facts : goal.evaluation::variable-returns-in_err-raw-clause-facts
 evaluation::variable-returns-in_err-raw-clause-facts g t c =
     let p = err_from_is_err_and c.from_residual-in_err-raw.result c.from_residual-in_err-raw.ensures.1 in
     rw (p.1, p.2)
     (Asks-none (g.met.F.Facts.stays _) _ _ _ _ (err_never _ (fault_never _ _ c.in_err-raw.ensures
-    (never-raw_above c.args.names.now.locals.now c.as_slice.result.now c.args.name.now))))
+    (never-raw_above c.args.names.now.locals.now c.as_slice-2.result.now c.args.name.now))))
 
 pub words::modifier-returns-in_err-tree_value-in-Keep-clause-value : goal.words::modifier-returns-in_err-tree_value-in-Keep-clause-value
 words::modifier-returns-in_err-tree_value-in-Keep-clause-value g t c =
