@@ -153,6 +153,21 @@ row shows='a target that is no older than its sources is kept' \
     after='holds t "old
 "'
 
+row shows='what a command changes is seen behind it, also where it was looked at before' \
+    before='for f in a h t u v; do echo 1 >$f; done; touch -d 2001-01-01 h t; touch -d 2002-01-01 a u v' \
+    makefile=$'all: v t u\nv: h\n\tcp h v\nt: a\n\techo 2 > h; cp a t\nu: h\n\tcp h u\n' \
+    out=$'echo 2 > h; cp a t\ncp h u\n'
+
+if strace -o "$room/trace" true 2>/dev/null && [ -s "$room/trace" ]; then
+    row shows='the time of a path is asked once while no command runs' \
+        before='for f in h t u v; do echo 1 >$f; done; touch -d 2001-01-01 h' \
+        makefile=$'all: t u v\nt u v: h\n\tcp h $@\n' \
+        run='strace -o trace "$program"' \
+        after='[ "$(grep -c "stat.*\"h\"" trace)" = 1 ]'
+else
+    echo 'skipped: how often times are asked for (there is no strace, or it may not trace here)'
+fi
+
 row shows='each command is a shell of its own, in the directory of the program' \
     before='mkdir d' \
     makefile=$'t:\n\t@cd d; A=1; echo 1 > t\n\t@echo "$${A-none}" > t\n' \
