@@ -1,6 +1,8 @@
 //! Meta files as they are read.
 ghost use Rattle.std.specs.Prelude.{◌≡◌, Some, IfOk, IfSome};
 ghost use Rattle.std.specs.Option.{option_map};
+ghost use Rattle.std.specs.Cmp.Lexicographic.{slice_cmp};
+ghost use Rattle.std.specs.Ordering.{is_lt, nat_cmp};
 ghost use Rattle.std.specs.Str.{bytes_eq};
 ghost use Rattle.mk_meta.specs.Lawful as lawful;
 ghost use Rattle.mk_meta.specs.Reading as spec;
@@ -69,11 +71,18 @@ fn read_output<'t>(text: &'t [u8]) -> Option<(&'t [u8], &'t [u8])>
     read_bytes(count, rest)
 }
 
+// Whether a name comes before another one, byte by byte.
+fn is_less(name: &[u8], other: &[u8]) -> bool
+    ensures { result ≡ is_lt (slice_cmp nat_cmp name.now other.now) }
+{
+    name < other
+}
+
 fn is_before(pair: &Pair, rest: &[Pair]) -> bool
     ensures { result ≡ lawful.is_before pair.now rest.now }
 {
     match rest.split_first() {
-        Some((next, _)) => pair.name.bytes().cmp(next.name.bytes()).is_lt(),
+        Some((next, _)) => is_less(pair.name.bytes(), next.name.bytes()),
         None => true,
     }
 }

@@ -160,6 +160,23 @@ impl<P: OpenProcess + Drop> RealKid<P> {
         Ok(Told { output, records })
     }
 
+    // What it comes to, when it has ended.
+    fn taken_in<R: Files<File = File> + AllocGlobal>(
+        &mut self,
+        system: &mut System<R>,
+    ) -> Result<Ended, Refusal>
+        ensures { IfOk result (λ ended. ended.ticket.0 ≡ 0) }
+    {
+        let status = self.wait()?;
+        let Told { output, records } = self.told(system)?;
+        Ok(Ended {
+            ticket: Ticket(0),
+            status,
+            output,
+            records,
+        })
+    }
+
     /// Ends it, takes it in, and removes its files.
     pub fn give_up<R: Files>(mut self, rt: &R) {
         if self.child.kill().is_ok() {
@@ -264,12 +281,5 @@ pub fn run<R: Processes + Files<File = File> + AllocGlobal>(
     ensures { IfOk result (λ ended. ended.ticket.0 ≡ 0) }
 {
     let mut kid = RealKid::start(system, Streams::OutputAlone, Ticket(0), cmd)?;
-    let status = kid.wait()?;
-    let Told { output, records } = kid.told(system)?;
-    Ok(Ended {
-        ticket: Ticket(0),
-        status,
-        output,
-        records,
-    })
+    kid.taken_in(system)
 }

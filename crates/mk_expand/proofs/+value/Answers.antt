@@ -376,7 +376,8 @@ evaluation::append_reference-returns-in-Some-clause-value g t c =
     let one = part_view c.args.part.now in
     let may = found-may c.args.room c.args.run.now.references c.open_reference.new.references asked here one
     c.in_ok-open_reference.ensures.ok in
-    let lent = c.in-Some.ensures (found_at (c.args.room - 1)) here q refl (sym c.as_slice.ensures.value) in
+    let lent = c.in-Some.ensures (found_at (c.args.room - 1)) here q (sym c.as_slice.ensures.value)
+    (sym c.as_slice-2.ensures.value) in
     gives-lent (found_at c.args.room) here p q c.args.text.now one c.in-Some.word.now
     (λ done. c.append.new.text) c.append.result
     (ap (λ (found : Counted Found). found.answer) may ∙ lent) c.append.ensures
