@@ -7,8 +7,6 @@ mod command_line;
 #[cfg(test)]
 mod conditions;
 #[cfg(test)]
-mod facts;
-#[cfg(test)]
 mod kids;
 #[cfg(test)]
 mod lines;
@@ -38,8 +36,6 @@ mod rows;
 mod sinks;
 #[cfg(test)]
 mod suffixes;
-#[cfg(test)]
-mod tasks;
 #[cfg(test)]
 mod texts;
 #[cfg(test)]

@@ -31,8 +31,8 @@ impl Facts for Untold {
     ghost goes_on = { λ _ _ _ _ _. tt };
 }
 
-/// Variables where nothing is set.
-pub fn scopes(rt: &impl Abort, alloc: Global) -> Result<Scopes, NoMemory> {
+// Variables where nothing is set.
+fn scopes(rt: &impl Abort, alloc: Global) -> Result<Scopes, NoMemory> {
     let cwd = Text::from_bytes(alloc, b"/w")?;
     assert!(rt; is_clean_directory(cwd.bytes()));
     let vars = Items::new(alloc, 0)?;
