@@ -20,8 +20,9 @@ use Rattle.mk_expand.specs.Evaluators.{Counted, Finder, Progress, progress, with
 use Rattle.mk_expand.specs.Limits.{max_open, max_references}
 use Rattle.mk_expand.specs.ModFaults.{with_fault}
 use Rattle.mk_bytes.specs.Paths.{clean}
+use Rattle.mk_bytes.specs.Texts.{is_among}
 use Rattle.mk_expand.specs.Facts.{Answers, Lists}
-use Rattle.mk_expand.specs.Names.{Context, context, in_name, is_among, raw_of, while_bound, while_open}
+use Rattle.mk_expand.specs.Names.{Context, context, in_name, raw_of, while_bound, while_open}
 use Rattle.mk_expand.specs.declared.facts.Asked.{Asked}
 use Rattle.mk_same.specs.Answered.{ConditionsAreByAnswers, TreesAreByAnswers}
 use Rattle.mk_expand.specs.Parts as joint
