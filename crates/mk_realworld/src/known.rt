@@ -1,5 +1,5 @@
 //! Times of files that are known by an earlier look.
-ghost use Rattle.std.specs.Prelude.{◌≡◌, List, ℕ, Some, false, IfSome, OnOk};
+ghost use Rattle.std.specs.Prelude.{◌≡◌, List, ℕ, Some, false, IfSome, OnErr, OnOk};
 ghost use Rattle.std.specs.Str.{bytes_eq};
 ghost use Rattle.mk_realworld.specs.Known.{no_times, times_in};
 
@@ -53,10 +53,13 @@ impl KnownTimes {
         }
     }
 
-    /// The time of a path is known from now on. Where those of 4,096 paths are, they are forgotten first.
+    /// The time of a path is known from now on. Where those of 4,096 paths are, they are forgotten first,
+    /// also where memory runs out then; else nothing comes to be known.
     pub fn learn(&mut self, path: &[u8], when: When) -> Result<(), NoMemory>
         ensures known { OnOk result (times_in self.new path.now ≡ Some when) }
         ensures others { OnOk result ((other : List ℕ) → bytes_eq other path.now ≡ false
+            → IfSome (times_in self.new other) (λ time. times_in self.old other ≡ Some time)) }
+        ensures refused { OnErr result ((other : List ℕ)
             → IfSome (times_in self.new other) (λ time. times_in self.old other ≡ Some time)) }
     {
         self.make_room();
