@@ -1,5 +1,5 @@
 -- A build so far, and the decision of a node.
-use Rattle.std.proofs.Common.{◌≡◌, ◌≢◌, ◌∙◌, ℕ, ◌<◌, List, [], ◌∷◌, ◌++◌, length, get_or, set, Option, Some, None, false}
+use Rattle.std.proofs.Common.{◌≡◌, ◌∙◌, ℕ, ◌<◌, List, [], ◌∷◌, ◌++◌, length, get_or, set, Option, Some, None, false}
 use Rattle.std.proofs.Common.{inl, inr, refl, sym, ap, subst, append_assoc}
 use Rattle.std.proofs.lemmas.List.{append-nil}
 use Rattle.mk_expand.specs.declared.fault.ExpandFault.{ExpandFault}
@@ -16,10 +16,8 @@ use Rattle.mk_decision.specs.Decisions.{Work, IsKept, IsBegun, IsRefused}
 use Rattle.mk_trace.specs.Builds.{Build, Moment, moment, rules_of, or_next}
 use Rattle.mk_decision.specs.Looks.{LooksAt}
 use Rattle.mk_trace.specs.Calls.{Called, ChangeItem, LookItem, NoItem, NoneLeft, PartItem}
-use Rattle.mk_trace.specs.Collected.{has_meta}
 use Rattle.mk_trace.specs.Items.{Item, head, cut_head, changes, keeps, looks, refuses, reported_all}
 use Rattle.mk_trace.specs.declared.collected.Collected.{Collected}
-use Rattle.mk_world.specs.Sinks.{Begins}
 use Rattle.mk_driver.specs.Jobs.{AreApart}
 use Rattle.mk_driver.specs.Metas.{HasOpened, HeadWritten, IsUnopened, NoHead}
 use Rattle.mk_driver.specs.Progress.{AreUnknown, HaltedAt, IsGoing, IsLookedAt, IsBehind}

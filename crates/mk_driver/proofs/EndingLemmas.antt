@@ -1,5 +1,5 @@
 -- A build so far, and a child that is taken in.
-use Rattle.std.proofs.Common.{◌≡◌, ◌∙◌, ◌⊎◌, ℕ, ◌+◌, ◌-◌, ◌^◌, ◌<◌, ◌≤◌, ◌||◌, nat_le, nat_lt, List, [], ◌∷◌, ◌++◌, length, get_or, set, Option, Some, None, Bool, true, false, if◌then◌else◌}
+use Rattle.std.proofs.Common.{◌≡◌, ◌∙◌, ◌⊎◌, ℕ, ◌+◌, ◌-◌, ◌^◌, ◌<◌, ◌≤◌, nat_le, nat_lt, List, [], ◌∷◌, ◌++◌, length, get_or, set, Option, Some, None, Bool, true, false, if◌then◌else◌}
 use Rattle.std.proofs.Common.{inl, inr, refl, sym, ap, subst, append_assoc, arith}
 use Rattle.mk_plan.specs.Deciding.{Rules, is_stopped, may_decide, open_jobs}
 use Rattle.mk_plan.specs.Plans.{node_at}
@@ -21,10 +21,9 @@ use Rattle.mk_trace.specs.Builds.{Build, Moment, Prints, free, remove, command_o
 use Rattle.mk_decision.specs.Makers.{jobs_of}
 use Rattle.mk_trace.specs.Calls.{Called, ChangeItem, EndItem, GoneItem, LookItem, NoItem, NoneLeft, PartItem, StartItem}
 use Rattle.mk_trace.specs.Items.{Item, changes, cut_whole, gone, looks, reported_all, whole}
-use Rattle.mk_trace.specs.declared.collected.Collected.{Collected}
 use Rattle.mk_world.specs.Looks.{dated}
 use Rattle.mk_driver.specs.Jobs.{AreApart, FitsTogether, HasLine, HasToken, IsJobTaken}
-use Rattle.mk_driver.specs.Metas.{DateAsked, HasClosed, IsUnclosed, NoWhole, PartOfWhole, WholeWritten}
+use Rattle.mk_driver.specs.Metas.{DateAsked, HasClosed, IsUnclosed}
 use Rattle.mk_trace.specs.Output.{echo, last_behind, shown}
 use Rattle.mk_driver.specs.Progress.{AreUnknown, BehindAt, BehindOn, EndingAt, HaltedAt, IsClosing, IsEnding, OverAt, OverOn, IsFailing, IsGoing}
 use Rattle.mk_trace.specs.Collected.{IsCountable}

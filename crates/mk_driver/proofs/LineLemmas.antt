@@ -1,5 +1,5 @@
 -- A build so far, and the lines of a job.
-use Rattle.std.proofs.Common.{◌≡◌, ◌∙◌, ℕ, ◌+◌, ◌-◌, ◌<◌, ◌||◌, nat_le, List, [], ◌∷◌, ◌++◌, length, get_or, Option, Some, None, Bool, true, false}
+use Rattle.std.proofs.Common.{◌≡◌, ◌∙◌, ℕ, ◌+◌, ◌-◌, ◌<◌, nat_le, List, [], ◌∷◌, ◌++◌, length, get_or, Option, Some, None, Bool, true, false}
 use Rattle.std.proofs.Common.{refl, sym, ap, subst, length-append, arith}
 use Rattle.std.proofs.Math.Seq.{get_or-append_seam}
 use Rattle.std.proofs.lemmas.List.{append-nil}
@@ -226,11 +226,11 @@ behind-halted scene events now n lines collected done behind same =
     scene.course.last_shown behind.0 _ behind.2)
 
 -- the line that was found is the one with a child
+pub some-is : (a b : TaskLine) → Some a ≡ Some b → a ≡ b
+some-is a b is = cc
+
 pub found : (line : TaskLine) (lines : List TaskLine) (number : ℕ) → run.line_of lines number ≡ Some line
     → (one : TaskLine) × HasLine lines number one → HasLine lines number line
 found line lines number is has =
     let same : has.0 ≡ line = some-is has.0 line (sym has.1.line ∙ is) in
     record { line = is; child = rw (← same) has.1.child; some = has.1.some; within = has.1.within }
-  where
-    some-is : (a b : TaskLine) → Some a ≡ Some b → a ≡ b
-    some-is a b is = cc

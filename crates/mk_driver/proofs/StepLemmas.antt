@@ -15,12 +15,12 @@ use Rattle.mk_decision.specs.Decisions.{Work, IsKept, IsBegun, IsRefused}
 use Rattle.mk_meta.specs.Texts.{head as head_of}
 use Rattle.mk_meta.specs.TrueHistory.{meta_path}
 use Rattle.mk_plan.specs.Plans.{node_at}
-use Rattle.mk_trace.specs.Builds.{Build, Duty, Own, free, begin, stop, rules_of, build_after, or_next, opening, with_ticket, with_collected, IsCommandOf, command_of, IsHead}
-use Rattle.mk_trace.specs.Collected.{begun, has_meta, nothing_collected}
+use Rattle.mk_trace.specs.Builds.{Build, Duty, Own, begin, rules_of, build_after, or_next, opening, with_ticket, with_collected, IsCommandOf, command_of, IsHead}
+use Rattle.mk_trace.specs.Collected.{begun, has_meta}
 use Rattle.mk_trace.specs.Items.{head, cut_head, looks, keeps, refuses, starts, waits, changes}
 use Rattle.mk_world.specs.Sinks.{Begins}
 use Rattle.mk_driver.specs.Jobs.{AreApart, HasLine}
-use Rattle.mk_driver.specs.Progress.{AreRunning, IsGoing, IsLookedAt, IsSeen, IsPoised, IsBehind, IsRunning, own_of}
+use Rattle.mk_driver.specs.Progress.{AreRunning, IsGoing, IsLookedAt, IsSeen, IsPoised, IsBehind, IsRunning}
 use Rattle.mk_trace.specs.Growth.{Known, HasTasks}
 use Rattle.mk_trace.specs.Runs as run
 use Rattle.mk_trace.specs.Steps.{GoesOn}

@@ -1,9 +1,10 @@
 -- What opening and closing a job leaves in the world.
-use Rattle.std.specs.Prelude.{◌≡◌, ◌⊎◌, ℕ, ◌<◌, ◌^◌, List, length, Option, true, false}
+use Rattle.std.specs.Prelude.{◌≡◌, ◌⊎◌, ℕ, ◌<◌, ◌^◌, List, [], length, Option, None, true, false}
 use Rattle.mk_meta.specs.Texts.{head as head_of, meta_text}
+use Rattle.mk_meta.specs.declared.meta.Meta.{Meta}
 use Rattle.mk_meta.specs.TrueHistory.{meta_path}
 use Rattle.mk_plan.specs.Plans.{node_at}
-use Rattle.mk_world.specs.Looks.{Dated, dated}
+use Rattle.mk_world.specs.Looks.{dated}
 use Rattle.mk_world.specs.Talks.{Meaning}
 use Rattle.mk_world.specs.declared.history.History.{History}
 use Rattle.mk_world.specs.declared.time.When.{When}
@@ -19,6 +20,11 @@ path_of work node = meta_path (node_at work.plan node).name
 
 abbrev pub first_of : Work → ℕ → List ℕ
 first_of work node = head_of (node_at work.plan node).name
+
+-- what the meta file of a job tells, without what its lines printed and recorded
+abbrev pub frame_of : Work → Job → Meta
+frame_of work job =
+    record (meta_of work job.node job.task.lines job.collected) { output = []; records = None }
 
 abbrev pub text_of : Work → Job → List ℕ
 text_of work job = meta_text (meta_of work job.node job.task.lines job.collected)

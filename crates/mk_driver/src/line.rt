@@ -1,9 +1,12 @@
 //! The lines of a job: empty ones are passed over, and for others children are started.
-ghost use Rattle.std.specs.Prelude.{◌≡◌, ◌<◌, ◌≤◌, ◌+◌, ◌-◌, ◌^◌, ℕ, [], ◌∷◌, ◌++◌, Some, true, false, length, OnOk, OnErr, IfOk, IfErr};
+ghost use Rattle.std.specs.List.{list_any};
+ghost use Rattle.std.specs.Prelude.{◌≡◌, ◌<◌, ◌≤◌, ◌+◌, ◌-◌, ◌^◌, ℕ, [], ◌∷◌, ◌++◌, Some, true, false, length, nat_eq, OnOk, OnErr, IfOk, IfErr};
 ghost use Rattle.mk_child.specs.Halts.{of_world};
 ghost use Rattle.mk_driver.specs.Jobs.{HasLine, HasToken, lines_left};
 ghost use Rattle.mk_decision.specs.Makers.{work_of};
 ghost use Rattle.mk_driver.specs.Progress.{BehindAt, BehindOn, Fits, FromAny, GoingAt, HaltedAt, IsUnstopped, undecided};
+ghost use Rattle.mk_trace.specs.Builds.{command_of};
+ghost use Rattle.mk_trace.specs.Calls.{Called, NoItem, StartItem};
 ghost use Rattle.mk_trace.specs.Runs.{is_empty, line_of};
 ghost use Rattle.mk_driver.specs.Scenes.{Scene, IsOpenScene, BehindIn, HaltedIn};
 ghost use Rattle.mk_trace.specs.declared.collected.Collected.{Collected as Kept};
@@ -78,6 +81,51 @@ fn pass_lines(
     Ok(passed)
 }
 
+// Starts the child of the line of a job under a ticket.
+fn start_command<W: World>(
+    maker: &Maker,
+    world: &mut W,
+    kids: &mut Kids<W::Kid>,
+    events: &mut Vec<Event>,
+    job: &Job,
+    ticket: u32,
+) -> Result<(), WorldFault>
+    requires exact { W.runs world.old kids.old.tickets }
+    requires room { length kids.old.tickets < kids.old.room }
+    requires fresh { list_any (nat_eq ticket) kids.old.tickets ≡ false }
+    requires line { (one : Line) × HasLine job.now.task.lines job.now.number one }
+    ensures done { OnOk result ((one : Line) → line_of job.now.task.lines job.now.number ≡ Some one
+        → Called W.meaning (W.history world.old) (W.history world.new)
+        (StartItem job.now.node job.now.number ticket job.now.collected.owner
+        (command_of (work_of maker.now) one))) }
+    ensures refused { OnErr result
+        (Called W.meaning (W.history world.old) (W.history world.new) NoItem) }
+    ensures told { OnOk result
+        (events.new.items ≡ events.old.items ++ event.Start job.now.node job.now.number ∷ []) }
+    ensures untold { OnErr result (events.new.items ≡ events.old.items) }
+    ensures held { OnOk result (kids.new.tickets ≡ kids.old.tickets ++ ticket ∷ []) }
+    ensures same_room { kids.new.room ≡ kids.old.room }
+    ensures cause { HasCause world_failed (W.faults world.old) (W.faults world.new) result }
+    ensures children { W.runs world.new kids.new.tickets }
+{
+    let line = line_at(&job.task, job.number);
+    let cmd = command(maker.alloc, line, maker.made.scopes.cwd())?;
+    let place = Place {
+        node: job.node,
+        number: job.number,
+    };
+    start_child(
+        maker.alloc,
+        world,
+        kids,
+        events,
+        place,
+        ticket,
+        Time(job.collected.owner),
+        &cmd,
+    )
+}
+
 // Starts the child of the line of a job; its node has a token.
 fn start_line<W: World>(
     maker: &Maker,
@@ -106,24 +154,11 @@ fn start_line<W: World>(
     ensures cause { HasCause world_failed (W.faults world.old) (W.faults world.new) result }
     ensures children { W.runs world.new kids.new.tickets }
 {
-    let line = line_at(&job.task, job.number);
-    let cmd = command(maker.alloc, line, maker.made.scopes.cwd())?;
     let ticket = next_ticket(kids, &mut course.last_ticket);
-    let place = Place {
-        node: job.node,
-        number: job.number,
-    };
-    start_child(
-        maker.alloc,
-        world,
-        kids,
-        &mut course.events,
-        place,
-        ticket,
-        Time(job.collected.owner),
-        &cmd,
-    )?;
-    add_job(&mut course.jobs, Job { ticket, ..job })?;
+    start_command(maker, world, kids, &mut course.events, &job, ticket)?;
+    let mut started = job;
+    started.ticket = ticket;
+    add_job(&mut course.jobs, started)?;
     Ok(())
 }
 
@@ -160,6 +195,7 @@ pub fn run_on<W: World>(
     if passed as usize >= job.task.lines.len() {
         return finish_job(maker, world, course, job);
     }
-    let number = passed + 1;
-    start_line(maker, world, kids, course, Job { number, ..job })
+    let mut next = job;
+    next.number = passed + 1;
+    start_line(maker, world, kids, course, next)
 }

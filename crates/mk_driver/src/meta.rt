@@ -1,9 +1,10 @@
 //! Meta files: a job in meta mode begins with the head of one, and where it has ended well the whole
 //! file is written (make(1), "META MODE").
-ghost use Rattle.std.specs.Prelude.{◌≡◌, ◌<◌, ◌^◌, ℕ, List, length, map, true, IfOk, IfErr, OnOk, OnErr};
+ghost use Rattle.std.specs.Prelude.{◌≡◌, ◌<◌, ◌^◌, ℕ, List, None, length, map, true, if◌then◌else◌, IfOk, IfErr, OnOk, OnErr};
 ghost use Rattle.mk_decision.specs.Makers.{work_of};
 ghost use Rattle.mk_child.specs.Halts.{of_world};
 ghost use Rattle.mk_driver.specs.Jobs.{HasToken};
+ghost use Rattle.mk_driver.specs.Metas as metas;
 ghost use Rattle.mk_driver.specs.Metas.{HasClosed, HasOpened, IsUnclosed, IsUnopened, WholeWritten, WritesHead, WritesPartOfHead, WritesPartOfWhole, WritesWhole};
 ghost use Rattle.mk_driver.specs.Progress.{Fits, FromAny, GoingAt, HaltedAt, OverAt, undecided};
 ghost use Rattle.mk_meta.specs.Jobs as jobs;
@@ -16,6 +17,7 @@ use crate::course::Course;
 use crate::job::Job;
 use mk_bytes::{Items, NoMemory, Text};
 use mk_decision::Maker;
+use mk_filemon::Recs;
 use mk_meta::{Meta, head, meta_path, write_meta};
 use mk_plan::is_meta;
 use mk_trace::Collected;
@@ -103,30 +105,52 @@ fn kept_lines(alloc: Global, lines: &[TaskLine]) -> Result<Lines, NoMemory>
     Ok(kept)
 }
 
+// What the meta file of a job tells, without what its lines printed and recorded.
+fn frame_of(maker: &Maker, job: &Job) -> Result<Meta, NoMemory>
+    requires within { job.now.node < length maker.now.plan.now }
+    ensures { IfOk result (λ meta. meta ≡ metas.frame_of (work_of maker.now) job.now) }
+{
+    Ok(Meta {
+        stamp: Time(job.collected.owner),
+        exports: Items::new(maker.alloc, 0)?,
+        lines: kept_lines(maker.alloc, job.task.lines.as_slice())?,
+        cwd: Text::from_bytes(maker.alloc, maker.made.scopes.cwd())?,
+        target: Text::from_bytes(maker.alloc, maker.plan.name(job.node))?,
+        output: Text::new(maker.alloc),
+        records: None,
+    })
+}
+
+// The records of a job, where records count.
+fn counted(maker: &Maker, records: Option<Recs>) -> Option<Recs>
+    ensures { result ≡ (if (work_of maker.now).mode.nofilemon then None else records) }
+{
+    if maker.made.mode.nofilemon {
+        return None;
+    }
+    records
+}
+
 // What the meta file of a job tells.
 fn meta_of(maker: &Maker, job: Job) -> Result<Meta, NoMemory>
     requires within { job.node < length maker.now.plan.now }
     ensures { IfOk result (λ meta. meta
         ≡ spec.meta_of (work_of maker.now) job.node job.task.lines job.collected) }
 {
-    let Collected {
-        owner,
-        output,
-        records,
-    } = job.collected;
-    Ok(Meta {
-        stamp: Time(owner),
-        exports: Items::new(maker.alloc, 0)?,
-        lines: kept_lines(maker.alloc, job.task.lines.as_slice())?,
-        cwd: Text::from_bytes(maker.alloc, maker.made.scopes.cwd())?,
-        target: Text::from_bytes(maker.alloc, maker.plan.name(job.node))?,
-        output,
-        records: if maker.made.mode.nofilemon {
-            None
-        } else {
-            records
-        },
-    })
+    let mut meta = frame_of(maker, &job)?;
+    let collected = job.collected;
+    meta.output = collected.output;
+    meta.records = counted(maker, collected.records);
+    Ok(meta)
+}
+
+// The text of the meta file of a job.
+fn whole_text(maker: &Maker, job: Job) -> Result<Text, NoMemory>
+    requires within { job.node < length maker.now.plan.now }
+    ensures { IfOk result (λ text. text ≡ metas.text_of (work_of maker.now) job) }
+{
+    let meta = meta_of(maker, job)?;
+    write_meta(maker.alloc, &meta)
 }
 
 // Writes the whole meta file of a job, later than the newest time.
@@ -148,9 +172,9 @@ fn write_whole<W: World>(
 {
     let _printed = job.collected.output.len();
     let _lines = job.task.lines.len();
-    let path = meta_path(maker.alloc, maker.plan.name(job.node))?;
-    let meta = meta_of(maker, job)?;
-    let text = write_meta(maker.alloc, &meta)?;
+    let node = job.node;
+    let text = whole_text(maker, job)?;
+    let path = meta_path(maker.alloc, maker.plan.name(node))?;
     let time = world.put(maker.alloc, path.bytes(), text.bytes(), *newest)?;
     *newest = time;
     Ok(())

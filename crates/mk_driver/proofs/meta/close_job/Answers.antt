@@ -1,4 +1,4 @@
-use Rattle.std.proofs.Common.{◌≡◌, ◌∙◌, inl, inr, refl, sym, true, false}
+use Rattle.std.proofs.Common.{◌∙◌, inl, inr, sym}
 use Rattle.mk_decision.proofs.PieceLemmas.{on_ok}
 use Rattle.mk_trace.proofs.CallLemmas.{called-none}
 use Rattle.mk_driver.proofs.meta.close_job.Goals as goal

@@ -1,4 +1,4 @@
-use Rattle.std.proofs.Common.{◌≡◌, inl, inr, refl}
+use Rattle.std.proofs.Common.{inl, inr}
 use Rattle.mk_world.proofs.SinkLemmas.{OnErr-from}
 use Rattle.mk_decision.proofs.PieceLemmas.{on_err, on_ok}
 use Rattle.mk_trace.proofs.WorldLemmas.{called-look, called-nothing}

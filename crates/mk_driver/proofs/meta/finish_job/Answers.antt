@@ -1,7 +1,7 @@
 use Rattle.std.proofs.Common.{Result, Ok, Err, IfErr, OnErr, refl}
 use Rattle.mk_sched.proofs.DecideLemmas.{open_within}
 use Rattle.mk_decision.specs.Makers.{work_of}
-use Rattle.mk_decision.proofs.PieceLemmas.{if_err, if_ok, on_ok, on_err}
+use Rattle.mk_decision.proofs.PieceLemmas.{on_ok}
 use Rattle.mk_child.specs.Halts.{of_world}
 use Rattle.mk_driver.proofs.EndingLemmas.{going-closed, halted-closing}
 use Rattle.mk_driver.proofs.JobLemmas.{fits-settled}

@@ -1,4 +1,4 @@
-use Rattle.std.proofs.Common.{◌≡◌, refl}
+use Rattle.std.proofs.Common.{refl}
 use Rattle.mk_world.proofs.SinkLemmas.{OnErr-from}
 use Rattle.mk_trace.proofs.WorldLemmas.{called-head, called-head_part}
 use Rattle.mk_driver.proofs.MetaLemmas.{part-none}

@@ -1,7 +1,5 @@
-use Rattle.std.proofs.Common.{◌≡◌, ◌∙◌, inl, inr, refl, sym, true, false}
+use Rattle.std.proofs.Common.{◌∙◌, inl, inr, refl, sym}
 use Rattle.mk_decision.proofs.PieceLemmas.{if_ok, on_err}
-use Rattle.mk_decision.specs.Makers.{work_of}
-use Rattle.mk_trace.specs.Collected.{has_meta}
 use Rattle.mk_trace.proofs.CallLemmas.{called-none}
 use Rattle.mk_driver.proofs.meta.open_job.Goals as goal
 

@@ -1,20 +1,15 @@
-use Rattle.std.proofs.Common.{◌≡◌, refl}
 use Rattle.mk_world.proofs.SinkLemmas.{OnErr-from}
 use Rattle.mk_trace.proofs.WorldLemmas.{called-whole, called-whole_part}
 use Rattle.mk_driver.proofs.MetaLemmas.{part-none}
 use Rattle.mk_driver.proofs.meta.write_whole.Goals as goal
 
-pub returns-in_err-path-clause-refused : goal.returns-in_err-path-clause-refused
-returns-in_err-path-clause-refused g c =
-    OnErr-from c.from_residual.result (part-none g.W.World.meaning _ c.args.job.node _ _)
-
-pub returns-in_err-meta-clause-refused : goal.returns-in_err-meta-clause-refused
-returns-in_err-meta-clause-refused g c =
-    OnErr-from c.from_residual-in_err-meta.result (part-none g.W.World.meaning _ c.args.job.node _ _)
-
 pub returns-in_err-text-clause-refused : goal.returns-in_err-text-clause-refused
 returns-in_err-text-clause-refused g c =
-    OnErr-from c.from_residual-in_err-text.result (part-none g.W.World.meaning _ c.args.job.node _ _)
+    OnErr-from c.from_residual.result (part-none g.W.World.meaning _ c.args.job.node _ _)
+
+pub returns-in_err-path-clause-refused : goal.returns-in_err-path-clause-refused
+returns-in_err-path-clause-refused g c =
+    OnErr-from c.from_residual-in_err-path.result (part-none g.W.World.meaning _ c.args.job.node _ _)
 
 pub returns-in_err-time-clause-refused : goal.returns-in_err-time-clause-refused
 returns-in_err-time-clause-refused g c =
@@ -25,7 +20,6 @@ returns-in_err-time-clause-refused g c =
       c.bytes-2.ensures.value,
       c.in_ok-path.ensures,
       c.in_ok-text.ensures,
-      c.in_ok-meta.ensures,
       c.name.ensures,
     ) at c.in_err-time.ensures.refused))
 
@@ -38,7 +32,6 @@ returns-clause-written g c = record {
         c.bytes-2.ensures.value,
         c.in_ok-path.ensures,
         c.in_ok-text.ensures,
-        c.in_ok-meta.ensures,
         c.name.ensures,
       ) at c.in_ok-time.ensures.done);
 }
