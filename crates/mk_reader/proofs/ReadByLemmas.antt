@@ -1,6 +1,7 @@
 -- What a whole reading gives, by what its calls did.
 use Rattle.std.proofs.Common.{◌≡◌, ℕ, List, [], ◌++◌, Option, Some, None, Result, Ok, Err}
 use Rattle.std.proofs.Common.{refl, sym, ap, subst, ◌∙◌}
+use Rattle.std.specs.Prelude.{IfErr, IfOk}
 use Rattle.std.proofs.lemmas.List.{append-nil}
 use Rattle.mk_blocks.specs.Acts.{Act}
 use Rattle.mk_blocks.specs.Outcomes.{Outcome, behind, done, silent}
@@ -63,6 +64,14 @@ read_nothing meaning told held defined = record {
       DidPart-more held held [] [] [] (defined answers).acts
       (DidPart-whole held held [] [] [] (Did-nothing held []));
 }
+
+-- one value, or want of memory
+pub made_or_want : {A : Type 0} (P : Result A ReadFault → Type 0) (made : A)
+    (answer : Result A ReadFault)
+    → IfOk answer (λ given. given ≡ made) → IfErr answer (λ why. why ≡ read.NoMemory)
+    → P (Ok made) → P (Err read.NoMemory) → P answer
+made_or_want P made (Ok given) is none good bad = subst (λ g. P (Ok g)) (sym is) good
+made_or_want P made (Err why) none is good bad = subst (λ w. P (Err w)) (sym is) bad
 
 module _ {W S : Type 0} (o : Outer W S) {x y : Reader W S} where
   answered : (failure : Option Outside) (leads : Leads o failure x y)

@@ -1,10 +1,12 @@
 //! What reading asks of the outside: values, conditions, files, commands and messages.
-ghost use Rattle.std.specs.Prelude.{[]};
+ghost use Rattle.std.specs.Prelude.{◌≡◌, [], IfOk, IsTrue};
+ghost use Rattle.mk_bytes.specs.Paths.{is_clean_directory};
 ghost use Rattle.mk_cond.specs.View.{cond_view};
 ghost use Rattle.mk_expand.specs.Locals.{no_locals};
 ghost use Rattle.mk_expand.specs.Value as expand;
 ghost use Rattle.mk_expand.specs.declared.fault.ExpandFault.TheVariants.{Failed as failed};
 ghost use Rattle.mk_reader.specs.Facts.{lists_of};
+ghost use Rattle.mk_reader.specs.Moments.{moment_of};
 ghost use Rattle.mk_reader.specs.Notes.{asked_by};
 ghost use Rattle.mk_reader.specs.Ties.{Evaluated, Gave, outer};
 ghost use Rattle.mk_reader.specs.Values as spec;
@@ -15,7 +17,7 @@ use crate::fault::Refusal;
 use crate::note::Note;
 use crate::reader::Reader;
 use crate::state::State;
-use mk_bytes::{Items, Text, Texts};
+use mk_bytes::{Items, NoMemory, Text, Texts};
 use mk_cond::Cond;
 use mk_expand::{ExpandFault, Locals, eval_cond, value_of_text};
 use mk_world::{Cmd, Sink, World};
@@ -75,6 +77,16 @@ fn truth_in<W: World>(
     eval_cond(alloc, &made.scopes, &locals, cond, &mut facts)
 }
 
+// The command of a text in a directory, with no names in its environment.
+fn command_to_run(alloc: Global, directory: &[u8], text: Text) -> Result<Cmd, NoMemory>
+    ensures { IfOk result (λ cmd.
+        cmd ≡ record { text = text; cwd = directory.now; exports = [] }) }
+{
+    let cwd = Text::from_bytes(alloc, directory)?;
+    let exports = Items::new(alloc, 0)?;
+    Ok(Cmd { text, cwd, exports })
+}
+
 impl<'a, W: World, S: Sink> Reader<'a, W, S> {
     /// The value of a text where there are no local names; with `keep` as `:=` sets it.
     pub fn value(&mut self, alloc: Global, keep: bool, text: &[u8]) -> Result<Text, Refusal>
@@ -115,32 +127,40 @@ impl<'a, W: World, S: Sink> Reader<'a, W, S> {
         Ok(found)
     }
 
+    // What a command prints that is run in the current directory, with no names in its environment.
+    fn printed(&mut self, alloc: Global, cmd: &Cmd) -> Result<Text, Refusal>
+        requires directory { IsTrue (is_clean_directory cmd.now.cwd) }
+        requires here { cmd.now
+            ≡ spec.command_at (moment_of self.old.state.now self.old.order.now) cmd.now.text }
+        ensures { Gave (outer W.meaning W.history W.faults W.runs S.held S.faults)
+            self.old self.new (λ output. output) result
+            (λ answers. spec.output answers cmd.now.text) }
+    {
+        if self.state.notes.reserve(1).is_err() {
+            return Err(Refusal::NoMemory);
+        }
+        match self.world.ask(alloc, cmd) {
+            Ok(ended) => {
+                self.state
+                    .notes
+                    .push(Note::Ran(Snapshot::of(cmd), Snapshot::of(&ended)))
+                    .unwrap();
+                Ok(ended.output)
+            }
+            Err(fault) => {
+                self.state.notes.push(Note::Cut(Snapshot::of(cmd))).unwrap();
+                Err(Refusal::from(fault))
+            }
+        }
+    }
+
     /// What a command prints that is run in the current directory.
     pub fn run(&mut self, alloc: Global, text: Text) -> Result<Text, Refusal>
         ensures { Gave (outer W.meaning W.history W.faults W.runs S.held S.faults)
             self.old self.new (λ output. output) result
             (λ answers. spec.output answers text) }
     {
-        let cwd = Text::from_bytes(alloc, self.state.made.scopes.cwd())?;
-        let exports = Items::new(alloc, 0)?;
-        let cmd = Cmd { text, cwd, exports };
-        if self.state.notes.reserve(1).is_err() {
-            return Err(Refusal::NoMemory);
-        }
-        let ended = match self.world.ask(alloc, &cmd) {
-            Ok(ended) => ended,
-            Err(fault) => {
-                self.state
-                    .notes
-                    .push(Note::Cut(Snapshot::of(&cmd)))
-                    .unwrap();
-                return Err(Refusal::from(fault));
-            }
-        };
-        self.state
-            .notes
-            .push(Note::Ran(Snapshot::of(&cmd), Snapshot::of(&ended)))
-            .unwrap();
-        Ok(ended.output)
+        let cmd = command_to_run(alloc, self.state.made.scopes.cwd(), text)?;
+        self.printed(alloc, &cmd)
     }
 }

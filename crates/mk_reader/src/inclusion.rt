@@ -82,6 +82,28 @@ fn push_places(
     Ok(())
 }
 
+// Adds the paths at which a file is sought that another one includes, in order.
+fn push_candidates(
+    alloc: Global,
+    order: &Order,
+    cwd: &[u8],
+    file: &[u8],
+    wanted: &Wanted<'_>,
+    places: &mut Texts,
+) -> Result<(), NoMemory>
+    ensures { OnOk result (places.new ≡ places.old
+        ++ spec.candidates order.now cwd.now file.now (wanted.now.system, wanted.now.name.now)) }
+{
+    if is_absolute(wanted.name) {
+        return places.push(clean_path(alloc, cwd, wanted.name)?);
+    }
+    if !wanted.system {
+        push_beside(alloc, cwd, file, wanted.name, places)?;
+        push_places(alloc, cwd, &order.near, wanted.name, places)?;
+    }
+    push_places(alloc, cwd, &order.system, wanted.name, places)
+}
+
 // The paths at which a file is sought that another one includes, in order.
 fn candidates(
     alloc: Global,
@@ -94,17 +116,7 @@ fn candidates(
         (wanted.now.system, wanted.now.name.now)) }
 {
     let mut places = Items::new(alloc, 0)?;
-    if is_absolute(wanted.name) {
-        places.push(clean_path(alloc, cwd, wanted.name)?)?;
-        return Ok(places);
-    }
-    if wanted.system {
-        push_places(alloc, cwd, &order.system, wanted.name, &mut places)?;
-        return Ok(places);
-    }
-    push_beside(alloc, cwd, file, wanted.name, &mut places)?;
-    push_places(alloc, cwd, &order.near, wanted.name, &mut places)?;
-    push_places(alloc, cwd, &order.system, wanted.name, &mut places)?;
+    push_candidates(alloc, order, cwd, file, wanted, &mut places)?;
     Ok(places)
 }
 

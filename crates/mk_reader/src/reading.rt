@@ -1,5 +1,5 @@
 //! Reading of the makefiles of a run.
-ghost use Rattle.std.specs.Prelude.{◌≡◌, ◌≤◌, ◌^◌, ◌<◌, [], length, IsTrue, IfOk, OnOk};
+ghost use Rattle.std.specs.Prelude.{◌≡◌, ◌≤◌, ◌^◌, ◌<◌, [], length, IsTrue, IfErr, IfOk, OnOk};
 ghost use Rattle.mk_bytes.specs.Paths.{is_clean_directory};
 ghost use Rattle.mk_reader.specs.Reading as spec;
 ghost use Rattle.mk_reader.specs.Modes as modes;
@@ -8,6 +8,7 @@ ghost use Rattle.mk_reader.specs.Orders.{first_moment};
 ghost use Rattle.mk_reader.specs.Results.{Ended, Found, LooksBy, ReadBy, Went};
 ghost use Rattle.mk_reader.specs.Ties.{Gave, outer};
 ghost use Rattle.mk_reader.specs.declared.fault.ReadFault.TheVariants.{
+  NoMemory as no_memory,
   Sink as sink_failed,
   World
       as world_failed,
@@ -208,8 +209,9 @@ fn first_state(alloc: Global, env: &Env, order: &Order) -> Result<State, NoMemor
 }
 
 // What makefiles leave.
-fn made_of(draft: Draft, mode: Mode) -> Result<Made, NoMemory>
-    ensures { IfOk result (λ made. made ≡ modes.made_by draft mode) }
+fn made_of(draft: Draft, mode: Mode) -> Result<Made, ReadFault>
+    ensures made { IfOk result (λ made. made ≡ modes.made_by draft mode) }
+    ensures want { IfErr result (λ fault. fault ≡ no_memory) }
 {
     let finished = draft.rules.finish()?;
     Ok(Made {
@@ -253,5 +255,5 @@ pub fn read<W: World, S: Sink>(
     let mut state = first_state(alloc, env, order)?;
     let mut reader = Reader::new(world, err, &mut state, order);
     let mode = reader.read_to_end(alloc)?;
-    Ok(made_of(state.made, mode)?)
+    made_of(state.into_made(), mode)
 }

@@ -1,3 +1,5 @@
+ghost use Rattle.std.specs.Prelude.{◌≡◌};
+
 use crate::note::Note;
 use mk_bytes::Text;
 use mk_rules::Rules;
@@ -20,4 +22,13 @@ pub struct State {
     pub in_group: bool,
     /// The questions so far, in order.
     pub notes: Vec<Note>,
+}
+
+impl State {
+    /// What the lines so far leave, without the questions.
+    pub fn into_made(self) -> Draft
+        ensures { result ≡ self.made }
+    {
+        self.made
+    }
 }

@@ -1,16 +1,20 @@
-use Rattle.std.proofs.Common.{◌≡◌, [], ap, refl, sym, ◌∙◌}
+use Rattle.std.proofs.Common.{◌≡◌, [], Result, ap, refl, sym, ◌∙◌}
+use Rattle.std.specs.Prelude.{OnOk}
 use Rattle.std.proofs.lemmas.Result.{err_from_is_err_and}
 use Rattle.mk_blocks.specs.Outcomes.{done, ◌>>=◌}
 use Rattle.mk_blocks.specs.Runs.{run_at}
 use Rattle.mk_graph.specs.declared.Made.{Made}
+use Rattle.mk_world.specs.Causes.{HasCause}
 use Rattle.mk_reader.specs.Modes.{made_at}
 use Rattle.mk_reader.specs.Orders.{first_moment}
 use Rattle.mk_reader.specs.ReadFaults.{sorted}
-use Rattle.mk_reader.specs.Reading.{reading, run_read}
-use Rattle.mk_reader.specs.Results.{standing}
+use Rattle.mk_reader.specs.Reading.{looks, reading, run_read}
+use Rattle.mk_reader.specs.Results.{LooksBy, ReadBy, standing}
 use Rattle.mk_reader.specs.Ties.{outer}
+use Rattle.mk_reader.specs.declared.fault.ReadFault.{ReadFault}
+use Rattle.mk_reader.specs.declared.fault.ReadFault.TheVariants as fault
 use Rattle.mk_reader.specs.declared.fault.Stop.TheVariants as stop
-use Rattle.mk_reader.proofs.ReadByLemmas.{looks_ok, read_err, read_nothing, read_ok, sink_by, sink_ok, world_by}
+use Rattle.mk_reader.proofs.ReadByLemmas.{looks_ok, made_or_want, read_err, read_nothing, read_ok, sink_by, sink_ok, world_by}
 use Rattle.mk_reader.proofs.ReadByLemmas.{world_ok}
 use Rattle.mk_reader.proofs.TieLemmas.{does-as, first-refused, first-then, still-given, still-want}
 use Rattle.mk_reader.proofs.reading.read.Goals as goal
@@ -63,59 +67,44 @@ returns-in_err-mode-clause-sink_cause g c =
     rw (p.1, p.2, c.err-1.given.1 (sym (leads.err ∙ same.same_err)))
     (rw same.err at (sink_by _ {A = Made} c.in_err-mode.field-0.0 leads))
 
-pub returns-in_err-made_of-clause-reading : goal.returns-in_err-made_of-clause-reading
-returns-in_err-made_of-clause-reading g c =
-    let p = err_from_is_err_and c.from_residual-in_err-made_of.result
-    c.from_residual-in_err-made_of.ensures.1 in
-    let same = c.new-reader.ensures in
-    let went = c.in_ok-mode.ensures in
-    let o = outer g.W.World.meaning g.W.World.history g.W.World.faults g.W.World.runs g.S.Sink.held
-    g.S.Sink.faults in
-    let start : standing c.new-reader.result ≡ first_moment c.args.env.now c.args.order.now =
-    rw (same.state, same.order) c.in_ok-state.ensures.moment in
-    let none : c.new-reader.result.state.now.notes.items ≡ [] = rw same.state c.in_ok-state.ensures.asked in
-    let idle = rw (← same.world) at c.requires.idle in
-    let whole = does-as _ sorted _ _ _ {rest = λ answers (made : Made). done made} _
-    {whole = λ answers. reading answers c.args.env.now c.args.order.now}
-    (λ answers.
-    ap (λ s. run_read answers (run_at s 0) >>= λ end. done (made_at end.0 end.1)) (sym start))
-    (first-then _ sorted (λ answers end. done (made_at end.0 end.1)) went
-    (still-want _ sorted _ _ stop.NoMemory refl)) in
-    rw (
-      p.1,
-      p.2,
-      c.world-1.given.1 (sym (went.leads.world ∙ same.same_world)),
-      c.err-1.given.1 (sym (went.leads.err ∙ same.same_err)),
-    )
-    (rw (same.world, same.err) at (read_err o stop.NoMemory none idle whole))
-
 pub returns-clause-reading : goal.returns-clause-reading
 returns-clause-reading g c =
     let same = c.new-reader.ensures in
     let went = c.in_ok-mode.ensures in
     let o = outer g.W.World.meaning g.W.World.history g.W.World.faults g.W.World.runs g.S.Sink.held
     g.S.Sink.faults in
+    let end = c.read_to_end.new.self in
+    let world = c.world-1.given.1 (sym (went.leads.world ∙ same.same_world)) in
+    let err = c.err-1.given.1 (sym (went.leads.err ∙ same.same_err)) in
+    let made = made_at c.in_ok-mode.mode (standing end) in
+    let is =
+    rw (c.into_made.ensures, c.state-3-1.given.1 (sym (went.leads.state ∙ same.same_state)))
+    at c.made_of.ensures.made in
     let start : standing c.new-reader.result ≡ first_moment c.args.env.now c.args.order.now =
     rw (same.state, same.order) c.in_ok-state.ensures.moment in
     let none : c.new-reader.result.state.now.notes.items ≡ [] = rw same.state c.in_ok-state.ensures.asked in
     let idle = rw (← same.world) at c.requires.idle in
-    let whole = does-as _ sorted _ _ _ {rest = λ answers (made : Made). done made} _
+    let given = does-as _ sorted _ _ _ {rest = λ answers (made : Made). done made} _
     {whole = λ answers. reading answers c.args.env.now c.args.order.now}
     (λ answers.
     ap (λ s. run_read answers (run_at s 0) >>= λ end. done (made_at end.0 end.1)) (sym start))
     (first-then _ sorted (λ answers end. done (made_at end.0 end.1)) went
-    (still-given _ sorted _ _ (made_at c.in_ok-mode.mode (standing c.read_to_end.new.self))
-    (λ answers. refl))) in
-    let made : c.in_ok-made_of.field-0
-    ≡ made_at c.in_ok-mode.mode (standing c.read_to_end.new.self) =
-    rw (c.state-3-1.given.1 (sym (went.leads.state ∙ same.same_state))) at c.in_ok-made_of.ensures in
-    rw (
-      c.world-1.given.1 (sym (went.leads.world ∙ same.same_world)),
-      c.err-1.given.1 (sym (went.leads.err ∙ same.same_err)),
-      made,
-    )
-    (rw (same.world, same.err) at
-    (read_ok o (made_at c.in_ok-mode.mode (standing c.read_to_end.new.self)) none idle whole))
+    (still-given _ sorted _ _ made (λ answers. refl))) in
+    let want = does-as _ sorted _ _ _ {rest = λ answers (made : Made). done made} _
+    {whole = λ answers. reading answers c.args.env.now c.args.order.now}
+    (λ answers.
+    ap (λ s. run_read answers (run_at s 0) >>= λ end. done (made_at end.0 end.1)) (sym start))
+    (first-then _ sorted (λ answers end. done (made_at end.0 end.1)) went
+    (still-want _ sorted _ _ stop.NoMemory refl)) in
+    rw (world, err)
+    (made_or_want
+    (λ (r : Result Made ReadFault).
+    ReadBy g.W.World.meaning (g.W.World.history c.args.world.now) (g.W.World.history end.world.now)
+    (g.S.Sink.held c.args.err.now) (g.S.Sink.held end.err.now) r
+    (λ answers. reading answers c.args.env.now c.args.order.now))
+    made _ is c.made_of.ensures.want
+    (rw (same.world, same.err) at (read_ok o made none idle given))
+    (rw (same.world, same.err) at (read_err o stop.NoMemory none idle want)))
 
 pub returns-clause-looks : goal.returns-clause-looks
 returns-clause-looks g c =
@@ -123,24 +112,63 @@ returns-clause-looks g c =
     let went = c.in_ok-mode.ensures in
     let o = outer g.W.World.meaning g.W.World.history g.W.World.faults g.W.World.runs g.S.Sink.held
     g.S.Sink.faults in
+    let end = c.read_to_end.new.self in
+    let world = c.world-1.given.1 (sym (went.leads.world ∙ same.same_world)) in
+    let err = c.err-1.given.1 (sym (went.leads.err ∙ same.same_err)) in
+    let made = made_at c.in_ok-mode.mode (standing end) in
+    let is =
+    rw (c.into_made.ensures, c.state-3-1.given.1 (sym (went.leads.state ∙ same.same_state)))
+    at c.made_of.ensures.made in
     let start : standing c.new-reader.result ≡ first_moment c.args.env.now c.args.order.now =
     rw (same.state, same.order) c.in_ok-state.ensures.moment in
     let none : c.new-reader.result.state.now.notes.items ≡ [] = rw same.state c.in_ok-state.ensures.asked in
     let idle = rw (← same.world) at c.requires.idle in
-    rw (c.world-1.given.1 (sym (went.leads.world ∙ same.same_world)))
+    rw world
+    (made_or_want
+    (λ (r : Result Made ReadFault).
+    OnOk r (LooksBy g.W.World.meaning (g.W.World.history c.args.world.now)
+    (g.W.World.history end.world.now) (λ answers. looks answers c.args.env.now c.args.order.now)))
+    made _ is c.made_of.ensures.want
     (rw same.world at
     (looks_ok o c.in_ok-mode.mode (first_moment c.args.env.now c.args.order.now) start none idle went))
+    tt)
 
 pub returns-clause-world_cause : goal.returns-clause-world_cause
 returns-clause-world_cause g c =
     let same = c.new-reader.ensures in
-    let leads = c.in_ok-mode.ensures.leads in
-    rw (c.world-1.given.1 (sym (leads.world ∙ same.same_world)))
-    (rw same.world at (world_ok _ c.in_ok-made_of.field-0 leads))
+    let went = c.in_ok-mode.ensures in
+    let o = outer g.W.World.meaning g.W.World.history g.W.World.faults g.W.World.runs g.S.Sink.held
+    g.S.Sink.faults in
+    let end = c.read_to_end.new.self in
+    let world = c.world-1.given.1 (sym (went.leads.world ∙ same.same_world)) in
+    let made = made_at c.in_ok-mode.mode (standing end) in
+    let is =
+    rw (c.into_made.ensures, c.state-3-1.given.1 (sym (went.leads.state ∙ same.same_state)))
+    at c.made_of.ensures.made in
+    rw world
+    (made_or_want
+    (λ (r : Result Made ReadFault).
+    HasCause fault.World (g.W.World.faults c.args.world.now) (g.W.World.faults end.world.now) r)
+    made _ is c.made_of.ensures.want
+    (rw same.world at (world_ok o made went.leads))
+    (rw same.world at (world_by o {A = Made} stop.NoMemory went.leads)))
 
 pub returns-clause-sink_cause : goal.returns-clause-sink_cause
 returns-clause-sink_cause g c =
     let same = c.new-reader.ensures in
-    let leads = c.in_ok-mode.ensures.leads in
-    rw (c.err-1.given.1 (sym (leads.err ∙ same.same_err)))
-    (rw same.err at (sink_ok _ c.in_ok-made_of.field-0 leads))
+    let went = c.in_ok-mode.ensures in
+    let o = outer g.W.World.meaning g.W.World.history g.W.World.faults g.W.World.runs g.S.Sink.held
+    g.S.Sink.faults in
+    let end = c.read_to_end.new.self in
+    let err = c.err-1.given.1 (sym (went.leads.err ∙ same.same_err)) in
+    let made = made_at c.in_ok-mode.mode (standing end) in
+    let is =
+    rw (c.into_made.ensures, c.state-3-1.given.1 (sym (went.leads.state ∙ same.same_state)))
+    at c.made_of.ensures.made in
+    rw err
+    (made_or_want
+    (λ (r : Result Made ReadFault).
+    HasCause fault.Sink (g.S.Sink.faults c.args.err.now) (g.S.Sink.faults end.err.now) r)
+    made _ is c.made_of.ensures.want
+    (rw same.err at (sink_ok o made went.leads))
+    (rw same.err at (sink_by o {A = Made} stop.NoMemory went.leads)))

@@ -1,77 +1,14 @@
-use Rattle.std.proofs.Common.{◌≡◌, [], ◌∷◌, ◌++◌, refl, ap, ◌∙◌}
+use Rattle.std.proofs.Common.{refl}
 use Rattle.std.proofs.lemmas.Result.{err_from_is_err_and}
-use Rattle.mk_blocks.specs.Acts.{Act, ran}
-use Rattle.mk_world.proofs.AskLemmas.{asked_idle, unanswered_idle}
-use Rattle.mk_world.proofs.IdleLemmas.{IsIdle}
-use Rattle.mk_world.specs.declared.command.Cmd.{Cmd}
-use Rattle.mk_reader.specs.Moments.{moment_of}
-use Rattle.mk_reader.specs.Values.{command_at}
-use Rattle.mk_reader.specs.declared.note.Note.TheVariants.{Cut, Ran}
-use Rattle.mk_reader.proofs.GaveLemmas.{gave-asked, gave-cut_off, leads-noted, world-cause}
-use Rattle.mk_reader.proofs.MomentLemmas.{output-noted}
-use Rattle.mk_reader.proofs.StepLemmas.{changed-want, here-want}
+use Rattle.mk_reader.proofs.StepLemmas.{given-as, here-want}
 use Rattle.mk_reader.proofs.reader.Reader.run.Goals as goal
 
-pub returns-in_err-cwd : goal.returns-in_err-cwd
-returns-in_err-cwd g c =
+pub returns-in_err-cmd : goal.returns-in_err-cmd
+returns-in_err-cmd g c =
     let p = err_from_is_err_and c.from_residual.result c.from_residual.ensures.1 in
     rw (p.1, p.2) (here-want _ _ _ _)
 
-pub returns-then-is_err : goal.returns-then-is_err
-returns-then-is_err g c =
-    changed-want _ _ _ (record { world = refl; err = refl; state = refl; order = refl; same = refl })
-    _ _ refl c.reserve.ensures.items
-
-pub returns-in-Err : goal.returns-in-Err
-returns-in-Err g c =
-    let note = Cut c.of.result in
-    let pushed = (rw c.unwrap.ensures at c.push.ensures.items)
-    ∙ ap (λ l. l ++ note ∷ []) c.reserve.ensures.items in
-    let x = c.args.self.now in
-    let act : Act = ran (command_at (moment_of x.state.now x.order.now) c.args.text) in
-    let is : c.of.result.value ≡ command_at (moment_of x.state.now x.order.now) c.args.text =
-    rw (c.of.ensures, c.in_ok-cwd.ensures, c.cwd.ensures.value, c.in_ok-exports.ensures.empty)
-    refl in
-    rw c.from.ensures
-    (gave-cut_off _ _ _
-    (record { world = refl; err = refl; state = refl; order = refl; same = refl }) _ _ _ note act
-    (λ answers. []) pushed (ap (λ (cmd : Cmd). ran cmd ∷ []) is) refl (λ answers. refl)
-    (λ runs.
-    let idle : IsIdle (g.W.World.history c.args.self.now.world.now) =
-    λ h is. g.met.W.World.told_children c.args.self.now.world.now h [] runs is in
-    rw c.of.ensures (unanswered_idle g.W.World.meaning _ _ _ idle c.in-Err.ensures.refused))
-    (λ runs. c.in-Err.ensures.children [] runs)
-    c.in-Err.ensures.cause)
-
 pub returns : goal.returns
 returns g c =
-    let note = Ran c.of-2.result c.of-3.result in
-    let pushed = (rw c.unwrap-2.ensures at c.push-2.ensures.items)
-    ∙ ap (λ l. l ++ note ∷ []) c.reserve.ensures.items in
-    let x = c.args.self.now in
-    let act : Act = ran (command_at (moment_of x.state.now x.order.now) c.args.text) in
-    let is : c.of-2.result.value ≡ command_at (moment_of x.state.now x.order.now) c.args.text =
-    rw (c.of-2.ensures, c.in_ok-cwd.ensures, c.cwd.ensures.value, c.in_ok-exports.ensures.empty)
-    refl in
-    gave-asked _ _ _ _ _ (act ∷ []) note refl pushed (ap (λ (cmd : Cmd). ran cmd ∷ []) is) refl _
-    (leads-noted _ _ _
-    (record { world = refl; err = refl; state = refl; order = refl; same = refl }) note pushed
-    (λ runs.
-    let idle : IsIdle (g.W.World.history c.args.self.now.world.now) =
-    λ h is. g.met.W.World.told_children c.args.self.now.world.now h [] runs is in
-    asked_idle g.W.World.meaning c.of-2.result.value c.of-3.result.value
-    (g.W.World.history c.args.self.now.world.now) (g.W.World.history c.ask.new.self) idle
-    (rw (c.of-2.ensures, c.of-3.ensures) c.in-Ok.ensures.done))
-    refl
-    (λ runs. c.in-Ok.ensures.children [] runs)
-    (world-cause _ _ _ c.in-Ok.ensures.cause))
-    (λ answers by.
-    output-noted answers x.state.now (record x.state.now { notes = c.push-2.new.self })
-    x.order.now x.order.now note c.args.text c.in-Ok.ended refl refl refl pushed
-    (rw (
-      c.of-2.ensures,
-      c.of-3.ensures,
-      c.in_ok-cwd.ensures,
-      c.cwd.ensures.value,
-      c.in_ok-exports.ensures.empty,
-    ) refl) by)
+    given-as _ _ _ _ _ _ (λ answers. rw c.in_ok-cmd.ensures refl)
+    c.printed.ensures
