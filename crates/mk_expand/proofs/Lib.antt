@@ -10,6 +10,7 @@ pub mod NeverLemmas
 pub mod NewerLemmas
 pub mod OuterLemmas
 pub mod PlainLemmas
+pub mod RefusalLemmas
 mod Rows
 pub mod SameLemmas
 pub mod SeparatorLemmas

@@ -1,4 +1,4 @@
-use Rattle.std.proofs.Common.{◌≡◌, ◌+◌, ◌-◌, ◌<◌, take, false, [], Ok, refl, sym, ap, ◌∙◌, inr, rules, arith}
+use Rattle.std.proofs.Common.{◌≡◌, ◌+◌, ◌-◌, ◌<◌, take, false, [], Ok, refl, sym, ap, ◌∙◌, inl, inr, rules, arith}
 use Rattle.std.proofs.lemmas.Grind.{common_steps}
 use Rattle.std.proofs.lemmas.Result.{err_from_is_err_and}
 use Rattle.mk_ast.proofs.Views as trees
@@ -19,6 +19,9 @@ use Rattle.mk_expand.proofs.ChainLemmas.{chained-default}
 use Rattle.mk_expand.proofs.FactLemmas.{earlier, never_fails, ok_never, Asks-none, Asks-err, Asks-ok, Asks-then}
 use Rattle.mk_expand.proofs.FactLemmas.{Keeps-then, Extends-then, fault_of_all, gives_at, outside}
 use Rattle.mk_expand.proofs.FaultLemmas.{never-appended, never-raw_above, err_never, fault_never}
+use Rattle.mk_expand.proofs.FaultLemmas.{never-of_cond, never-of_mod, never-opened}
+use Rattle.mk_expand.proofs.RefusalLemmas.{never-of_tree, refused, refused_if, refused_as, holds}
+use Rattle.mk_expand.proofs.RefusalLemmas.{Asks-refused, Asks-never, Keeps-behind, Keeps-same}
 use Rattle.mk_expand.specs.Evaluators.{Counted, gives, progress}
 use Rattle.mk_expand.specs.Outer.{leaf_truth, step_size, weight}
 use Rattle.mk_expand.proofs.LentLemmas.{gives-lent, gives-not}
@@ -757,3 +760,1263 @@ conditions::truth_of-returns-in-None-clause-value g t c =
     λ answers by.
     let before = earlier _ _ answers leaf.facts.asked by in
     rw (← l.invariant.value answers before, c.in-AtLeaf.is, none) (leaf.value answers by)
+
+pub conditions::alone_truth-returns-in_err-value-clause-run : goal.conditions::alone_truth-returns-in_err-value-clause-run
+conditions::alone_truth-returns-in_err-value-clause-run g t c =
+    refused _ _ c.from_residual.result c.from_residual.ensures.1
+
+pub conditions::alone_truth-returns-in_err-value-clause-facts : goal.conditions::alone_truth-returns-in_err-value-clause-facts
+conditions::alone_truth-returns-in_err-value-clause-facts g t c =
+    Asks-refused _ c.from_residual.ensures.1 (Asks-err c.in_err-value.ensures.facts)
+
+pub conditions::alone_truth-returns-in_err-value-clause-value : goal.conditions::alone_truth-returns-in_err-value-clause-value
+conditions::alone_truth-returns-in_err-value-clause-value g t c =
+    λ answers by. refused_as _ c.from_residual.result c.from_residual.ensures.1 (fault_of_all _ _ _ (c.in_err-value.ensures.value answers by))
+
+pub conditions::alone_truth-returns-clause-run : goal.conditions::alone_truth-returns-clause-run
+conditions::alone_truth-returns-clause-run g t c =
+    c.in_ok-value.ensures.run
+
+pub conditions::alone_truth-returns-clause-facts : goal.conditions::alone_truth-returns-clause-facts
+conditions::alone_truth-returns-clause-facts g t c =
+    Asks-ok _ c.in_ok-value.ensures.facts
+
+pub conditions::both_truth-returns-in_err-first-clause-run : goal.conditions::both_truth-returns-in_err-first-clause-run
+conditions::both_truth-returns-in_err-first-clause-run g t c =
+    refused _ _ c.from_residual.result c.from_residual.ensures.1
+
+pub conditions::both_truth-returns-in_err-first-clause-facts : goal.conditions::both_truth-returns-in_err-first-clause-facts
+conditions::both_truth-returns-in_err-first-clause-facts g t c =
+    Asks-refused _ c.from_residual.ensures.1 (Asks-err c.in_err-first.ensures.facts)
+
+pub conditions::both_truth-returns-in_err-first-clause-value : goal.conditions::both_truth-returns-in_err-first-clause-value
+conditions::both_truth-returns-in_err-first-clause-value g t c =
+    λ answers by. refused_as _ c.from_residual.result c.from_residual.ensures.1 (fault_of_all _ _ _ (c.in_err-first.ensures.value answers by))
+
+pub conditions::both_truth-returns-in_err-compare-clause-run : goal.conditions::both_truth-returns-in_err-compare-clause-run
+conditions::both_truth-returns-in_err-compare-clause-run g t c =
+    refused _ _ c.from_residual-in_err-compare.result c.from_residual-in_err-compare.ensures.1
+
+pub conditions::both_truth-returns-in_err-compare-clause-facts : goal.conditions::both_truth-returns-in_err-compare-clause-facts
+conditions::both_truth-returns-in_err-compare-clause-facts g t c =
+    Asks-refused _ c.from_residual-in_err-compare.ensures.1 (Asks-never _ (err_never _ (λ is. cc)) c.in_ok-first.ensures.facts)
+
+pub conditions::both_truth-returns-in-Some-clause-run : goal.conditions::both_truth-returns-in-Some-clause-run
+conditions::both_truth-returns-in-Some-clause-run g t c =
+    c.in_ok-first.ensures.run
+
+pub conditions::both_truth-returns-in-Some-clause-facts : goal.conditions::both_truth-returns-in-Some-clause-facts
+conditions::both_truth-returns-in-Some-clause-facts g t c =
+    Asks-ok _ c.in_ok-first.ensures.facts
+
+pub conditions::both_truth-returns-in_err-second-clause-run : goal.conditions::both_truth-returns-in_err-second-clause-run
+conditions::both_truth-returns-in_err-second-clause-run g t c =
+    refused _ _ c.from_residual-in_err-second.result c.from_residual-in_err-second.ensures.1
+
+pub conditions::both_truth-returns-in_err-second-clause-facts : goal.conditions::both_truth-returns-in_err-second-clause-facts
+conditions::both_truth-returns-in_err-second-clause-facts g t c =
+    Asks-refused _ c.from_residual-in_err-second.ensures.1 (Asks-then (g.met.F.Facts.goes_on _ _ _) c.in_ok-first.ensures.facts (Asks-err c.in_err-second.ensures.facts))
+
+pub conditions::both_truth-returns-in_err-compare-2-clause-run : goal.conditions::both_truth-returns-in_err-compare-2-clause-run
+conditions::both_truth-returns-in_err-compare-2-clause-run g t c =
+    refused _ _ c.from_residual-in_err-compare-2.result c.from_residual-in_err-compare-2.ensures.1
+
+pub conditions::both_truth-returns-in_err-compare-2-clause-facts : goal.conditions::both_truth-returns-in_err-compare-2-clause-facts
+conditions::both_truth-returns-in_err-compare-2-clause-facts g t c =
+    Asks-refused _ c.from_residual-in_err-compare-2.ensures.1 (Asks-never _ (err_never _ (λ is. cc)) (Asks-then (g.met.F.Facts.goes_on _ _ _) c.in_ok-first.ensures.facts c.in_ok-second.ensures.facts))
+
+pub conditions::both_truth-returns-clause-run : goal.conditions::both_truth-returns-clause-run
+conditions::both_truth-returns-clause-run g t c =
+    Keeps-then _ _ _ c.in_ok-first.ensures.run c.in_ok-second.ensures.run
+
+pub conditions::both_truth-returns-clause-facts : goal.conditions::both_truth-returns-clause-facts
+conditions::both_truth-returns-clause-facts g t c =
+    Asks-ok _ (Asks-then (g.met.F.Facts.goes_on _ _ _) c.in_ok-first.ensures.facts c.in_ok-second.ensures.facts)
+
+pub conditions::leaf_truth-returns-in-Alone-clause-run : goal.conditions::leaf_truth-returns-in-Alone-clause-run
+conditions::leaf_truth-returns-in-Alone-clause-run g t c =
+    c.alone_truth.ensures.run
+
+pub conditions::leaf_truth-returns-in-Alone-clause-facts : goal.conditions::leaf_truth-returns-in-Alone-clause-facts
+conditions::leaf_truth-returns-in-Alone-clause-facts g t c =
+    c.alone_truth.ensures.facts
+
+pub conditions::leaf_truth-returns-in-Alone-clause-value : goal.conditions::leaf_truth-returns-in-Alone-clause-value
+conditions::leaf_truth-returns-in-Alone-clause-value g t c =
+    rw c.in-Alone.is c.alone_truth.ensures.value
+
+pub conditions::leaf_truth-returns-in-Both-clause-run : goal.conditions::leaf_truth-returns-in-Both-clause-run
+conditions::leaf_truth-returns-in-Both-clause-run g t c =
+    c.both_truth.ensures.run
+
+pub conditions::leaf_truth-returns-in-Both-clause-facts : goal.conditions::leaf_truth-returns-in-Both-clause-facts
+conditions::leaf_truth-returns-in-Both-clause-facts g t c =
+    c.both_truth.ensures.facts
+
+pub conditions::leaf_truth-returns-in-Both-clause-value : goal.conditions::leaf_truth-returns-in-Both-clause-value
+conditions::leaf_truth-returns-in-Both-clause-value g t c =
+    rw c.in-Both.is c.both_truth.ensures.value
+
+pub conditions::leaf_truth-returns-in-Test-clause-run : goal.conditions::leaf_truth-returns-in-Test-clause-run
+conditions::leaf_truth-returns-in-Test-clause-run g t c =
+    c.test_truth.ensures.run
+
+pub conditions::leaf_truth-returns-in-Test-clause-facts : goal.conditions::leaf_truth-returns-in-Test-clause-facts
+conditions::leaf_truth-returns-in-Test-clause-facts g t c =
+    c.test_truth.ensures.facts
+
+pub conditions::leaf_truth-returns-in-Test-clause-value : goal.conditions::leaf_truth-returns-in-Test-clause-value
+conditions::leaf_truth-returns-in-Test-clause-value g t c =
+    rw c.in-Test.is c.test_truth.ensures.value
+
+pub conditions::leaf_truth-returns-in-Known-clause-run : goal.conditions::leaf_truth-returns-in-Known-clause-run
+conditions::leaf_truth-returns-in-Known-clause-run g t c =
+    Keeps-same c.args.run.now
+
+pub conditions::leaf_truth-returns-in-Known-clause-facts : goal.conditions::leaf_truth-returns-in-Known-clause-facts
+conditions::leaf_truth-returns-in-Known-clause-facts g t c =
+    Asks-none (g.met.F.Facts.stays _) _ _ _ _ (ok_never _)
+
+pub conditions::leaf_truth-returns-in-Known-clause-value : goal.conditions::leaf_truth-returns-in-Known-clause-value
+conditions::leaf_truth-returns-in-Known-clause-value g t c =
+    rw c.in-Known.is (λ answers by. refl)
+
+pub conditions::side_value-returns-then-side-clause-run : goal.conditions::side_value-returns-then-side-clause-run
+conditions::side_value-returns-then-side-clause-run g t c =
+    c.tree_value.ensures.run
+
+pub conditions::side_value-returns-then-side-clause-facts : goal.conditions::side_value-returns-then-side-clause-facts
+conditions::side_value-returns-then-side-clause-facts g t c =
+    c.tree_value.ensures.facts
+
+pub conditions::side_value-returns-in-None-clause-run : goal.conditions::side_value-returns-in-None-clause-run
+conditions::side_value-returns-in-None-clause-run g t c =
+    c.tree_value-in-None.ensures.run
+
+pub conditions::side_value-returns-in-None-clause-facts : goal.conditions::side_value-returns-in-None-clause-facts
+conditions::side_value-returns-in-None-clause-facts g t c =
+    c.tree_value-in-None.ensures.facts
+
+pub conditions::side_value-returns-in_err-found-in-Some-clause-run : goal.conditions::side_value-returns-in_err-found-in-Some-clause-run
+conditions::side_value-returns-in_err-found-in-Some-clause-run g t c =
+    refused _ _ c.from_residual.result c.from_residual.ensures.1
+
+pub conditions::side_value-returns-in_err-found-in-Some-clause-facts : goal.conditions::side_value-returns-in_err-found-in-Some-clause-facts
+conditions::side_value-returns-in_err-found-in-Some-clause-facts g t c =
+    Asks-refused _ c.from_residual.ensures.1 (Asks-err c.in_err-found-in-Some.ensures.facts)
+
+pub conditions::side_value-returns-in_ok-found-in-Some-clause-run : goal.conditions::side_value-returns-in_ok-found-in-Some-clause-run
+conditions::side_value-returns-in_ok-found-in-Some-clause-run g t c =
+    holds _ c.in_ok-found-in-Some.ensures.run
+
+pub conditions::test_truth-returns-in-Some-clause-run : goal.conditions::test_truth-returns-in-Some-clause-run
+conditions::test_truth-returns-in-Some-clause-run g t c =
+    holds _ (Keeps-same c.args.run.now)
+
+pub conditions::test_truth-returns-in-Some-clause-facts : goal.conditions::test_truth-returns-in-Some-clause-facts
+conditions::test_truth-returns-in-Some-clause-facts g t c =
+    c.answer_of.ensures.facts
+
+pub conditions::test_truth-returns-in_err-value-clause-run : goal.conditions::test_truth-returns-in_err-value-clause-run
+conditions::test_truth-returns-in_err-value-clause-run g t c =
+    refused _ _ c.from_residual.result c.from_residual.ensures.1
+
+pub conditions::test_truth-returns-in_err-value-clause-facts : goal.conditions::test_truth-returns-in_err-value-clause-facts
+conditions::test_truth-returns-in_err-value-clause-facts g t c =
+    Asks-refused _ c.from_residual.ensures.1 (Asks-err c.in_err-value.ensures.facts)
+
+pub conditions::test_truth-returns-in_err-value-clause-value : goal.conditions::test_truth-returns-in_err-value-clause-value
+conditions::test_truth-returns-in_err-value-clause-value g t c =
+    λ answers by. refused_as _ c.from_residual.result c.from_residual.ensures.1 (fault_of_all _ _ _ (c.in_err-value.ensures.value answers by))
+
+pub conditions::test_truth-returns-clause-run : goal.conditions::test_truth-returns-clause-run
+conditions::test_truth-returns-clause-run g t c =
+    holds _ c.in_ok-value.ensures.run
+
+pub conditions::test_truth-returns-clause-facts : goal.conditions::test_truth-returns-clause-facts
+conditions::test_truth-returns-clause-facts g t c =
+    Asks-then (g.met.F.Facts.goes_on _ _ _) c.in_ok-value.ensures.facts c.answer_of-2.ensures.facts
+
+pub conditions::truth_of-returns-in_err-step-in-Inside-clause-run : goal.conditions::truth_of-returns-in_err-step-in-Inside-clause-run
+conditions::truth_of-returns-in_err-step-in-Inside-clause-run g t c =
+    refused _ _ c.from_residual.result c.from_residual.ensures.1
+
+pub conditions::truth_of-returns-in_err-step-in-Inside-clause-facts : goal.conditions::truth_of-returns-in_err-step-in-Inside-clause-facts
+conditions::truth_of-returns-in_err-step-in-Inside-clause-facts g t c =
+    Asks-refused _ c.from_residual.ensures.1 (Asks-never _ (err_never _ (λ is. cc)) c.steps.invariant.facts)
+
+pub conditions::truth_of-returns-in_err-step-in-Inside-clause-value : goal.conditions::truth_of-returns-in_err-step-in-Inside-clause-value
+conditions::truth_of-returns-in_err-step-in-Inside-clause-value g t c =
+    λ answers by. refused_as _ c.from_residual.result c.from_residual.ensures.1 (inl (inl refl))
+
+pub conditions::truth_of-returns-in_err-truth-in-AtLeaf-clause-run : goal.conditions::truth_of-returns-in_err-truth-in-AtLeaf-clause-run
+conditions::truth_of-returns-in_err-truth-in-AtLeaf-clause-run g t c =
+    refused _ _ c.from_residual-in_err-truth-in-AtLeaf.result c.from_residual-in_err-truth-in-AtLeaf.ensures.1
+
+pub conditions::truth_of-returns-in_err-truth-in-AtLeaf-clause-facts : goal.conditions::truth_of-returns-in_err-truth-in-AtLeaf-clause-facts
+conditions::truth_of-returns-in_err-truth-in-AtLeaf-clause-facts g t c =
+    Asks-refused _ c.from_residual-in_err-truth-in-AtLeaf.ensures.1 (Asks-then (g.met.F.Facts.goes_on _ _ _) c.steps.invariant.facts (Asks-err c.in_err-truth-in-AtLeaf.ensures.facts))
+
+pub conditions::truth_of-returns-in_err-step-in-Some-clause-run : goal.conditions::truth_of-returns-in_err-step-in-Some-clause-run
+conditions::truth_of-returns-in_err-step-in-Some-clause-run g t c =
+    refused _ _ c.from_residual-in_err-step-in-Some.result c.from_residual-in_err-step-in-Some.ensures.1
+
+pub conditions::truth_of-returns-in_err-step-in-Some-clause-facts : goal.conditions::truth_of-returns-in_err-step-in-Some-clause-facts
+conditions::truth_of-returns-in_err-step-in-Some-clause-facts g t c =
+    Asks-refused _ c.from_residual-in_err-step-in-Some.ensures.1 (Asks-never _ (err_never _ (λ is. cc)) (Asks-then (g.met.F.Facts.goes_on _ _ _) c.steps.invariant.facts c.in_ok-truth-in-AtLeaf.ensures.facts))
+
+pub conditions::truth_of-returns-in_err-step-in-Some-clause-value : goal.conditions::truth_of-returns-in_err-step-in-Some-clause-value
+conditions::truth_of-returns-in_err-step-in-Some-clause-value g t c =
+    λ answers by. refused_as _ c.from_residual-in_err-step-in-Some.result c.from_residual-in_err-step-in-Some.ensures.1 (inl (inl refl))
+
+pub conditions::truth_of-returns-in-None-clause-run : goal.conditions::truth_of-returns-in-None-clause-run
+conditions::truth_of-returns-in-None-clause-run g t c =
+    Keeps-then _ _ _ c.steps.invariant.run c.in_ok-truth-in-AtLeaf.ensures.run
+
+pub conditions::truth_of-returns-in-None-clause-facts : goal.conditions::truth_of-returns-in-None-clause-facts
+conditions::truth_of-returns-in-None-clause-facts g t c =
+    Asks-ok _ (Asks-then (g.met.F.Facts.goes_on _ _ _) c.steps.invariant.facts c.in_ok-truth-in-AtLeaf.ensures.facts)
+
+pub evaluation::text_value-returns-in_err-tree-clause-run : goal.evaluation::text_value-returns-in_err-tree-clause-run
+evaluation::text_value-returns-in_err-tree-clause-run g t c =
+    refused _ _ c.from_residual.result c.from_residual.ensures.1
+
+pub evaluation::text_value-returns-in_err-tree-clause-facts : goal.evaluation::text_value-returns-in_err-tree-clause-facts
+evaluation::text_value-returns-in_err-tree-clause-facts g t c =
+    Asks-refused _ c.from_residual.ensures.1 (Asks-none (g.met.F.Facts.stays _) _ _ _ _ (err_never _ (never-of_tree _)))
+
+pub evaluation::text_value-returns-clause-run : goal.evaluation::text_value-returns-clause-run
+evaluation::text_value-returns-clause-run g t c =
+    c.tree_value.ensures.run
+
+pub evaluation::text_value-returns-clause-facts : goal.evaluation::text_value-returns-clause-facts
+evaluation::text_value-returns-clause-facts g t c =
+    c.tree_value.ensures.facts
+
+pub evaluation::text_value-returns-then-not-has_dollar-clause-run : goal.evaluation::text_value-returns-then-not-has_dollar-clause-run
+evaluation::text_value-returns-then-not-has_dollar-clause-run g t c =
+    holds _ (Keeps-same c.args.run.now)
+
+pub evaluation::tree_value-returns-clause-run : goal.evaluation::tree_value-returns-clause-run
+evaluation::tree_value-returns-clause-run g t c =
+    c.joined.ensures.run
+
+pub evaluation::tree_value-returns-clause-facts : goal.evaluation::tree_value-returns-clause-facts
+evaluation::tree_value-returns-clause-facts g t c =
+    c.joined.ensures.facts
+
+pub evaluation::joined-returns-in_err-append_part-clause-run : goal.evaluation::joined-returns-in_err-append_part-clause-run
+evaluation::joined-returns-in_err-append_part-clause-run g t c =
+    refused _ _ c.from_residual.result c.from_residual.ensures.1
+
+pub evaluation::joined-returns-clause-run : goal.evaluation::joined-returns-clause-run
+evaluation::joined-returns-clause-run g t c =
+    c.loop-part.invariant.run
+
+pub evaluation::append_part-returns-in-Short-clause-run : goal.evaluation::append_part-returns-in-Short-clause-run
+evaluation::append_part-returns-in-Short-clause-run g t c =
+    c.append_reference.ensures.run
+
+pub evaluation::append_part-returns-in-Short-clause-facts : goal.evaluation::append_part-returns-in-Short-clause-facts
+evaluation::append_part-returns-in-Short-clause-facts g t c =
+    c.append_reference.ensures.facts
+
+pub evaluation::append_part-returns-in-Ref-clause-run : goal.evaluation::append_part-returns-in-Ref-clause-run
+evaluation::append_part-returns-in-Ref-clause-run g t c =
+    c.append_reference-in-Ref.ensures.run
+
+pub evaluation::append_part-returns-in-Ref-clause-facts : goal.evaluation::append_part-returns-in-Ref-clause-facts
+evaluation::append_part-returns-in-Ref-clause-facts g t c =
+    c.append_reference-in-Ref.ensures.facts
+
+pub evaluation::append_part-returns-in-Plain-clause-run : goal.evaluation::append_part-returns-in-Plain-clause-run
+evaluation::append_part-returns-in-Plain-clause-run g t c =
+    holds _ (Keeps-same c.args.run.now)
+
+pub evaluation::append_part-returns-in-Plain-clause-facts : goal.evaluation::append_part-returns-in-Plain-clause-facts
+evaluation::append_part-returns-in-Plain-clause-facts g t c =
+    Asks-none (g.met.F.Facts.stays _) _ _ _ c.append.result (never_fails _ _ _ c.append.ensures (never-appended _ _))
+
+pub evaluation::append_part-returns-in-Escaped-clause-run : goal.evaluation::append_part-returns-in-Escaped-clause-run
+evaluation::append_part-returns-in-Escaped-clause-run g t c =
+    holds _ (Keeps-same c.args.run.now)
+
+pub evaluation::append_part-returns-in-Double-clause-run : goal.evaluation::append_part-returns-in-Double-clause-run
+evaluation::append_part-returns-in-Double-clause-run g t c =
+    holds _ (Keeps-same c.args.run.now)
+
+pub evaluation::append_part-returns-in-Double-clause-facts : goal.evaluation::append_part-returns-in-Double-clause-facts
+evaluation::append_part-returns-in-Double-clause-facts g t c =
+    Asks-none (g.met.F.Facts.stays _) _ _ _ c.append-in-Double.result (never_fails _ _ _ c.append-in-Double.ensures (never-appended _ _))
+
+pub evaluation::append_part-returns-in-Lone-clause-run : goal.evaluation::append_part-returns-in-Lone-clause-run
+evaluation::append_part-returns-in-Lone-clause-run g t c =
+    holds _ (Keeps-same c.args.run.now)
+
+pub evaluation::append_reference-returns-in_err-open_reference-clause-run : goal.evaluation::append_reference-returns-in_err-open_reference-clause-run
+evaluation::append_reference-returns-in_err-open_reference-clause-run g t c =
+    refused _ _ c.from_residual.result c.from_residual.ensures.1
+
+pub evaluation::append_reference-returns-in_err-open_reference-clause-facts : goal.evaluation::append_reference-returns-in_err-open_reference-clause-facts
+evaluation::append_reference-returns-in_err-open_reference-clause-facts g t c =
+    Asks-refused _ c.from_residual.ensures.1 (Asks-none (g.met.F.Facts.stays _) _ _ _ _ (err_never _ (never-opened _ _ _ c.in_err-open_reference.ensures.err)))
+
+pub evaluation::append_reference-returns-in-Some-clause-facts : goal.evaluation::append_reference-returns-in-Some-clause-facts
+evaluation::append_reference-returns-in-Some-clause-facts g t c =
+    Asks-none (g.met.F.Facts.stays _) _ _ _ c.append.result (never_fails _ _ _ c.append.ensures (never-appended _ _))
+
+pub evaluation::append_reference-returns-in_err-found-clause-run : goal.evaluation::append_reference-returns-in_err-found-clause-run
+evaluation::append_reference-returns-in_err-found-clause-run g t c =
+    refused _ _ c.from_residual-in_err-found.result c.from_residual-in_err-found.ensures.1
+
+pub evaluation::append_reference-returns-in_err-found-clause-facts : goal.evaluation::append_reference-returns-in_err-found-clause-facts
+evaluation::append_reference-returns-in_err-found-clause-facts g t c =
+    Asks-refused _ c.from_residual-in_err-found.ensures.1 (Asks-err c.in_err-found.ensures.facts)
+
+pub evaluation::append_reference-returns-clause-run : goal.evaluation::append_reference-returns-clause-run
+evaluation::append_reference-returns-clause-run g t c =
+    holds _ c.in_ok-found.ensures.run
+
+pub evaluation::append_reference-returns-clause-facts : goal.evaluation::append_reference-returns-clause-facts
+evaluation::append_reference-returns-clause-facts g t c =
+    Asks-never c.append_found.result (never_fails _ _ _ c.append_found.ensures (never-appended _ _)) c.in_ok-found.ensures.facts
+
+pub evaluation::found-returns-in_err-open_reference-clause-run : goal.evaluation::found-returns-in_err-open_reference-clause-run
+evaluation::found-returns-in_err-open_reference-clause-run g t c =
+    refused _ _ c.from_residual.result c.from_residual.ensures.1
+
+pub evaluation::found-returns-in_err-open_reference-clause-facts : goal.evaluation::found-returns-in_err-open_reference-clause-facts
+evaluation::found-returns-in_err-open_reference-clause-facts g t c =
+    Asks-refused _ c.from_residual.ensures.1 (Asks-none (g.met.F.Facts.stays _) _ _ _ _ (err_never _ (never-opened _ _ _ c.in_err-open_reference.ensures.err)))
+
+pub evaluation::found-returns-clause-facts : goal.evaluation::found-returns-clause-facts
+evaluation::found-returns-clause-facts g t c =
+    c.found_inside.ensures.facts
+
+pub evaluation::found_inside-returns-in-Short-clause-run : goal.evaluation::found_inside-returns-in-Short-clause-run
+evaluation::found_inside-returns-in-Short-clause-run g t c =
+    c.variable.ensures.run
+
+pub evaluation::found_inside-returns-in-Short-clause-facts : goal.evaluation::found_inside-returns-in-Short-clause-facts
+evaluation::found_inside-returns-in-Short-clause-facts g t c =
+    c.variable.ensures.facts
+
+pub evaluation::found_inside-returns-in-Ref-clause-run : goal.evaluation::found_inside-returns-in-Ref-clause-run
+evaluation::found_inside-returns-in-Ref-clause-run g t c =
+    c.reference.ensures.run
+
+pub evaluation::found_inside-returns-in-Ref-clause-facts : goal.evaluation::found_inside-returns-in-Ref-clause-facts
+evaluation::found_inside-returns-in-Ref-clause-facts g t c =
+    c.reference.ensures.facts
+
+pub evaluation::reference-returns-in-Some-clause-run : goal.evaluation::reference-returns-in-Some-clause-run
+evaluation::reference-returns-in-Some-clause-run g t c =
+    c.named.ensures.run
+
+pub evaluation::reference-returns-in-Some-clause-facts : goal.evaluation::reference-returns-in-Some-clause-facts
+evaluation::reference-returns-in-Some-clause-facts g t c =
+    c.named.ensures.facts
+
+pub evaluation::reference-returns-in_err-name-clause-run : goal.evaluation::reference-returns-in_err-name-clause-run
+evaluation::reference-returns-in_err-name-clause-run g t c =
+    refused _ _ c.from_residual.result c.from_residual.ensures.1
+
+pub evaluation::reference-returns-in_err-name-clause-facts : goal.evaluation::reference-returns-in_err-name-clause-facts
+evaluation::reference-returns-in_err-name-clause-facts g t c =
+    Asks-refused _ c.from_residual.ensures.1 (Asks-err c.in_err-name.ensures.facts)
+
+pub evaluation::reference-returns-in_err-name-clause-value : goal.evaluation::reference-returns-in_err-name-clause-value
+evaluation::reference-returns-in_err-name-clause-value g t c =
+    λ answers by. refused_as _ c.from_residual.result c.from_residual.ensures.1 (fault_of_all _ _ _ (c.in_err-name.ensures.value answers by))
+
+pub evaluation::reference-returns-clause-run : goal.evaluation::reference-returns-clause-run
+evaluation::reference-returns-clause-run g t c =
+    Keeps-behind _ _ _ _ c.in_ok-name.ensures.run c.named-2.ensures.run
+
+pub evaluation::reference-returns-clause-facts : goal.evaluation::reference-returns-clause-facts
+evaluation::reference-returns-clause-facts g t c =
+    Asks-then (g.met.F.Facts.goes_on _ _ _) c.in_ok-name.ensures.facts c.named-2.ensures.facts
+
+pub evaluation::named-returns-in_err-found-clause-run : goal.evaluation::named-returns-in_err-found-clause-run
+evaluation::named-returns-in_err-found-clause-run g t c =
+    refused _ _ c.from_residual.result c.from_residual.ensures.1
+
+pub evaluation::named-returns-in_err-found-clause-facts : goal.evaluation::named-returns-in_err-found-clause-facts
+evaluation::named-returns-in_err-found-clause-facts g t c =
+    Asks-refused _ c.from_residual.ensures.1 (Asks-err c.in_err-found.ensures.facts)
+
+pub evaluation::named-returns-clause-run : goal.evaluation::named-returns-clause-run
+evaluation::named-returns-clause-run g t c =
+    Keeps-behind _ _ _ _ c.in_ok-found.ensures.run c.chained.ensures.run
+
+pub evaluation::named-returns-clause-facts : goal.evaluation::named-returns-clause-facts
+evaluation::named-returns-clause-facts g t c =
+    Asks-then (g.met.F.Facts.goes_on _ _ _) c.in_ok-found.ensures.facts c.chained.ensures.facts
+
+pub evaluation::variable-returns-in_err-from_bytes-clause-run : goal.evaluation::variable-returns-in_err-from_bytes-clause-run
+evaluation::variable-returns-in_err-from_bytes-clause-run g t c =
+    refused _ _ c.from_residual.result c.from_residual.ensures.1
+
+pub evaluation::variable-returns-in_err-from_bytes-clause-facts : goal.evaluation::variable-returns-in_err-from_bytes-clause-facts
+evaluation::variable-returns-in_err-from_bytes-clause-facts g t c =
+    Asks-refused _ c.from_residual.ensures.1 (Asks-none (g.met.F.Facts.stays _) _ _ _ _ (err_never _ (λ is. cc)))
+
+pub evaluation::variable-returns-in_err-from_bytes-clause-value : goal.evaluation::variable-returns-in_err-from_bytes-clause-value
+evaluation::variable-returns-in_err-from_bytes-clause-value g t c =
+    λ answers by. refused_as _ c.from_residual.result c.from_residual.ensures.1 (inl (inl refl))
+
+pub evaluation::variable-returns-then-is_among-clause-run : goal.evaluation::variable-returns-then-is_among-clause-run
+evaluation::variable-returns-then-is_among-clause-run g t c =
+    tt
+
+pub evaluation::variable-returns-then-is_among-clause-facts : goal.evaluation::variable-returns-then-is_among-clause-facts
+evaluation::variable-returns-then-is_among-clause-facts g t c =
+    Asks-none (g.met.F.Facts.stays _) _ _ _ _ (err_never _ (λ is. cc))
+
+pub evaluation::variable-returns-in_err-raw-clause-run : goal.evaluation::variable-returns-in_err-raw-clause-run
+evaluation::variable-returns-in_err-raw-clause-run g t c =
+    refused _ _ c.from_residual-in_err-raw.result c.from_residual-in_err-raw.ensures.1
+
+pub evaluation::variable-returns-then-not-has_dollar-clause-run : goal.evaluation::variable-returns-then-not-has_dollar-clause-run
+evaluation::variable-returns-then-not-has_dollar-clause-run g t c =
+    holds _ (Keeps-same c.args.run.now)
+
+pub evaluation::variable-returns-in-Some-clause-run : goal.evaluation::variable-returns-in-Some-clause-run
+evaluation::variable-returns-in-Some-clause-run g t c =
+    c.opened_value.ensures.run
+
+pub evaluation::variable-returns-in-Some-clause-facts : goal.evaluation::variable-returns-in-Some-clause-facts
+evaluation::variable-returns-in-Some-clause-facts g t c =
+    c.opened_value.ensures.facts
+
+pub evaluation::variable-returns-in-Some-known-clause-run : goal.evaluation::variable-returns-in-Some-known-clause-run
+evaluation::variable-returns-in-Some-known-clause-run g t c =
+    c.known_value.ensures.run
+
+pub evaluation::variable-returns-in-Some-known-clause-facts : goal.evaluation::variable-returns-in-Some-known-clause-facts
+evaluation::variable-returns-in-Some-known-clause-facts g t c =
+    c.known_value.ensures.facts
+
+pub evaluation::variable-returns-in-None-clause-run : goal.evaluation::variable-returns-in-None-clause-run
+evaluation::variable-returns-in-None-clause-run g t c =
+    Keeps-same c.args.run.now
+
+pub evaluation::variable-returns-in-None-clause-facts : goal.evaluation::variable-returns-in-None-clause-facts
+evaluation::variable-returns-in-None-clause-facts g t c =
+    Asks-none (g.met.F.Facts.stays _) _ _ _ _ (ok_never _)
+
+pub evaluation::known_value-returns-in_err-copy-clause-run : goal.evaluation::known_value-returns-in_err-copy-clause-run
+evaluation::known_value-returns-in_err-copy-clause-run g t c =
+    refused _ _ c.from_residual.result c.from_residual.ensures.1
+
+pub evaluation::known_value-returns-in_err-copy-clause-facts : goal.evaluation::known_value-returns-in_err-copy-clause-facts
+evaluation::known_value-returns-in_err-copy-clause-facts g t c =
+    Asks-refused _ c.from_residual.ensures.1 (Asks-none (g.met.F.Facts.stays _) _ _ _ _ (err_never _ (λ is. cc)))
+
+pub evaluation::known_value-returns-in_err-copy-clause-value : goal.evaluation::known_value-returns-in_err-copy-clause-value
+evaluation::known_value-returns-in_err-copy-clause-value g t c =
+    λ answers by. refused_as _ c.from_residual.result c.from_residual.ensures.1 (inl (inl refl))
+
+pub evaluation::known_value-returns-then-not-has_dollar-clause-run : goal.evaluation::known_value-returns-then-not-has_dollar-clause-run
+evaluation::known_value-returns-then-not-has_dollar-clause-run g t c =
+    holds _ (Keeps-same c.args.run.now)
+
+pub evaluation::known_value-returns-clause-run : goal.evaluation::known_value-returns-clause-run
+evaluation::known_value-returns-clause-run g t c =
+    c.opened_value.ensures.run
+
+pub evaluation::known_value-returns-clause-facts : goal.evaluation::known_value-returns-clause-facts
+evaluation::known_value-returns-clause-facts g t c =
+    c.opened_value.ensures.facts
+
+pub evaluation::opened_value-returns-in_err-from_bytes-clause-run : goal.evaluation::opened_value-returns-in_err-from_bytes-clause-run
+evaluation::opened_value-returns-in_err-from_bytes-clause-run g t c =
+    refused _ _ c.from_residual.result c.from_residual.ensures.1
+
+pub evaluation::opened_value-returns-in_err-from_bytes-clause-facts : goal.evaluation::opened_value-returns-in_err-from_bytes-clause-facts
+evaluation::opened_value-returns-in_err-from_bytes-clause-facts g t c =
+    Asks-refused _ c.from_residual.ensures.1 (Asks-none (g.met.F.Facts.stays _) _ _ _ _ (err_never _ (λ is. cc)))
+
+pub evaluation::opened_value-returns-in_err-from_bytes-clause-value : goal.evaluation::opened_value-returns-in_err-from_bytes-clause-value
+evaluation::opened_value-returns-in_err-from_bytes-clause-value g t c =
+    λ answers by. refused_as _ c.from_residual.result c.from_residual.ensures.1 (inl (inl refl))
+
+pub evaluation::opened_value-returns-in_err-push-clause-run : goal.evaluation::opened_value-returns-in_err-push-clause-run
+evaluation::opened_value-returns-in_err-push-clause-run g t c =
+    refused _ _ c.from_residual-in_err-push.result c.from_residual-in_err-push.ensures.1
+
+pub evaluation::opened_value-returns-in_err-push-clause-facts : goal.evaluation::opened_value-returns-in_err-push-clause-facts
+evaluation::opened_value-returns-in_err-push-clause-facts g t c =
+    Asks-refused _ c.from_residual-in_err-push.ensures.1 (Asks-none (g.met.F.Facts.stays _) _ _ _ _ (err_never _ (λ is. cc)))
+
+pub evaluation::opened_value-returns-in_err-push-clause-value : goal.evaluation::opened_value-returns-in_err-push-clause-value
+evaluation::opened_value-returns-in_err-push-clause-value g t c =
+    λ answers by. refused_as _ c.from_residual-in_err-push.result c.from_residual-in_err-push.ensures.1 (inl (inl refl))
+
+pub evaluation::opened_value-returns-in_err-value-clause-run : goal.evaluation::opened_value-returns-in_err-value-clause-run
+evaluation::opened_value-returns-in_err-value-clause-run g t c =
+    refused _ _ c.from_residual-in_err-value.result c.from_residual-in_err-value.ensures.1
+
+pub evaluation::opened_value-returns-in_err-value-clause-facts : goal.evaluation::opened_value-returns-in_err-value-clause-facts
+evaluation::opened_value-returns-in_err-value-clause-facts g t c =
+    Asks-refused _ c.from_residual-in_err-value.ensures.1 (Asks-err c.in_err-value.ensures.facts)
+
+pub evaluation::opened_value-returns-clause-facts : goal.evaluation::opened_value-returns-clause-facts
+evaluation::opened_value-returns-clause-facts g t c =
+    Asks-ok _ c.in_ok-value.ensures.facts
+
+pub words::modifier-returns-in_err-tree_value-in-Keep-clause-run : goal.words::modifier-returns-in_err-tree_value-in-Keep-clause-run
+words::modifier-returns-in_err-tree_value-in-Keep-clause-run g t c =
+    refused _ _ c.from_residual.result c.from_residual.ensures.1
+
+pub words::modifier-returns-in_err-tree_value-in-Keep-clause-facts : goal.words::modifier-returns-in_err-tree_value-in-Keep-clause-facts
+words::modifier-returns-in_err-tree_value-in-Keep-clause-facts g t c =
+    Asks-refused _ c.from_residual.ensures.1 (Asks-err c.in_err-tree_value-in-Keep.ensures.facts)
+
+pub words::modifier-returns-in_ok-tree_value-in-Keep-clause-run : goal.words::modifier-returns-in_ok-tree_value-in-Keep-clause-run
+words::modifier-returns-in_ok-tree_value-in-Keep-clause-run g t c =
+    c.in_ok-tree_value-in-Keep.ensures.run
+
+pub words::modifier-returns-in_ok-tree_value-in-Keep-clause-facts : goal.words::modifier-returns-in_ok-tree_value-in-Keep-clause-facts
+words::modifier-returns-in_ok-tree_value-in-Keep-clause-facts g t c =
+    Asks-ok _ c.in_ok-tree_value-in-Keep.ensures.facts
+
+pub words::modifier-returns-in_err-tree_value-in-Without-clause-run : goal.words::modifier-returns-in_err-tree_value-in-Without-clause-run
+words::modifier-returns-in_err-tree_value-in-Without-clause-run g t c =
+    refused _ _ c.from_residual-in_err-tree_value-in-Without.result c.from_residual-in_err-tree_value-in-Without.ensures.1
+
+pub words::modifier-returns-in_err-tree_value-in-Without-clause-facts : goal.words::modifier-returns-in_err-tree_value-in-Without-clause-facts
+words::modifier-returns-in_err-tree_value-in-Without-clause-facts g t c =
+    Asks-refused _ c.from_residual-in_err-tree_value-in-Without.ensures.1 (Asks-err c.in_err-tree_value-in-Without.ensures.facts)
+
+pub words::modifier-returns-in_ok-tree_value-in-Without-clause-run : goal.words::modifier-returns-in_ok-tree_value-in-Without-clause-run
+words::modifier-returns-in_ok-tree_value-in-Without-clause-run g t c =
+    c.in_ok-tree_value-in-Without.ensures.run
+
+pub words::modifier-returns-in_ok-tree_value-in-Without-clause-facts : goal.words::modifier-returns-in_ok-tree_value-in-Without-clause-facts
+words::modifier-returns-in_ok-tree_value-in-Without-clause-facts g t c =
+    Asks-ok _ c.in_ok-tree_value-in-Without.ensures.facts
+
+pub words::modifier-returns-in_err-tree_value-in-Select-clause-run : goal.words::modifier-returns-in_err-tree_value-in-Select-clause-run
+words::modifier-returns-in_err-tree_value-in-Select-clause-run g t c =
+    refused _ _ c.from_residual-in_err-tree_value-in-Select.result c.from_residual-in_err-tree_value-in-Select.ensures.1
+
+pub words::modifier-returns-in_err-tree_value-in-Select-clause-facts : goal.words::modifier-returns-in_err-tree_value-in-Select-clause-facts
+words::modifier-returns-in_err-tree_value-in-Select-clause-facts g t c =
+    Asks-refused _ c.from_residual-in_err-tree_value-in-Select.ensures.1 (Asks-err c.in_err-tree_value-in-Select.ensures.facts)
+
+pub words::modifier-returns-in_ok-tree_value-in-Select-clause-run : goal.words::modifier-returns-in_ok-tree_value-in-Select-clause-run
+words::modifier-returns-in_ok-tree_value-in-Select-clause-run g t c =
+    c.in_ok-tree_value-in-Select.ensures.run
+
+pub words::modifier-returns-in_ok-tree_value-in-Select-clause-facts : goal.words::modifier-returns-in_ok-tree_value-in-Select-clause-facts
+words::modifier-returns-in_ok-tree_value-in-Select-clause-facts g t c =
+    Asks-ok _ c.in_ok-tree_value-in-Select.ensures.facts
+
+pub words::modifier-returns-in_err-substitution-in-Subst-clause-run : goal.words::modifier-returns-in_err-substitution-in-Subst-clause-run
+words::modifier-returns-in_err-substitution-in-Subst-clause-run g t c =
+    refused _ _ c.from_residual-in_err-substitution-in-Subst.result c.from_residual-in_err-substitution-in-Subst.ensures.1
+
+pub words::modifier-returns-in_err-substitution-in-Subst-clause-facts : goal.words::modifier-returns-in_err-substitution-in-Subst-clause-facts
+words::modifier-returns-in_err-substitution-in-Subst-clause-facts g t c =
+    Asks-refused _ c.from_residual-in_err-substitution-in-Subst.ensures.1 (Asks-err c.in_err-substitution-in-Subst.ensures.facts)
+
+pub words::modifier-returns-in_ok-substitution-in-Subst-clause-run : goal.words::modifier-returns-in_ok-substitution-in-Subst-clause-run
+words::modifier-returns-in_ok-substitution-in-Subst-clause-run g t c =
+    c.in_ok-substitution-in-Subst.ensures.run
+
+pub words::modifier-returns-in_ok-substitution-in-Subst-clause-facts : goal.words::modifier-returns-in_ok-substitution-in-Subst-clause-facts
+words::modifier-returns-in_ok-substitution-in-Subst-clause-facts g t c =
+    Asks-ok _ c.in_ok-substitution-in-Subst.ensures.facts
+
+pub words::modifier-returns-in_err-range-in-Range-Some-clause-run : goal.words::modifier-returns-in_err-range-in-Range-Some-clause-run
+words::modifier-returns-in_err-range-in-Range-Some-clause-run g t c =
+    refused _ _ c.from_residual-in_err-range-in-Range-Some.result c.from_residual-in_err-range-in-Range-Some.ensures.1
+
+pub words::modifier-returns-in_err-range-in-Range-Some-clause-facts : goal.words::modifier-returns-in_err-range-in-Range-Some-clause-facts
+words::modifier-returns-in_err-range-in-Range-Some-clause-facts g t c =
+    Asks-refused _ c.from_residual-in_err-range-in-Range-Some.ensures.1 (Asks-err c.in_err-range-in-Range-Some.ensures.facts)
+
+pub words::modifier-returns-in_ok-range-in-Range-Some-clause-run : goal.words::modifier-returns-in_ok-range-in-Range-Some-clause-run
+words::modifier-returns-in_ok-range-in-Range-Some-clause-run g t c =
+    c.in_ok-range-in-Range-Some.ensures.run
+
+pub words::modifier-returns-in_ok-range-in-Range-Some-clause-facts : goal.words::modifier-returns-in_ok-range-in-Range-Some-clause-facts
+words::modifier-returns-in_ok-range-in-Range-Some-clause-facts g t c =
+    Asks-ok _ c.in_ok-range-in-Range-Some.ensures.facts
+
+pub words::modifier-returns-in_err-suffix-in-Suffix-clause-run : goal.words::modifier-returns-in_err-suffix-in-Suffix-clause-run
+words::modifier-returns-in_err-suffix-in-Suffix-clause-run g t c =
+    refused _ _ c.from_residual-in_err-suffix-in-Suffix.result c.from_residual-in_err-suffix-in-Suffix.ensures.1
+
+pub words::modifier-returns-in_err-suffix-in-Suffix-clause-facts : goal.words::modifier-returns-in_err-suffix-in-Suffix-clause-facts
+words::modifier-returns-in_err-suffix-in-Suffix-clause-facts g t c =
+    Asks-refused _ c.from_residual-in_err-suffix-in-Suffix.ensures.1 (Asks-err c.in_err-suffix-in-Suffix.ensures.facts)
+
+pub words::modifier-returns-in_ok-suffix-in-Suffix-clause-run : goal.words::modifier-returns-in_ok-suffix-in-Suffix-clause-run
+words::modifier-returns-in_ok-suffix-in-Suffix-clause-run g t c =
+    c.in_ok-suffix-in-Suffix.ensures.run
+
+pub words::modifier-returns-in_ok-suffix-in-Suffix-clause-facts : goal.words::modifier-returns-in_ok-suffix-in-Suffix-clause-facts
+words::modifier-returns-in_ok-suffix-in-Suffix-clause-facts g t c =
+    Asks-ok _ c.in_ok-suffix-in-Suffix.ensures.facts
+
+pub words::modifier-returns-in_err-textless-in_default-clause-run : goal.words::modifier-returns-in_err-textless-in_default-clause-run
+words::modifier-returns-in_err-textless-in_default-clause-run g t c =
+    refused _ _ c.from_residual-in_err-textless-in_default.result c.from_residual-in_err-textless-in_default.ensures.1
+
+pub words::modifier-returns-in_err-textless-in_default-clause-facts : goal.words::modifier-returns-in_err-textless-in_default-clause-facts
+words::modifier-returns-in_err-textless-in_default-clause-facts g t c =
+    Asks-refused _ c.from_residual-in_err-textless-in_default.ensures.1 (Asks-none (g.met.F.Facts.stays _) _ _ _ _ (err_never _ (λ is. cc)))
+
+pub words::modifier-returns-in_err-textless-in_default-clause-value : goal.words::modifier-returns-in_err-textless-in_default-clause-value
+words::modifier-returns-in_err-textless-in_default-clause-value g t c =
+    λ answers by. refused_as _ c.from_residual-in_err-textless-in_default.result c.from_residual-in_err-textless-in_default.ensures.1 (inl (inl refl))
+
+pub words::modifier-returns-in_ok-textless-in_default-clause-run : goal.words::modifier-returns-in_ok-textless-in_default-clause-run
+words::modifier-returns-in_ok-textless-in_default-clause-run g t c =
+    Keeps-same c.args.run.now
+
+pub words::modifier-returns-in_ok-textless-in_default-clause-facts : goal.words::modifier-returns-in_ok-textless-in_default-clause-facts
+words::modifier-returns-in_ok-textless-in_default-clause-facts g t c =
+    Asks-none (g.met.F.Facts.stays _) _ _ _ _ (ok_never _)
+
+pub words::substitution-returns-in_err-old-clause-run : goal.words::substitution-returns-in_err-old-clause-run
+words::substitution-returns-in_err-old-clause-run g t c =
+    refused _ _ c.from_residual.result c.from_residual.ensures.1
+
+pub words::substitution-returns-in_err-old-clause-facts : goal.words::substitution-returns-in_err-old-clause-facts
+words::substitution-returns-in_err-old-clause-facts g t c =
+    Asks-refused _ c.from_residual.ensures.1 (Asks-err c.in_err-old.ensures.facts)
+
+pub words::substitution-returns-in_err-new-clause-run : goal.words::substitution-returns-in_err-new-clause-run
+words::substitution-returns-in_err-new-clause-run g t c =
+    refused _ _ c.from_residual-in_err-new.result c.from_residual-in_err-new.ensures.1
+
+pub words::substitution-returns-in_err-new-clause-facts : goal.words::substitution-returns-in_err-new-clause-facts
+words::substitution-returns-in_err-new-clause-facts g t c =
+    Asks-refused _ c.from_residual-in_err-new.ensures.1 (Asks-then (g.met.F.Facts.goes_on _ _ _) c.in_ok-old.ensures.facts (Asks-err c.in_err-new.ensures.facts))
+
+pub words::substitution-returns-clause-run : goal.words::substitution-returns-clause-run
+words::substitution-returns-clause-run g t c =
+    Keeps-then _ _ _ c.in_ok-old.ensures.run c.in_ok-new.ensures.run
+
+pub words::substitution-returns-clause-facts : goal.words::substitution-returns-clause-facts
+words::substitution-returns-clause-facts g t c =
+    Asks-ok _ (Asks-then (g.met.F.Facts.goes_on _ _ _) c.in_ok-old.ensures.facts c.in_ok-new.ensures.facts)
+
+pub words::suffix-returns-in_err-old-clause-run : goal.words::suffix-returns-in_err-old-clause-run
+words::suffix-returns-in_err-old-clause-run g t c =
+    refused _ _ c.from_residual.result c.from_residual.ensures.1
+
+pub words::suffix-returns-in_err-old-clause-facts : goal.words::suffix-returns-in_err-old-clause-facts
+words::suffix-returns-in_err-old-clause-facts g t c =
+    Asks-refused _ c.from_residual.ensures.1 (Asks-err c.in_err-old.ensures.facts)
+
+pub words::suffix-returns-in_err-new-clause-run : goal.words::suffix-returns-in_err-new-clause-run
+words::suffix-returns-in_err-new-clause-run g t c =
+    refused _ _ c.from_residual-in_err-new.result c.from_residual-in_err-new.ensures.1
+
+pub words::suffix-returns-in_err-new-clause-facts : goal.words::suffix-returns-in_err-new-clause-facts
+words::suffix-returns-in_err-new-clause-facts g t c =
+    Asks-refused _ c.from_residual-in_err-new.ensures.1 (Asks-then (g.met.F.Facts.goes_on _ _ _) c.in_ok-old.ensures.facts (Asks-err c.in_err-new.ensures.facts))
+
+pub words::suffix-returns-clause-run : goal.words::suffix-returns-clause-run
+words::suffix-returns-clause-run g t c =
+    Keeps-then _ _ _ c.in_ok-old.ensures.run c.in_ok-new.ensures.run
+
+pub words::suffix-returns-clause-facts : goal.words::suffix-returns-clause-facts
+words::suffix-returns-clause-facts g t c =
+    Asks-ok _ (Asks-then (g.met.F.Facts.goes_on _ _ _) c.in_ok-old.ensures.facts c.in_ok-new.ensures.facts)
+
+pub words::range-returns-in_err-text-clause-run : goal.words::range-returns-in_err-text-clause-run
+words::range-returns-in_err-text-clause-run g t c =
+    refused _ _ c.from_residual.result c.from_residual.ensures.1
+
+pub words::range-returns-in_err-text-clause-facts : goal.words::range-returns-in_err-text-clause-facts
+words::range-returns-in_err-text-clause-facts g t c =
+    Asks-refused _ c.from_residual.ensures.1 (Asks-err c.in_err-text.ensures.facts)
+
+pub words::range-returns-in_err-text-clause-value : goal.words::range-returns-in_err-text-clause-value
+words::range-returns-in_err-text-clause-value g t c =
+    λ answers by. refused_as _ c.from_residual.result c.from_residual.ensures.1 (fault_of_all _ _ _ (c.in_err-text.ensures.value answers by))
+
+pub words::range-returns-clause-run : goal.words::range-returns-clause-run
+words::range-returns-clause-run g t c =
+    c.in_ok-text.ensures.run
+
+pub words::range-returns-clause-facts : goal.words::range-returns-clause-facts
+words::range-returns-clause-facts g t c =
+    Asks-ok _ c.in_ok-text.ensures.facts
+
+pub words::old_text-returns-in_err-append-in-Some-clause-run : goal.words::old_text-returns-in_err-append-in-Some-clause-run
+words::old_text-returns-in_err-append-in-Some-clause-run g t c =
+    refused _ _ c.from_residual.result c.from_residual.ensures.1
+
+pub words::old_text-returns-in_err-append-in-Some-clause-facts : goal.words::old_text-returns-in_err-append-in-Some-clause-facts
+words::old_text-returns-in_err-append-in-Some-clause-facts g t c =
+    Asks-refused _ c.from_residual.ensures.1 (Asks-none (g.met.F.Facts.stays _) _ _ _ _ (err_never _ (fault_never _ _ c.in_err-append-in-Some.ensures (never-appended _ _))))
+
+pub words::old_text-returns-in_ok-append-in-Some-clause-run : goal.words::old_text-returns-in_ok-append-in-Some-clause-run
+words::old_text-returns-in_ok-append-in-Some-clause-run g t c =
+    c.joined.ensures.run
+
+pub words::old_text-returns-in_ok-append-in-Some-clause-facts : goal.words::old_text-returns-in_ok-append-in-Some-clause-facts
+words::old_text-returns-in_ok-append-in-Some-clause-facts g t c =
+    c.joined.ensures.facts
+
+pub words::old_text-returns-in-None-clause-run : goal.words::old_text-returns-in-None-clause-run
+words::old_text-returns-in-None-clause-run g t c =
+    c.joined-in-None.ensures.run
+
+pub words::old_text-returns-in-None-clause-facts : goal.words::old_text-returns-in-None-clause-facts
+words::old_text-returns-in-None-clause-facts g t c =
+    c.joined-in-None.ensures.facts
+
+pub words::new_text-returns-in_err-append_new-clause-run : goal.words::new_text-returns-in_err-append_new-clause-run
+words::new_text-returns-in_err-append_new-clause-run g t c =
+    refused _ _ c.from_residual.result c.from_residual.ensures.1
+
+pub words::new_text-returns-clause-run : goal.words::new_text-returns-clause-run
+words::new_text-returns-clause-run g t c =
+    c.loop-part.invariant.run
+
+pub words::append_new-returns-in-Plain-clause-run : goal.words::append_new-returns-in-Plain-clause-run
+words::append_new-returns-in-Plain-clause-run g t c =
+    holds _ (Keeps-same c.args.run.now)
+
+pub words::append_new-returns-in-Plain-clause-facts : goal.words::append_new-returns-in-Plain-clause-facts
+words::append_new-returns-in-Plain-clause-facts g t c =
+    Asks-none (g.met.F.Facts.stays _) _ _ _ c.append_with_old.result (never_fails _ _ _ c.append_with_old.ensures (never-appended _ _))
+
+pub modifiers::default_found-returns-in_err-value-clause-run : goal.modifiers::default_found-returns-in_err-value-clause-run
+modifiers::default_found-returns-in_err-value-clause-run g t c =
+    refused _ _ c.from_residual.result c.from_residual.ensures.1
+
+pub modifiers::default_found-returns-in_err-value-clause-facts : goal.modifiers::default_found-returns-in_err-value-clause-facts
+modifiers::default_found-returns-in_err-value-clause-facts g t c =
+    Asks-refused _ c.from_residual.ensures.1 (Asks-err c.in_err-value.ensures.facts)
+
+pub modifiers::default_found-returns-in_err-value-clause-value : goal.modifiers::default_found-returns-in_err-value-clause-value
+modifiers::default_found-returns-in_err-value-clause-value g t c =
+    λ answers by. refused_as _ c.from_residual.result c.from_residual.ensures.1 (fault_of_all _ _ _ (c.in_err-value.ensures.value answers by))
+
+pub modifiers::default_found-returns-clause-run : goal.modifiers::default_found-returns-clause-run
+modifiers::default_found-returns-clause-run g t c =
+    c.in_ok-value.ensures.run
+
+pub modifiers::default_found-returns-clause-facts : goal.modifiers::default_found-returns-clause-facts
+modifiers::default_found-returns-clause-facts g t c =
+    Asks-ok _ c.in_ok-value.ensures.facts
+
+pub modifiers::chained-returns-then-is_empty-clause-run : goal.modifiers::chained-returns-then-is_empty-clause-run
+modifiers::chained-returns-then-is_empty-clause-run g t c =
+    Keeps-same c.args.run.now
+
+pub modifiers::chained-returns-then-is_empty-clause-facts : goal.modifiers::chained-returns-then-is_empty-clause-facts
+modifiers::chained-returns-then-is_empty-clause-facts g t c =
+    Asks-none (g.met.F.Facts.stays _) _ _ _ _ (ok_never _)
+
+pub modifiers::chained-returns-clause-run : goal.modifiers::chained-returns-clause-run
+modifiers::chained-returns-clause-run g t c =
+    c.default_found.ensures.run
+
+pub modifiers::chained-returns-clause-facts : goal.modifiers::chained-returns-clause-facts
+modifiers::chained-returns-clause-facts g t c =
+    c.default_found.ensures.facts
+
+pub modifiers::chained-returns-in_err-new-clause-run : goal.modifiers::chained-returns-in_err-new-clause-run
+modifiers::chained-returns-in_err-new-clause-run g t c =
+    refused _ _ c.from_residual.result c.from_residual.ensures.1
+
+pub modifiers::chained-returns-in_err-new-clause-facts : goal.modifiers::chained-returns-in_err-new-clause-facts
+modifiers::chained-returns-in_err-new-clause-facts g t c =
+    Asks-refused _ c.from_residual.ensures.1 (Asks-none (g.met.F.Facts.stays _) _ _ _ _ (err_never _ (λ is. cc)))
+
+pub modifiers::chained-returns-in_err-new-clause-value : goal.modifiers::chained-returns-in_err-new-clause-value
+modifiers::chained-returns-in_err-new-clause-value g t c =
+    λ answers by. refused_as _ c.from_residual.result c.from_residual.ensures.1 (inl (inl refl))
+
+pub modifiers::chained-returns-in_err-chain-clause-run : goal.modifiers::chained-returns-in_err-chain-clause-run
+modifiers::chained-returns-in_err-chain-clause-run g t c =
+    refused _ _ c.from_residual-in_err-chain.result c.from_residual-in_err-chain.ensures.1
+
+pub modifiers::chained-returns-in_err-chain-clause-facts : goal.modifiers::chained-returns-in_err-chain-clause-facts
+modifiers::chained-returns-in_err-chain-clause-facts g t c =
+    Asks-refused _ c.from_residual-in_err-chain.ensures.1 (Asks-err c.in_err-chain.ensures.facts)
+
+pub modifiers::chained-returns-in_err-value-clause-run : goal.modifiers::chained-returns-in_err-value-clause-run
+modifiers::chained-returns-in_err-value-clause-run g t c =
+    refused _ _ c.from_residual-in_err-value.result c.from_residual-in_err-value.ensures.1
+
+pub modifiers::chained-returns-in_err-value-clause-facts : goal.modifiers::chained-returns-in_err-value-clause-facts
+modifiers::chained-returns-in_err-value-clause-facts g t c =
+    Asks-refused _ c.from_residual-in_err-value.ensures.1 (Asks-never _ (err_never _ (λ is. cc)) c.in_ok-chain.ensures.facts)
+
+pub modifiers::chained-returns-in_err-value-clause-value : goal.modifiers::chained-returns-in_err-value-clause-value
+modifiers::chained-returns-in_err-value-clause-value g t c =
+    λ answers by. refused_as _ c.from_residual-in_err-value.result c.from_residual-in_err-value.ensures.1 (inl (inl refl))
+
+pub modifiers::chained-returns-2-clause-facts : goal.modifiers::chained-returns-2-clause-facts
+modifiers::chained-returns-2-clause-facts g t c =
+    Asks-ok _ c.in_ok-chain.ensures.facts
+
+pub modifiers::all_modified-returns-in_err-more-clause-run : goal.modifiers::all_modified-returns-in_err-more-clause-run
+modifiers::all_modified-returns-in_err-more-clause-run g t c =
+    refused _ _ c.from_residual.result c.from_residual.ensures.1
+
+pub modifiers::all_modified-returns-in_err-chain-clause-run : goal.modifiers::all_modified-returns-in_err-chain-clause-run
+modifiers::all_modified-returns-in_err-chain-clause-run g t c =
+    refused _ _ c.from_residual-in_err-chain.result c.from_residual-in_err-chain.ensures.1
+
+pub modifiers::all_modified-returns-in_err-chain-clause-facts : goal.modifiers::all_modified-returns-in_err-chain-clause-facts
+modifiers::all_modified-returns-in_err-chain-clause-facts g t c =
+    Asks-refused _ c.from_residual-in_err-chain.ensures.1 (Asks-never _ (err_never _ (λ is. cc)) (Asks-then (g.met.F.Facts.goes_on _ _ _) c.loop-one.invariant.facts c.in_ok-more.ensures.facts))
+
+pub modifiers::all_modified-returns-in_err-chain-clause-value : goal.modifiers::all_modified-returns-in_err-chain-clause-value
+modifiers::all_modified-returns-in_err-chain-clause-value g t c =
+    λ answers by. refused_as _ c.from_residual-in_err-chain.result c.from_residual-in_err-chain.ensures.1 (inl (inl refl))
+
+pub modifiers::all_modified-returns-clause-run : goal.modifiers::all_modified-returns-clause-run
+modifiers::all_modified-returns-clause-run g t c =
+    c.loop-one.invariant.run
+
+pub modifiers::modified-returns-in-Choose-clause-run : goal.modifiers::modified-returns-in-Choose-clause-run
+modifiers::modified-returns-in-Choose-clause-run g t c =
+    c.choose.ensures.run
+
+pub modifiers::modified-returns-in-Choose-clause-facts : goal.modifiers::modified-returns-in-Choose-clause-facts
+modifiers::modified-returns-in-Choose-clause-facts g t c =
+    c.choose.ensures.facts
+
+pub modifiers::modified-returns-in-Choose-clause-within : goal.modifiers::modified-returns-in-Choose-clause-within
+modifiers::modified-returns-in-Choose-clause-within g t c =
+    c.choose.ensures.within
+
+pub modifiers::modified-returns-in-Each-clause-run : goal.modifiers::modified-returns-in-Each-clause-run
+modifiers::modified-returns-in-Each-clause-run g t c =
+    c.each.ensures.run
+
+pub modifiers::modified-returns-in-Each-clause-facts : goal.modifiers::modified-returns-in-Each-clause-facts
+modifiers::modified-returns-in-Each-clause-facts g t c =
+    c.each.ensures.facts
+
+pub modifiers::modified-returns-in-Each-clause-within : goal.modifiers::modified-returns-in-Each-clause-within
+modifiers::modified-returns-in-Each-clause-within g t c =
+    c.each.ensures.within
+
+pub modifiers::given_modified-returns-in-IfDefined-clause-run : goal.modifiers::given_modified-returns-in-IfDefined-clause-run
+modifiers::given_modified-returns-in-IfDefined-clause-run g t c =
+    c.if_defined.ensures.run
+
+pub modifiers::given_modified-returns-in-IfDefined-clause-facts : goal.modifiers::given_modified-returns-in-IfDefined-clause-facts
+modifiers::given_modified-returns-in-IfDefined-clause-facts g t c =
+    c.if_defined.ensures.facts
+
+pub modifiers::given_modified-returns-in-IfDefined-clause-within : goal.modifiers::given_modified-returns-in-IfDefined-clause-within
+modifiers::given_modified-returns-in-IfDefined-clause-within g t c =
+    c.if_defined.ensures.within
+
+pub modifiers::given_modified-returns-in-IfUndefined-clause-run : goal.modifiers::given_modified-returns-in-IfUndefined-clause-run
+modifiers::given_modified-returns-in-IfUndefined-clause-run g t c =
+    c.if_undefined.ensures.run
+
+pub modifiers::given_modified-returns-in-IfUndefined-clause-facts : goal.modifiers::given_modified-returns-in-IfUndefined-clause-facts
+modifiers::given_modified-returns-in-IfUndefined-clause-facts g t c =
+    c.if_undefined.ensures.facts
+
+pub modifiers::given_modified-returns-in-IfUndefined-clause-within : goal.modifiers::given_modified-returns-in-IfUndefined-clause-within
+modifiers::given_modified-returns-in-IfUndefined-clause-within g t c =
+    c.if_undefined.ensures.within
+
+pub modifiers::given_modified-returns-in_err-text-in-NameOf-clause-run : goal.modifiers::given_modified-returns-in_err-text-in-NameOf-clause-run
+modifiers::given_modified-returns-in_err-text-in-NameOf-clause-run g t c =
+    refused _ _ c.from_residual.result c.from_residual.ensures.1
+
+pub modifiers::given_modified-returns-in_err-text-in-NameOf-clause-within : goal.modifiers::given_modified-returns-in_err-text-in-NameOf-clause-within
+modifiers::given_modified-returns-in_err-text-in-NameOf-clause-within g t c =
+    refused_if _ _ c.from_residual.result c.from_residual.ensures.1
+
+pub modifiers::given_modified-returns-in_err-text-in-NameOf-clause-facts : goal.modifiers::given_modified-returns-in_err-text-in-NameOf-clause-facts
+modifiers::given_modified-returns-in_err-text-in-NameOf-clause-facts g t c =
+    Asks-refused _ c.from_residual.ensures.1 (Asks-none (g.met.F.Facts.stays _) _ _ _ _ (err_never _ (λ is. cc)))
+
+pub modifiers::given_modified-returns-in_err-text-in-NameOf-clause-value : goal.modifiers::given_modified-returns-in_err-text-in-NameOf-clause-value
+modifiers::given_modified-returns-in_err-text-in-NameOf-clause-value g t c =
+    λ answers by. refused_as _ c.from_residual.result c.from_residual.ensures.1 (inl (inl refl))
+
+pub modifiers::given_modified-returns-in_err-given-in-NameOf-clause-run : goal.modifiers::given_modified-returns-in_err-given-in-NameOf-clause-run
+modifiers::given_modified-returns-in_err-given-in-NameOf-clause-run g t c =
+    refused _ _ c.from_residual-in_err-given-in-NameOf.result c.from_residual-in_err-given-in-NameOf.ensures.1
+
+pub modifiers::given_modified-returns-in_err-given-in-NameOf-clause-within : goal.modifiers::given_modified-returns-in_err-given-in-NameOf-clause-within
+modifiers::given_modified-returns-in_err-given-in-NameOf-clause-within g t c =
+    refused_if _ _ c.from_residual-in_err-given-in-NameOf.result c.from_residual-in_err-given-in-NameOf.ensures.1
+
+pub modifiers::given_modified-returns-in_err-given-in-NameOf-clause-facts : goal.modifiers::given_modified-returns-in_err-given-in-NameOf-clause-facts
+modifiers::given_modified-returns-in_err-given-in-NameOf-clause-facts g t c =
+    Asks-refused _ c.from_residual-in_err-given-in-NameOf.ensures.1 (Asks-none (g.met.F.Facts.stays _) _ _ _ _ (err_never _ (λ is. cc)))
+
+pub modifiers::given_modified-returns-in_err-given-in-NameOf-clause-value : goal.modifiers::given_modified-returns-in_err-given-in-NameOf-clause-value
+modifiers::given_modified-returns-in_err-given-in-NameOf-clause-value g t c =
+    λ answers by. refused_as _ c.from_residual-in_err-given-in-NameOf.result c.from_residual-in_err-given-in-NameOf.ensures.1 (inl (inl refl))
+
+pub modifiers::given_modified-returns-in_ok-given-in-NameOf-clause-facts : goal.modifiers::given_modified-returns-in_ok-given-in-NameOf-clause-facts
+modifiers::given_modified-returns-in_ok-given-in-NameOf-clause-facts g t c =
+    Asks-none (g.met.F.Facts.stays _) _ _ _ _ (ok_never _)
+
+pub modifiers::given_modified-returns-in_ok-given-in-NameOf-clause-within : goal.modifiers::given_modified-returns-in_ok-given-in-NameOf-clause-within
+modifiers::given_modified-returns-in_ok-given-in-NameOf-clause-within g t c =
+    c.in_ok-given-in-NameOf.ensures.within
+
+pub modifiers::given_modified-returns-in_ok-given-in-NameOf-clause-run : goal.modifiers::given_modified-returns-in_ok-given-in-NameOf-clause-run
+modifiers::given_modified-returns-in_ok-given-in-NameOf-clause-run g t c =
+    record { open_names = refl; bound = refl; begins = c.in_ok-given-in-NameOf.ensures.begins }
+
+pub modifiers::choose-returns-in_err-text-clause-run : goal.modifiers::choose-returns-in_err-text-clause-run
+modifiers::choose-returns-in_err-text-clause-run g t c =
+    refused _ _ c.from_residual.result c.from_residual.ensures.1
+
+pub modifiers::choose-returns-in_err-text-clause-within : goal.modifiers::choose-returns-in_err-text-clause-within
+modifiers::choose-returns-in_err-text-clause-within g t c =
+    refused_if _ _ c.from_residual.result c.from_residual.ensures.1
+
+pub modifiers::choose-returns-in_err-text-clause-facts : goal.modifiers::choose-returns-in_err-text-clause-facts
+modifiers::choose-returns-in_err-text-clause-facts g t c =
+    Asks-refused _ c.from_residual.ensures.1 (Asks-err c.in_err-text.ensures.facts)
+
+pub modifiers::choose-returns-in_err-text-clause-value : goal.modifiers::choose-returns-in_err-text-clause-value
+modifiers::choose-returns-in_err-text-clause-value g t c =
+    λ answers by. refused_as _ c.from_residual.result c.from_residual.ensures.1 (fault_of_all _ _ _ (c.in_err-text.ensures.value answers by))
+
+pub modifiers::choose-returns-in_err-given-clause-run : goal.modifiers::choose-returns-in_err-given-clause-run
+modifiers::choose-returns-in_err-given-clause-run g t c =
+    refused _ _ c.from_residual-in_err-given.result c.from_residual-in_err-given.ensures.1
+
+pub modifiers::choose-returns-in_err-given-clause-within : goal.modifiers::choose-returns-in_err-given-clause-within
+modifiers::choose-returns-in_err-given-clause-within g t c =
+    refused_if _ _ c.from_residual-in_err-given.result c.from_residual-in_err-given.ensures.1
+
+pub modifiers::choose-returns-in_err-given-clause-facts : goal.modifiers::choose-returns-in_err-given-clause-facts
+modifiers::choose-returns-in_err-given-clause-facts g t c =
+    Asks-refused _ c.from_residual-in_err-given.ensures.1 (Asks-never _ (err_never _ (λ is. cc)) c.in_ok-text.ensures.facts)
+
+pub modifiers::choose-returns-in_err-given-clause-value : goal.modifiers::choose-returns-in_err-given-clause-value
+modifiers::choose-returns-in_err-given-clause-value g t c =
+    λ answers by. refused_as _ c.from_residual-in_err-given.result c.from_residual-in_err-given.ensures.1 (inl (inl refl))
+
+pub modifiers::choose-returns-clause-facts : goal.modifiers::choose-returns-clause-facts
+modifiers::choose-returns-clause-facts g t c =
+    Asks-ok _ c.in_ok-text.ensures.facts
+
+pub modifiers::choose-returns-clause-within : goal.modifiers::choose-returns-clause-within
+modifiers::choose-returns-clause-within g t c =
+    c.in_ok-given.ensures.within
+
+pub modifiers::if_undefined-returns-then-chain-clause-run : goal.modifiers::if_undefined-returns-then-chain-clause-run
+modifiers::if_undefined-returns-then-chain-clause-run g t c =
+    record { open_names = refl; bound = refl; begins = Begins-refl _ }
+
+pub modifiers::if_undefined-returns-then-chain-clause-facts : goal.modifiers::if_undefined-returns-then-chain-clause-facts
+modifiers::if_undefined-returns-then-chain-clause-facts g t c =
+    Asks-none (g.met.F.Facts.stays _) _ _ _ _ (ok_never _)
+
+pub modifiers::if_undefined-returns-then-chain-clause-within : goal.modifiers::if_undefined-returns-then-chain-clause-within
+modifiers::if_undefined-returns-then-chain-clause-within g t c =
+    c.requires
+
+pub modifiers::if_undefined-returns-in_err-text-clause-run : goal.modifiers::if_undefined-returns-in_err-text-clause-run
+modifiers::if_undefined-returns-in_err-text-clause-run g t c =
+    refused _ _ c.from_residual.result c.from_residual.ensures.1
+
+pub modifiers::if_undefined-returns-in_err-text-clause-within : goal.modifiers::if_undefined-returns-in_err-text-clause-within
+modifiers::if_undefined-returns-in_err-text-clause-within g t c =
+    refused_if _ _ c.from_residual.result c.from_residual.ensures.1
+
+pub modifiers::if_undefined-returns-in_err-text-clause-facts : goal.modifiers::if_undefined-returns-in_err-text-clause-facts
+modifiers::if_undefined-returns-in_err-text-clause-facts g t c =
+    Asks-refused _ c.from_residual.ensures.1 (Asks-err c.in_err-text.ensures.facts)
+
+pub modifiers::if_undefined-returns-in_err-given-clause-run : goal.modifiers::if_undefined-returns-in_err-given-clause-run
+modifiers::if_undefined-returns-in_err-given-clause-run g t c =
+    refused _ _ c.from_residual-in_err-given.result c.from_residual-in_err-given.ensures.1
+
+pub modifiers::if_undefined-returns-in_err-given-clause-within : goal.modifiers::if_undefined-returns-in_err-given-clause-within
+modifiers::if_undefined-returns-in_err-given-clause-within g t c =
+    refused_if _ _ c.from_residual-in_err-given.result c.from_residual-in_err-given.ensures.1
+
+pub modifiers::if_undefined-returns-in_err-given-clause-facts : goal.modifiers::if_undefined-returns-in_err-given-clause-facts
+modifiers::if_undefined-returns-in_err-given-clause-facts g t c =
+    Asks-refused _ c.from_residual-in_err-given.ensures.1 (Asks-never _ (err_never _ (λ is. cc)) c.in_ok-text.ensures.facts)
+
+pub modifiers::if_undefined-returns-in_err-given-clause-value : goal.modifiers::if_undefined-returns-in_err-given-clause-value
+modifiers::if_undefined-returns-in_err-given-clause-value g t c =
+    λ answers by. refused_as _ c.from_residual-in_err-given.result c.from_residual-in_err-given.ensures.1 (inl (inl refl))
+
+pub modifiers::if_undefined-returns-clause-facts : goal.modifiers::if_undefined-returns-clause-facts
+modifiers::if_undefined-returns-clause-facts g t c =
+    Asks-ok _ c.in_ok-text.ensures.facts
+
+pub modifiers::if_undefined-returns-clause-within : goal.modifiers::if_undefined-returns-clause-within
+modifiers::if_undefined-returns-clause-within g t c =
+    c.in_ok-given.ensures.within
+
+pub modifiers::if_defined-returns-in_err-given-clause-run : goal.modifiers::if_defined-returns-in_err-given-clause-run
+modifiers::if_defined-returns-in_err-given-clause-run g t c =
+    refused _ _ c.from_residual.result c.from_residual.ensures.1
+
+pub modifiers::if_defined-returns-in_err-given-clause-within : goal.modifiers::if_defined-returns-in_err-given-clause-within
+modifiers::if_defined-returns-in_err-given-clause-within g t c =
+    refused_if _ _ c.from_residual.result c.from_residual.ensures.1
+
+pub modifiers::if_defined-returns-in_err-given-clause-facts : goal.modifiers::if_defined-returns-in_err-given-clause-facts
+modifiers::if_defined-returns-in_err-given-clause-facts g t c =
+    Asks-refused _ c.from_residual.ensures.1 (Asks-none (g.met.F.Facts.stays _) _ _ _ _ (err_never _ (λ is. cc)))
+
+pub modifiers::if_defined-returns-in_err-given-clause-value : goal.modifiers::if_defined-returns-in_err-given-clause-value
+modifiers::if_defined-returns-in_err-given-clause-value g t c =
+    λ answers by. refused_as _ c.from_residual.result c.from_residual.ensures.1 (inl (inl refl))
+
+pub modifiers::if_defined-returns-then-not-chain-clause-facts : goal.modifiers::if_defined-returns-then-not-chain-clause-facts
+modifiers::if_defined-returns-then-not-chain-clause-facts g t c =
+    Asks-none (g.met.F.Facts.stays _) _ _ _ _ (ok_never _)
+
+pub modifiers::if_defined-returns-then-not-chain-clause-within : goal.modifiers::if_defined-returns-then-not-chain-clause-within
+modifiers::if_defined-returns-then-not-chain-clause-within g t c =
+    c.in_ok-given.ensures.within
+
+pub modifiers::if_defined-returns-then-not-chain-clause-run : goal.modifiers::if_defined-returns-then-not-chain-clause-run
+modifiers::if_defined-returns-then-not-chain-clause-run g t c =
+    record { open_names = refl; bound = refl; begins = c.in_ok-given.ensures.begins }
+
+pub modifiers::if_defined-returns-in_err-text-clause-run : goal.modifiers::if_defined-returns-in_err-text-clause-run
+modifiers::if_defined-returns-in_err-text-clause-run g t c =
+    refused _ _ c.from_residual-in_err-text.result c.from_residual-in_err-text.ensures.1
+
+pub modifiers::if_defined-returns-in_err-text-clause-within : goal.modifiers::if_defined-returns-in_err-text-clause-within
+modifiers::if_defined-returns-in_err-text-clause-within g t c =
+    refused_if _ _ c.from_residual-in_err-text.result c.from_residual-in_err-text.ensures.1
+
+pub modifiers::if_defined-returns-in_err-text-clause-facts : goal.modifiers::if_defined-returns-in_err-text-clause-facts
+modifiers::if_defined-returns-in_err-text-clause-facts g t c =
+    Asks-refused _ c.from_residual-in_err-text.ensures.1 (Asks-err c.in_err-text.ensures.facts)
+
+pub modifiers::if_defined-returns-in_err-given-2-clause-run : goal.modifiers::if_defined-returns-in_err-given-2-clause-run
+modifiers::if_defined-returns-in_err-given-2-clause-run g t c =
+    refused _ _ c.from_residual-in_err-given-2.result c.from_residual-in_err-given-2.ensures.1
+
+pub modifiers::if_defined-returns-in_err-given-2-clause-within : goal.modifiers::if_defined-returns-in_err-given-2-clause-within
+modifiers::if_defined-returns-in_err-given-2-clause-within g t c =
+    refused_if _ _ c.from_residual-in_err-given-2.result c.from_residual-in_err-given-2.ensures.1
+
+pub modifiers::if_defined-returns-in_err-given-2-clause-facts : goal.modifiers::if_defined-returns-in_err-given-2-clause-facts
+modifiers::if_defined-returns-in_err-given-2-clause-facts g t c =
+    Asks-refused _ c.from_residual-in_err-given-2.ensures.1 (Asks-never _ (err_never _ (λ is. cc)) c.in_ok-text.ensures.facts)
+
+pub modifiers::if_defined-returns-in_err-given-2-clause-value : goal.modifiers::if_defined-returns-in_err-given-2-clause-value
+modifiers::if_defined-returns-in_err-given-2-clause-value g t c =
+    λ answers by. refused_as _ c.from_residual-in_err-given-2.result c.from_residual-in_err-given-2.ensures.1 (inl (inl refl))
+
+pub modifiers::if_defined-returns-clause-facts : goal.modifiers::if_defined-returns-clause-facts
+modifiers::if_defined-returns-clause-facts g t c =
+    Asks-ok _ c.in_ok-text.ensures.facts
+
+pub modifiers::if_defined-returns-clause-within : goal.modifiers::if_defined-returns-clause-within
+modifiers::if_defined-returns-clause-within g t c =
+    c.in_ok-given-2.ensures.within
+
+pub modifiers::chosen-returns-in_err-cond-clause-run : goal.modifiers::chosen-returns-in_err-cond-clause-run
+modifiers::chosen-returns-in_err-cond-clause-run g t c =
+    refused _ _ c.from_residual.result c.from_residual.ensures.1
+
+pub modifiers::chosen-returns-in_err-cond-clause-facts : goal.modifiers::chosen-returns-in_err-cond-clause-facts
+modifiers::chosen-returns-in_err-cond-clause-facts g t c =
+    Asks-refused _ c.from_residual.ensures.1 (Asks-none (g.met.F.Facts.stays _) _ _ _ _ (err_never _ (never-of_cond _)))
+
+pub modifiers::chosen-returns-in_err-truth_of-clause-run : goal.modifiers::chosen-returns-in_err-truth_of-clause-run
+modifiers::chosen-returns-in_err-truth_of-clause-run g t c =
+    refused _ _ c.from_residual-in_err-truth_of.result c.from_residual-in_err-truth_of.ensures.1
+
+pub modifiers::chosen-returns-in_err-truth_of-clause-facts : goal.modifiers::chosen-returns-in_err-truth_of-clause-facts
+modifiers::chosen-returns-in_err-truth_of-clause-facts g t c =
+    Asks-refused _ c.from_residual-in_err-truth_of.ensures.1 (Asks-err c.in_err-truth_of.ensures.facts)
+
+pub modifiers::chosen-returns-then-branch-clause-run : goal.modifiers::chosen-returns-then-branch-clause-run
+modifiers::chosen-returns-then-branch-clause-run g t c =
+    Keeps-behind _ _ _ _ c.in_ok-truth_of.ensures.run c.tree_value.ensures.run
+
+pub modifiers::chosen-returns-clause-run : goal.modifiers::chosen-returns-clause-run
+modifiers::chosen-returns-clause-run g t c =
+    Keeps-behind _ _ _ _ c.in_ok-truth_of.ensures.run c.tree_value-2.ensures.run
+
+pub modifiers::each-returns-in_err-results-clause-run : goal.modifiers::each-returns-in_err-results-clause-run
+modifiers::each-returns-in_err-results-clause-run g t c =
+    refused _ _ c.from_residual.result c.from_residual.ensures.1
+
+pub modifiers::each-returns-in_err-results-clause-within : goal.modifiers::each-returns-in_err-results-clause-within
+modifiers::each-returns-in_err-results-clause-within g t c =
+    refused_if _ _ c.from_residual.result c.from_residual.ensures.1
+
+pub modifiers::each-returns-in_err-results-clause-facts : goal.modifiers::each-returns-in_err-results-clause-facts
+modifiers::each-returns-in_err-results-clause-facts g t c =
+    Asks-refused _ c.from_residual.ensures.1 (Asks-err c.in_err-results.ensures.facts)
+
+pub modifiers::each-returns-in_err-with_results-clause-run : goal.modifiers::each-returns-in_err-with_results-clause-run
+modifiers::each-returns-in_err-with_results-clause-run g t c =
+    refused _ _ c.from_residual-in_err-with_results.result c.from_residual-in_err-with_results.ensures.1
+
+pub modifiers::each-returns-in_err-with_results-clause-within : goal.modifiers::each-returns-in_err-with_results-clause-within
+modifiers::each-returns-in_err-with_results-clause-within g t c =
+    refused_if _ _ c.from_residual-in_err-with_results.result c.from_residual-in_err-with_results.ensures.1
+
+pub modifiers::each-returns-in_err-with_results-clause-facts : goal.modifiers::each-returns-in_err-with_results-clause-facts
+modifiers::each-returns-in_err-with_results-clause-facts g t c =
+    Asks-refused _ c.from_residual-in_err-with_results.ensures.1 (Asks-never _ (err_never _ (λ is. cc)) c.in_ok-results.ensures.facts)
+
+pub modifiers::each-returns-in_err-with_results-clause-value : goal.modifiers::each-returns-in_err-with_results-clause-value
+modifiers::each-returns-in_err-with_results-clause-value g t c =
+    λ answers by. refused_as _ c.from_residual-in_err-with_results.result c.from_residual-in_err-with_results.ensures.1 (inl (inl refl))
+
+pub modifiers::each-returns-clause-facts : goal.modifiers::each-returns-clause-facts
+modifiers::each-returns-clause-facts g t c =
+    Asks-ok _ c.in_ok-results.ensures.facts
+
+pub modifiers::each-returns-clause-within : goal.modifiers::each-returns-clause-within
+modifiers::each-returns-clause-within g t c =
+    c.in_ok-with_results.ensures.within
+
+pub modifiers::all_results-returns-in_err-words-clause-run : goal.modifiers::all_results-returns-in_err-words-clause-run
+modifiers::all_results-returns-in_err-words-clause-run g t c =
+    refused _ _ c.from_residual.result c.from_residual.ensures.1
+
+pub modifiers::all_results-returns-in_err-words-clause-facts : goal.modifiers::all_results-returns-in_err-words-clause-facts
+modifiers::all_results-returns-in_err-words-clause-facts g t c =
+    Asks-refused _ c.from_residual.ensures.1 (Asks-none (g.met.F.Facts.stays _) _ _ _ _ (err_never _ (λ is. cc)))
+
+pub modifiers::all_results-returns-in_err-words-clause-value : goal.modifiers::all_results-returns-in_err-words-clause-value
+modifiers::all_results-returns-in_err-words-clause-value g t c =
+    λ answers by. refused_as _ c.from_residual.result c.from_residual.ensures.1 (inl (inl refl))
+
+pub modifiers::all_results-returns-in_err-none-clause-run : goal.modifiers::all_results-returns-in_err-none-clause-run
+modifiers::all_results-returns-in_err-none-clause-run g t c =
+    refused _ _ c.from_residual-in_err-none.result c.from_residual-in_err-none.ensures.1
+
+pub modifiers::all_results-returns-in_err-none-clause-facts : goal.modifiers::all_results-returns-in_err-none-clause-facts
+modifiers::all_results-returns-in_err-none-clause-facts g t c =
+    Asks-refused _ c.from_residual-in_err-none.ensures.1 (Asks-none (g.met.F.Facts.stays _) _ _ _ _ (err_never _ (λ is. cc)))
+
+pub modifiers::all_results-returns-in_err-none-clause-value : goal.modifiers::all_results-returns-in_err-none-clause-value
+modifiers::all_results-returns-in_err-none-clause-value g t c =
+    λ answers by. refused_as _ c.from_residual-in_err-none.result c.from_residual-in_err-none.ensures.1 (inl (inl refl))
+
+pub modifiers::all_results-returns-clause-facts : goal.modifiers::all_results-returns-clause-facts
+modifiers::all_results-returns-clause-facts g t c =
+    c.each_behind.ensures.facts
+
+pub modifiers::each_behind-returns-in_err-binding-clause-run : goal.modifiers::each_behind-returns-in_err-binding-clause-run
+modifiers::each_behind-returns-in_err-binding-clause-run g t c =
+    refused _ _ c.from_residual.result c.from_residual.ensures.1
+
+pub modifiers::each_behind-returns-in_err-binding-clause-facts : goal.modifiers::each_behind-returns-in_err-binding-clause-facts
+modifiers::each_behind-returns-in_err-binding-clause-facts g t c =
+    Asks-refused _ c.from_residual.ensures.1 (Asks-none (g.met.F.Facts.stays _) _ _ _ _ (err_never _ (λ is. cc)))
+
+pub modifiers::each_behind-returns-in_err-binding-clause-value : goal.modifiers::each_behind-returns-in_err-binding-clause-value
+modifiers::each_behind-returns-in_err-binding-clause-value g t c =
+    λ answers by. refused_as _ c.from_residual.result c.from_residual.ensures.1 (inl (inl refl))
+
+pub modifiers::each_behind-returns-in_err-stand_for-clause-run : goal.modifiers::each_behind-returns-in_err-stand_for-clause-run
+modifiers::each_behind-returns-in_err-stand_for-clause-run g t c =
+    refused _ _ c.from_residual-in_err-stand_for.result c.from_residual-in_err-stand_for.ensures.1
+
+pub modifiers::each_behind-returns-in_err-stand_for-clause-facts : goal.modifiers::each_behind-returns-in_err-stand_for-clause-facts
+modifiers::each_behind-returns-in_err-stand_for-clause-facts g t c =
+    Asks-refused _ c.from_residual-in_err-stand_for.ensures.1 (Asks-never _ (err_never _ (λ is. cc)) c.loop-word.invariant.facts)
+
+pub modifiers::each_behind-returns-in_err-stand_for-clause-value : goal.modifiers::each_behind-returns-in_err-stand_for-clause-value
+modifiers::each_behind-returns-in_err-stand_for-clause-value g t c =
+    λ answers by. refused_as _ c.from_residual-in_err-stand_for.result c.from_residual-in_err-stand_for.ensures.1 (inl (inl refl))
+
+pub modifiers::each_behind-returns-in_err-result-clause-run : goal.modifiers::each_behind-returns-in_err-result-clause-run
+modifiers::each_behind-returns-in_err-result-clause-run g t c =
+    refused _ _ c.from_residual-in_err-result.result c.from_residual-in_err-result.ensures.1
+
+pub modifiers::each_behind-returns-in_err-add-clause-run : goal.modifiers::each_behind-returns-in_err-add-clause-run
+modifiers::each_behind-returns-in_err-add-clause-run g t c =
+    refused _ _ c.from_residual-in_err-add.result c.from_residual-in_err-add.ensures.1
+
+pub modifiers::each_behind-returns-in_err-add-clause-facts : goal.modifiers::each_behind-returns-in_err-add-clause-facts
+modifiers::each_behind-returns-in_err-add-clause-facts g t c =
+    Asks-refused _ c.from_residual-in_err-add.ensures.1 (Asks-never _ (err_never _ (never-of_mod _)) (Asks-then (g.met.F.Facts.goes_on _ _ _) c.loop-word.invariant.facts c.in_ok-result.ensures.facts))
+
+pub modifiers::each_behind-returns-clause-run : goal.modifiers::each_behind-returns-clause-run
+modifiers::each_behind-returns-clause-run g t c =
+    c.loop-word.invariant.run
+
+pub modifiers::word_result-returns-in_err-bind-clause-run : goal.modifiers::word_result-returns-in_err-bind-clause-run
+modifiers::word_result-returns-in_err-bind-clause-run g t c =
+    refused _ _ c.from_residual.result c.from_residual.ensures.1
+
+pub modifiers::word_result-returns-in_err-bind-clause-binding : goal.modifiers::word_result-returns-in_err-bind-clause-binding
+modifiers::word_result-returns-in_err-bind-clause-binding g t c =
+    refused_if _ _ c.from_residual.result c.from_residual.ensures.1
+
+pub modifiers::word_result-returns-in_err-bind-clause-facts : goal.modifiers::word_result-returns-in_err-bind-clause-facts
+modifiers::word_result-returns-in_err-bind-clause-facts g t c =
+    Asks-refused _ c.from_residual.ensures.1 (Asks-none (g.met.F.Facts.stays _) _ _ _ _ (err_never _ (λ is. cc)))
+
+pub modifiers::word_result-returns-in_err-bind-clause-value : goal.modifiers::word_result-returns-in_err-bind-clause-value
+modifiers::word_result-returns-in_err-bind-clause-value g t c =
+    λ answers by. refused_as _ c.from_residual.result c.from_residual.ensures.1 (inl (inl refl))
+
+pub modifiers::word_result-returns-in_err-result-clause-run : goal.modifiers::word_result-returns-in_err-result-clause-run
+modifiers::word_result-returns-in_err-result-clause-run g t c =
+    refused _ _ c.from_residual-in_err-result.result c.from_residual-in_err-result.ensures.1
+
+pub modifiers::word_result-returns-in_err-result-clause-binding : goal.modifiers::word_result-returns-in_err-result-clause-binding
+modifiers::word_result-returns-in_err-result-clause-binding g t c =
+    refused_if _ _ c.from_residual-in_err-result.result c.from_residual-in_err-result.ensures.1
+
+pub modifiers::word_result-returns-in_err-result-clause-facts : goal.modifiers::word_result-returns-in_err-result-clause-facts
+modifiers::word_result-returns-in_err-result-clause-facts g t c =
+    Asks-refused _ c.from_residual-in_err-result.ensures.1 (Asks-err c.in_err-result.ensures.facts)
+
+pub modifiers::word_result-returns-clause-facts : goal.modifiers::word_result-returns-clause-facts
+modifiers::word_result-returns-clause-facts g t c =
+    Asks-ok _ c.in_ok-result.ensures.facts
+
+pub modifiers::word_modified-returns-in_err-modifier-clause-run : goal.modifiers::word_modified-returns-in_err-modifier-clause-run
+modifiers::word_modified-returns-in_err-modifier-clause-run g t c =
+    refused _ _ c.from_residual.result c.from_residual.ensures.1
+
+pub modifiers::word_modified-returns-in_err-modifier-clause-within : goal.modifiers::word_modified-returns-in_err-modifier-clause-within
+modifiers::word_modified-returns-in_err-modifier-clause-within g t c =
+    refused_if _ _ c.from_residual.result c.from_residual.ensures.1
+
+pub modifiers::word_modified-returns-in_err-modifier-clause-facts : goal.modifiers::word_modified-returns-in_err-modifier-clause-facts
+modifiers::word_modified-returns-in_err-modifier-clause-facts g t c =
+    Asks-refused _ c.from_residual.ensures.1 (Asks-err c.in_err-modifier.ensures.facts)
+
+pub modifiers::word_modified-returns-in_err-apply-in-Some-clause-run : goal.modifiers::word_modified-returns-in_err-apply-in-Some-clause-run
+modifiers::word_modified-returns-in_err-apply-in-Some-clause-run g t c =
+    refused _ _ c.from_residual-in_err-apply-in-Some.result c.from_residual-in_err-apply-in-Some.ensures.1
+
+pub modifiers::word_modified-returns-in_err-apply-in-Some-clause-within : goal.modifiers::word_modified-returns-in_err-apply-in-Some-clause-within
+modifiers::word_modified-returns-in_err-apply-in-Some-clause-within g t c =
+    refused_if _ _ c.from_residual-in_err-apply-in-Some.result c.from_residual-in_err-apply-in-Some.ensures.1
+
+pub modifiers::word_modified-returns-in_err-apply-in-Some-clause-facts : goal.modifiers::word_modified-returns-in_err-apply-in-Some-clause-facts
+modifiers::word_modified-returns-in_err-apply-in-Some-clause-facts g t c =
+    Asks-refused _ c.from_residual-in_err-apply-in-Some.ensures.1 (Asks-never _ (err_never _ (never-of_mod _)) c.in_ok-modifier.ensures.facts)
+
+pub modifiers::word_modified-returns-in_ok-apply-in-Some-clause-facts : goal.modifiers::word_modified-returns-in_ok-apply-in-Some-clause-facts
+modifiers::word_modified-returns-in_ok-apply-in-Some-clause-facts g t c =
+    Asks-ok _ c.in_ok-modifier.ensures.facts
+
+pub modifiers::word_modified-returns-in_ok-apply-in-Some-clause-within : goal.modifiers::word_modified-returns-in_ok-apply-in-Some-clause-within
+modifiers::word_modified-returns-in_ok-apply-in-Some-clause-within g t c =
+    c.in_ok-apply-in-Some.ensures.within
+
+pub modifiers::word_modified-returns-in-None-clause-facts : goal.modifiers::word_modified-returns-in-None-clause-facts
+modifiers::word_modified-returns-in-None-clause-facts g t c =
+    Asks-ok _ c.in_ok-modifier.ensures.facts
