@@ -54,20 +54,16 @@ fn against(alloc: Global, directory: &[u8], path: &[u8]) -> Result<Text, NoMemor
         return Text::from_bytes(alloc, path);
     }
     let mut text = Text::from_bytes(alloc, directory)?;
-    text.push(b"/")?;
-    text.push(path)?;
-    Ok(text)
+    text.push_both(b"/", path).and(Ok(text))
 }
 
 /// A directory against another one, absolute and clean.
 pub fn directory_from(alloc: Global, directory: &[u8], path: &[u8]) -> Result<Text, NoMemory>
     ensures { IfOk result (λ text. text ≡ spec.directory_from directory.now path.now) }
 {
-    let place = against(alloc, directory, path)?;
-    let below_root = clean_path(alloc, b"/", place.bytes())?;
+    let below_root = path_from(alloc, b"/", directory, path)?;
     let mut text = Text::from_bytes(alloc, b"/")?;
-    text.push(below_root.bytes())?;
-    Ok(text)
+    text.push(below_root.bytes()).and(Ok(text))
 }
 
 /// A path against a directory, as it is named from `cwd`.

@@ -1,5 +1,6 @@
 //! A recorder's log, read into records.
 ghost use Rattle.std.specs.Prelude.{◌≡◌, ◌++◌, IfOk, OnOk};
+ghost use Rattle.std.specs.List.{slice_split};
 ghost use Rattle.std.specs.Option.{option_map};
 ghost use Rattle.mk_filemon.specs.Held.{directories_in};
 ghost use Rattle.mk_filemon.specs.Log as spec;
@@ -156,6 +157,25 @@ fn read_line(
     }
 }
 
+// Adds the records of the lines of a log, the last of which may lack its newline.
+fn read_lines(
+    alloc: Global,
+    ops: &mut Ops,
+    directories: &mut Directories,
+    cwd: &[u8],
+    log: &[u8],
+) -> Result<(), NoMemory>
+    ensures { OnOk result (ops.new ≡ ops.old ++ spec.lines_logged cwd.now
+        (directories_in directories.old) (slice_split spec.is_newline log.now)) }
+{
+    let mut rest = log;
+    'lines: while let Some((line, after)) = cut_at(b'\n', rest) {
+        read_line(alloc, ops, directories, cwd, line)?;
+        rest = after;
+    }
+    read_line(alloc, ops, directories, cwd, rest)
+}
+
 /// The records of a recorder's log, in order, each path absolute against the directory of its
 /// process and then named from `cwd`, which must be absolute and clean to be of use. A process that
 /// was not seen has the directory `cwd`. The last line may lack its newline. The time is linear in
@@ -165,11 +185,7 @@ pub fn read_log(alloc: Global, log: &[u8], cwd: &[u8]) -> Result<Ops, NoMemory>
 {
     let mut ops = Items::new(alloc, 0)?;
     let mut directories = Directories::new(alloc);
-    let mut rest = log;
-    'lines: while let Some((line, after)) = cut_at(b'\n', rest) {
-        read_line(alloc, &mut ops, &mut directories, cwd, line)?;
-        rest = after;
-    }
-    read_line(alloc, &mut ops, &mut directories, cwd, rest)?;
-    Ok(ops)
+    let read = read_lines(alloc, &mut ops, &mut directories, cwd, log);
+    drop(directories);
+    read.and(Ok(ops))
 }

@@ -1,11 +1,12 @@
 //! What a job took from outside itself, and what it left, by its records: make(1), "META MODE".
 ghost use Rattle.std.specs.Prelude.{◌≡◌, [], IfOk};
 ghost use Rattle.mk_filemon.specs.Outer as spec;
-ghost use Rattle.mk_filemon.specs.Entries.{all_noted};
+ghost use Rattle.mk_filemon.specs.Entries.{all_noted, paths_that};
+ghost use Rattle.mk_filemon.specs.declared.trace.Asked.TheVariants as asked;
 
 use crate::record::Recs;
 use crate::trace::{Asked, Traces};
-use mk_bytes::{NoMemory, Texts};
+use mk_bytes::{NoMemory, Text, Texts};
 use std::alloc::Global;
 
 // The traces that records leave.
@@ -58,6 +59,22 @@ pub struct JobPaths {
     pub left: Texts,
 }
 
+// The three lists that traces tell, without the paths that begin with one of the words.
+fn paths_in(alloc: Global, ignored: &[Text], traces: &Traces) -> Result<JobPaths, NoMemory>
+    ensures found { IfOk result (λ paths.
+        paths.found ≡ paths_that ignored.now asked.Found traces.now) }
+    ensures missed { IfOk result (λ paths.
+        paths.missed ≡ paths_that ignored.now asked.Missed traces.now) }
+    ensures left { IfOk result (λ paths.
+        paths.left ≡ paths_that ignored.now asked.Written traces.now) }
+{
+    Ok(JobPaths {
+        found: traces.paths_that(alloc, ignored, Asked::Found)?,
+        missed: traces.paths_that(alloc, ignored, Asked::Missed)?,
+        left: traces.paths_that(alloc, ignored, Asked::Written)?,
+    })
+}
+
 /// These three lists, by one pass over the records, without the paths that begin with one of the
 /// words. Each is that of [`outer_found`], [`outer_missed`] and [`left_written`] otherwise.
 pub fn job_paths(alloc: Global, ignored: &Texts, records: &Recs) -> Result<JobPaths, NoMemory>
@@ -69,10 +86,7 @@ pub fn job_paths(alloc: Global, ignored: &Texts, records: &Recs) -> Result<JobPa
         paths.left ≡ spec.counted ignored.now (spec.left_written (spec.ops_of records.now))) }
 {
     let traces = traces_of(alloc, records)?;
-    let ignored = ignored.as_slice();
-    Ok(JobPaths {
-        found: traces.paths_that(alloc, ignored, Asked::Found)?,
-        missed: traces.paths_that(alloc, ignored, Asked::Missed)?,
-        left: traces.paths_that(alloc, ignored, Asked::Written)?,
-    })
+    let paths = paths_in(alloc, ignored.as_slice(), &traces);
+    drop(traces);
+    paths
 }

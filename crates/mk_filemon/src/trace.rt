@@ -1,5 +1,5 @@
 //! What records tell of each path, in one table.
-ghost use Rattle.std.specs.Prelude.{◌≡◌, [], OnOk, IfOk};
+ghost use Rattle.std.specs.Prelude.{◌≡◌, [], ◌++◌, OnOk, IfOk};
 ghost use Rattle.mk_filemon.specs.Outer.{is_ignored, touches};
 ghost use Rattle.mk_filemon.specs.Entries as spec;
 
@@ -155,6 +155,25 @@ impl<'r> Traces<'r> {
             .count()
     }
 
+    // Adds the paths that are asked for.
+    fn add_paths(
+        &self,
+        alloc: Global,
+        ignored: &[Text],
+        asked: Asked,
+        paths: &mut Texts,
+    ) -> Result<(), NoMemory>
+        ensures { OnOk result (paths.new
+            ≡ paths.old ++ spec.paths_that ignored.now asked self.now) }
+    {
+        for (path, trace) in self.traces.iter() {
+            if tells(asked, *trace) && !is_ignored(ignored, *path) {
+                paths.push(Text::from_bytes(alloc, *path)?)?;
+            }
+        }
+        Ok(())
+    }
+
     /// The paths that are asked for, in order, without those that begin with one of the words.
     pub fn paths_that(
         &self,
@@ -165,11 +184,7 @@ impl<'r> Traces<'r> {
         ensures { IfOk result (λ paths. paths ≡ spec.paths_that ignored.now asked self.now) }
     {
         let mut paths = Items::new(alloc, self.how_many(asked))?;
-        for (path, trace) in self.traces.iter() {
-            if tells(asked, *trace) && !is_ignored(ignored, *path) {
-                paths.push(Text::from_bytes(alloc, *path)?)?;
-            }
-        }
-        Ok(paths)
+        self.add_paths(alloc, ignored, asked, &mut paths)
+            .and(Ok(paths))
     }
 }

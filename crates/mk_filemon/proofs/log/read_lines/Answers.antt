@@ -1,7 +1,8 @@
 use Rattle.std.proofs.Common.{◌∙◌}
+use Rattle.std.proofs.lemmas.Result.{IfOk-weaker}
 use Rattle.mk_filemon.specs.Held.{directories_in}
 use Rattle.mk_filemon.proofs.LogLemmas.{logged-line, logged-last}
-use Rattle.mk_filemon.proofs.log.read_log.Goals as goal
+use Rattle.mk_filemon.proofs.log.read_lines.Goals as goal
 
 pub lines-preserved : goal.lines-preserved
 lines-preserved c =
@@ -13,7 +14,8 @@ lines-preserved c =
 
 pub returns : goal.returns
 returns c =
-    logged-last c.args.cwd.now c.lines.rest.now c.lines.ops c.read_line-2.new.ops
-    (directories_in c.lines.directories) c.in_default.ensures.parts
-    c.in_ok-read_line-2.ensures.ops
-    ∙ c.lines.invariant
+    IfOk-weaker c.read_line-2.result _ _
+    (λ _ read. logged-last c.args.cwd.now c.lines.rest.now c.lines.ops c.read_line-2.new.ops
+    (directories_in c.lines.directories) c.in_default.ensures.parts read
+    ∙ c.lines.invariant)
+    c.read_line-2.ensures.ops
