@@ -99,8 +99,8 @@ impl Chronicle {
         ensures ok { OnOk result (self.new ≡ with_event self.old (Look path.now)) }
         ensures err { OnErr result (self.new ≡ self.old) }
     {
-        let path = Text::from_bytes(self.alloc, path)?;
         self.events.reserve(self.children.len() + 1)?;
+        let path = Text::from_bytes(self.alloc, path)?;
         self.events.push(Happening::Look { path }).unwrap();
         Ok(())
     }
@@ -113,8 +113,8 @@ impl Chronicle {
         ensures err { OnErr result (self.new ≡ self.old) }
     {
         let time = self.clock + 1;
-        let copy = Text::from_bytes(self.alloc, path)?;
         self.events.reserve(self.children.len() + 1)?;
+        let copy = Text::from_bytes(self.alloc, path)?;
         match bytes {
             None => {
                 self.files.remove(path);
@@ -150,8 +150,8 @@ impl Chronicle {
         ensures err { OnErr result (self.new ≡ self.old) }
     {
         let time = self.clock + 1;
-        let copy = Text::from_bytes(self.alloc, path)?;
         self.events.reserve(self.children.len() + 1)?;
+        let copy = Text::from_bytes(self.alloc, path)?;
         self.files.remove(path);
         self.clock = time;
         self.events
@@ -172,9 +172,9 @@ impl Chronicle {
             (self.new ≡ with_event self.old (event_of writing path.now bytes.now time)) }
         ensures err { OnErr result (self.new ≡ self.old) }
     {
+        self.events.reserve(self.children.len() + 1)?;
         let copy = Text::from_bytes(self.alloc, path)?;
         let text = Text::from_bytes(self.alloc, bytes)?;
-        self.events.reserve(self.children.len() + 1)?;
         self.files.write(path, bytes, time)?;
         self.clock = time;
         self.events.push(writing.event(copy, text, time)).unwrap();
@@ -241,9 +241,9 @@ impl Chronicle {
             (Ask cmd.now (timed (state_of self.old).clock deeds.now))) }
         ensures err { OnErr result (self.new ≡ self.old) }
     {
-        let steps = clock::timed(self.alloc, self.clock, deeds.as_slice())?;
-        let cmd = copy_cmd(self.alloc, cmd)?;
         self.events.reserve(self.children.len() + 1)?;
+        let cmd = copy_cmd(self.alloc, cmd)?;
+        let steps = clock::timed(self.alloc, self.clock, deeds.as_slice())?;
         self.files.apply_all(steps.as_slice())?;
         self.clock += all_taken(deeds.as_slice());
         self.events.push(Happening::Ask { cmd, steps }).unwrap();
@@ -255,10 +255,10 @@ impl Chronicle {
         ensures ok { OnOk result (self.new ≡ with_event self.old (Start ticket owner cmd.now)) }
         ensures err { OnErr result (self.new ≡ self.old) }
     {
-        let child = new_child(self.alloc, ticket, owner, cmd)?;
-        let cmd = copy_cmd(self.alloc, cmd)?;
         // for this event, and for the one that ends each child
         self.events.reserve(self.children.len() + 2)?;
+        let child = new_child(self.alloc, ticket, owner, cmd)?;
+        let cmd = copy_cmd(self.alloc, cmd)?;
         self.children.push(child)?;
         self.events
             .push(Happening::Start { ticket, owner, cmd })
@@ -310,12 +310,17 @@ impl Chronicle {
         ensures turn { IfOk result (IsTurn self.now) }
     {
         let deed = self.deed(ticket)?;
-        let ended = self.ended(ticket, deed.as_ref())?;
-        Ok(Going {
-            ticket: Some(ticket),
-            deed,
-            ended,
-        })
+        match self.ended(ticket, deed.as_ref()) {
+            Err(fault) => {
+                drop(deed);
+                Err(fault)
+            }
+            Ok(ended) => Ok(Going {
+                ticket: Some(ticket),
+                deed,
+                ended,
+            }),
+        }
     }
 
     /// Whether the clock has enough numbers for the step of the turn, and for so many changes behind
@@ -358,25 +363,33 @@ impl Chronicle {
     {
         let owner = find(&self.children, ticket).unwrap().owner;
         let time = self.clock + numbers_taken(deed);
-        let copy = copy_deed(self.alloc, deed)?;
         self.events.reserve(self.children.len() + 1)?;
-        do_step(
+        let copy = copy_deed(self.alloc, deed)?;
+        let done = do_step(
             self.alloc,
             &mut self.files,
             &mut self.children,
             ticket,
             deed,
             time,
-        )?;
-        self.clock = time;
-        let event = Happening::Step {
-            ticket,
-            owner,
-            deed: copy,
-            time,
-        };
-        self.events.push(event).unwrap();
-        Ok(())
+        );
+        match done {
+            Err(fault) => {
+                drop(copy);
+                Err(fault)
+            }
+            Ok(()) => {
+                self.clock = time;
+                let event = Happening::Step {
+                    ticket,
+                    owner,
+                    deed: copy,
+                    time,
+                };
+                self.events.push(event).unwrap();
+                Ok(())
+            }
+        }
     }
 
     /// The child whose turn it is goes on.
@@ -432,7 +445,7 @@ impl Chronicle {
         self.events.reserve(events.len() + self.children.len())?;
         self.files.apply_all(timed.as_slice())?;
         self.clock += all_taken(deeds.as_slice());
-        take_child(&mut self.children, ticket);
+        drop(take_child(&mut self.children, ticket));
         self.events.append(&mut events).unwrap();
         Ok(())
     }
@@ -442,8 +455,14 @@ impl Chronicle {
         requires { 0 < length (state_of self.old).children }
         ensures { OfOldest (state_of self.old).children (GivesUp self.old self.new) }
     {
-        let Child { ticket, owner, .. } = self.children.remove(0);
-        self.events.push(Happening::Left { ticket, owner }).unwrap();
+        let child = self.children.remove(0);
+        let Child { ticket, owner, .. } = &child;
+        let event = Happening::Left {
+            ticket: *ticket,
+            owner: *owner,
+        };
+        drop(child);
+        self.events.push(event).unwrap();
     }
 }
 
@@ -547,9 +566,16 @@ fn do_step(
     ensures same_children { OnErr result (children.new.items ≡ children.old.items) }
 {
     let change = files.prepare(deed, time)?;
-    add_deed(alloc, children, ticket, deed)?;
-    files.make(change);
-    Ok(())
+    match add_deed(alloc, children, ticket, deed) {
+        Err(fault) => {
+            drop(change);
+            Err(fault)
+        }
+        Ok(()) => {
+            files.make(change);
+            Ok(())
+        }
+    }
 }
 
 fn add_deed(

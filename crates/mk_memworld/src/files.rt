@@ -118,9 +118,8 @@ impl Files {
         ensures room { OnOk result (0 < room_in self.new) }
         ensures same { files_in self.new ≡ files_in self.old }
     {
-        let change = change_of(self.alloc, deed, time)?;
         self.stored.reserve(1)?;
-        Ok(change)
+        change_of(self.alloc, deed, time)
     }
 
     /// The files after steps at their times.

@@ -180,7 +180,9 @@ pub fn deed_after(
         (language_next cmd.now (map spec.answer done.now))) }
 {
     let answers = answers_to(alloc, done)?;
-    match next(alloc, cmd, answers.as_slice())? {
+    let after = next(alloc, cmd, answers.as_slice());
+    drop(answers);
+    match after? {
         Next::Over { .. } => Ok(None),
         Next::More { request } => Ok(Some(deed_on(alloc, files, None, &[], request)?)),
     }
@@ -190,10 +192,12 @@ pub fn deed_after(
 pub fn is_over(alloc: Global, cmd: &Cmd, answers: Answers) -> Result<bool, NoMemory>
     ensures { IfOk result (λ is. is ≡ ends_at (language_next cmd.now answers)) }
 {
-    match next(alloc, cmd, answers.as_slice())? {
-        Next::Over { .. } => Ok(true),
-        Next::More { .. } => Ok(false),
-    }
+    let after = next(alloc, cmd, answers.as_slice());
+    drop(answers);
+    let after = after?;
+    let is = matches!(&after, Next::Over { .. });
+    drop(after);
+    Ok(is)
 }
 
 // A request does its step behind these ones, and is answered.
@@ -215,9 +219,20 @@ fn do_request(
         deeds.old) ∷ []) }
 {
     let deed = deed_on(alloc, files, step, deeds.as_slice(), request)?;
-    answers.push(answer_to(alloc, &deed)?)?;
-    deeds.push(deed)?;
-    Ok(())
+    match add_answer(alloc, answers, &deed) {
+        Err(fault) => {
+            drop(deed);
+            Err(fault)
+        }
+        Ok(()) => deeds.push(deed),
+    }
+}
+
+// Adds how a step was answered.
+fn add_answer(alloc: Global, answers: &mut Answers, deed: &Deed) -> Result<(), NoMemory>
+    ensures { OnOk result (answers.new ≡ answers.old ++ spec.answer deed.now ∷ []) }
+{
+    answers.push(answer_to(alloc, deed)?)
 }
 
 /// What a command does from these answers on to its end, on the files after a step, where there is

@@ -179,7 +179,9 @@ impl MemWorld {
         ensures counted { self.new.outages ≡ with_answer self.old.outages result }
         ensures cause { HasCause Failed self.old.outages.faults self.new.outages.faults result }
     {
-        self.go_on(&going, changes)?;
+        let went = self.go_on(&going, changes);
+        drop(going);
+        went?;
         if is_struck {
             self.outages.fail();
             return Err(WorldFault::Failed);
@@ -233,7 +235,9 @@ impl MemWorld {
             return Err(WorldFault::Failed);
         }
         let going = self.next()?;
-        self.go_on(&going, 1)?;
+        let went = self.go_on(&going, 1);
+        drop(going);
+        went?;
         Ok(is_struck)
     }
 

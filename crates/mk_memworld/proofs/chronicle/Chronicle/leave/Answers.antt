@@ -10,7 +10,7 @@ use Rattle.mk_memworld.proofs.chronicle.Chronicle.leave.Goals as goal
 
 pub invariant_of-self : goal.invariant_of-self
 invariant_of-self c =
-    let child = c.remove-ticket.result in
+    let child = c.remove-child.result in
     let event = Left child.ticket child.owner in
     let items : c.push.new.self.items ≡ c.self.inside.events.items ++ event ∷ [] =
     grind (arith, common_steps) in
@@ -19,6 +19,6 @@ invariant_of-self c =
     subst (λ (cs : List Child). 0 < length cs) (sym c.self.invariant.children)
     (subst (λ (h : History). 0 < length (state_of h).children) (sym c.self.view_is) held) in
     IsPresent-more c.self.inside _ event c.self.invariant refl items refl refl
-    (c.remove-ticket.ensures.items
-    ∙ without_child-read c.self.inside.children.items child some c.remove-ticket.ensures.value)
+    (c.remove-child.ensures.items
+    ∙ without_child-read c.self.inside.children.items child some c.remove-child.ensures.value)
     (search rules)

@@ -5,8 +5,8 @@ use Rattle.mk_memworld.proofs.ChronicleLemmas.{IsPresent-more}
 use Rattle.mk_memworld.proofs.StepLemmas.{last_time-taken}
 use Rattle.mk_memworld.proofs.chronicle.Chronicle.step.Goals as goal
 
-pub invariant_of-self-2 : goal.invariant_of-self-2
-invariant_of-self-2 c =
+pub invariant_of-self-in-Ok : goal.invariant_of-self-in-Ok
+invariant_of-self-in-Ok c =
     let t = c.self.inside in
     let ticket = c.args.ticket in
     let owner = c.unwrap.result.now.owner in
@@ -18,6 +18,6 @@ invariant_of-self-2 c =
     grind (arith, common_steps) in
     let items : c.push.new.self.items ≡ t.events.items ++ event ∷ [] =
     copied ∙ ap (λ d. t.events.items ++ Step ticket owner d time ∷ []) c.in_ok-copy.ensures in
-    IsPresent-more t _ event c.self.invariant refl items c.in_ok-do_step.ensures.files
+    IsPresent-more t _ event c.self.invariant refl items c.in-Ok.ensures.files
     (sym (last_time-taken t.clock c.numbers_taken.result deed c.numbers_taken.ensures))
-    c.in_ok-do_step.ensures.children (search rules)
+    c.in-Ok.ensures.children (search rules)
