@@ -11,7 +11,7 @@ use mk_filemon::read_log;
 use mk_world::{Cmd, Ended, Kids, Ops, Ticket};
 use std::fs::{File, Files};
 use std::marker::Model;
-use std::process::{Child, ExitStatus, OpenProcess, Processes};
+use std::process::{Child, Command, ExitStatus, OpenProcess, Processes};
 use std::thread;
 use std::time::{Clock, Duration};
 
@@ -54,6 +54,30 @@ fn status_of(status: ExitStatus) -> u8 {
     }
 }
 
+// Runs a shell with these streams, and tells whether the file of its output is locked.
+fn spawn_shell<R: Processes + Files<File = File>>(
+    rt: &R,
+    shell: &mut Command,
+    streams: Streams,
+    output: &[u8],
+) -> Result<(Child<R::Started>, bool), Refusal> {
+    let is_locked = connect(rt, shell, streams, output)?;
+    Ok((shell.spawn(rt)?, is_locked))
+}
+
+// Runs a shell for a command, with these files.
+fn spawn<R: Processes + Files<File = File> + AllocGlobal>(
+    rt: &R,
+    files: &ChildFiles,
+    streams: Streams,
+    cmd: &Cmd,
+) -> Result<(Child<R::Started>, bool), Refusal> {
+    let mut shell = shell(rt, files, cmd)?;
+    let spawned = spawn_shell(rt, &mut shell, streams, files.output.bytes());
+    drop(shell);
+    spawned
+}
+
 impl<P: OpenProcess + Drop> RealKid<P> {
     /// Starts a shell that runs a command.
     pub fn start<R: Processes<Started = P> + Files<File = File> + AllocGlobal>(
@@ -86,18 +110,21 @@ impl<P: OpenProcess + Drop> RealKid<P> {
     ) -> Result<RealKid<P>, Refusal> {
         let rt = &system.rt;
         let directory = system.room.enter(rt)?;
-        let files = ChildFiles::new(rt.alloc(), directory.bytes(), slot, ticket.0)?;
         let cwd = cmd.cwd.copy(rt.alloc())?;
-        let mut shell = shell(rt, &files, cmd)?;
-        let is_locked = connect(rt, &mut shell, streams, files.output.bytes())?;
-        let child = shell.spawn(rt)?;
-        Ok(RealKid {
-            child,
-            slot,
-            files,
-            is_locked,
-            cwd,
-        })
+        let files = ChildFiles::new(rt.alloc(), directory.bytes(), slot, ticket.0)?;
+        match spawn(rt, &files, streams, cmd) {
+            Ok((child, is_locked)) => Ok(RealKid {
+                child,
+                slot,
+                files,
+                is_locked,
+                cwd,
+            }),
+            Err(refusal) => {
+                drop(files);
+                Err(refusal)
+            }
+        }
     }
 
     // The exit status, where it has ended.
@@ -184,6 +211,7 @@ impl<P: OpenProcess + Drop> RealKid<P> {
         }
         let _ = remove_file(rt, self.files.output.bytes());
         let _ = remove_file(rt, self.files.log.bytes());
+        drop(self);
     }
 }
 
@@ -281,5 +309,7 @@ pub fn run<R: Processes + Files<File = File> + AllocGlobal>(
     ensures { IfOk result (λ ended. ended.ticket.0 ≡ 0) }
 {
     let mut kid = RealKid::start(system, Streams::OutputAlone, Ticket(0), cmd)?;
-    kid.taken_in(system)
+    let ended = kid.taken_in(system);
+    drop(kid);
+    ended
 }

@@ -21,6 +21,17 @@ pub struct Room {
     made: Option<Text>,
 }
 
+// Makes a directory, and tells whether it did: not where something stands there.
+fn make_at<R: Files>(rt: &R, path: &[u8]) -> Result<bool, Refusal> {
+    let mut builder = DirBuilder::new();
+    builder.mode(OWNER_ALONE);
+    match builder.create(rt, str::from_utf8(path)?) {
+        Ok(()) => Ok(true),
+        Err(error) if error.kind() == ErrorKind::AlreadyExists => Ok(false),
+        Err(error) => Err(Refusal::from(error)),
+    }
+}
+
 impl Room {
     /// A directory at this place; where something stands there, with a number behind its name.
     pub fn new(place: Text) -> Room {
@@ -40,12 +51,8 @@ impl Room {
     fn make<R: Files + AllocGlobal>(&self, rt: &R) -> Result<Text, Refusal> {
         for number in 0..NAMES {
             let name = self.name(rt.alloc(), number)?;
-            let mut builder = DirBuilder::new();
-            builder.mode(OWNER_ALONE);
-            match builder.create(rt, str::from_utf8(name.bytes())?) {
-                Ok(()) => return Ok(name),
-                Err(error) if error.kind() == ErrorKind::AlreadyExists => {}
-                Err(error) => return Err(Refusal::from(error)),
+            if make_at(rt, name.bytes())? {
+                return Ok(name);
             }
         }
         Err(Refusal::Outside)

@@ -1,5 +1,5 @@
 //! The shell that runs a command.
-ghost use Rattle.std.specs.Prelude.{◌≡◌, [], ◌∷◌, Some, codes, IfOk, OnOk};
+ghost use Rattle.std.specs.Prelude.{◌≡◌, [], ◌∷◌, ◌++◌, Some, codes, IfOk, OnOk};
 ghost use Rattle.std.specs.Process.{command_program, command_args, command_var, SameProgramAndArgs};
 
 use crate::child_files::ChildFiles;
@@ -33,10 +33,21 @@ pub fn shell<R: AllocGlobal>(rt: &R, files: &ChildFiles, cmd: &Cmd) -> Result<Co
         ≡ Some (Some files.now.log)) }
 {
     let mut shell = Command::new(rt.alloc(), SHELL)?;
+    equip(&mut shell, files, cmd).and(Ok(shell))
+}
+
+// Gives a shell its command and its variables.
+fn equip(shell: &mut Command, files: &ChildFiles, cmd: &Cmd) -> Result<(), Refusal>
+    ensures program { OnOk result (command_program shell.new ≡ command_program shell.old) }
+    ensures words { OnOk result (command_args shell.new
+        ≡ command_args shell.old ++ codes "-c" ∷ cmd.now.text ∷ []) }
+    ensures log { OnOk result (command_var shell.new (codes "BMAKE_FILEMON")
+        ≡ Some (Some files.now.log)) }
+{
     shell.arg("-c")?.arg(str::from_utf8(cmd.text.bytes())?)?;
-    export(&mut shell, cmd)?;
+    export(shell, cmd)?;
     shell.env(LOG, str::from_utf8(files.log.bytes())?)?;
-    Ok(shell)
+    Ok(())
 }
 
 fn export(shell: &mut Command, cmd: &Cmd) -> Result<(), Refusal>

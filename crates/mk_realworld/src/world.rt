@@ -155,7 +155,8 @@ impl<R: Files<File = File> + Processes + Clock + AllocGlobal> World for RealWorl
     ) -> Result<Ended, WorldFault> {
         match wait_over(&mut self.system, kids) {
             Ok(over) => {
-                let (ticket, _) = kids.take(over.place);
+                let (ticket, kid) = kids.take(over.place);
+                drop(kid);
                 Ok(Ended {
                     ticket,
                     status: over.status,
