@@ -1,6 +1,7 @@
 //! What dependency lines leave behind the last one.
 ghost use Rattle.std.specs.Prelude.{◌≡◌, ◌<◌, length, IfOk, OnOk};
 ghost use Rattle.mk_rules.specs.Ends as spec;
+ghost use Rattle.mk_graph.specs.Macros.{graph_with_macros};
 ghost use Rattle.mk_graph.specs.Numbers.{AreBelow};
 ghost use Rattle.mk_rules.specs.Rules.{main_by};
 
@@ -72,6 +73,25 @@ fn main_targets(
     Ok(names)
 }
 
+// Marks the targets and applies the macros; then the main targets are known.
+#[tactic(auto, using(crate::proofs::EndLemmas::length_macros, crate::proofs::FoldLemmas::below_more))]
+fn end_graph(
+    alloc: Global,
+    graph: &mut Graph,
+    targets: &Nodes,
+    main: Texts,
+    marks: Everywhere,
+) -> Result<Texts, NoMemory>
+    requires { AreBelow (length graph.old) targets.now }
+    ensures graph { OnOk result
+        (graph.new ≡ graph_with_macros (spec.nodes_everywhere marks graph.old)) }
+    ensures main { IfOk result (λ names. names ≡ main_by graph.new targets.now main) }
+{
+    mark_targets(graph, marks);
+    graph.use_macros()?;
+    main_targets(alloc, graph, targets, main)
+}
+
 impl Rules {
     /// What all dependency lines leave: every target gets the marks that all targets have, then the
     /// macros are applied, and then the main targets are known.
@@ -79,18 +99,24 @@ impl Rules {
     pub fn finish(self) -> Result<Finished, NoMemory>
         ensures { IfOk result (λ finished. finished ≡ spec.finished self) }
     {
-        let alloc = self.alloc;
+        drop(self.group);
         let targets = self.targets;
         let mut graph = self.graph;
-        mark_targets(&mut graph, self.everywhere);
-        graph.use_macros()?;
-        let main = main_targets(alloc, &graph, &targets, self.main)?;
-        Ok(Finished {
-            graph,
-            suffixes: self.suffixes,
-            main,
-            one_job: self.one_job,
-            delete_on_error: self.delete_on_error,
-        })
+        let main = end_graph(self.alloc, &mut graph, &targets, self.main, self.everywhere);
+        drop(targets);
+        match main {
+            Err(fault) => {
+                drop(graph);
+                drop(self.suffixes);
+                Err(fault)
+            }
+            Ok(main) => Ok(Finished {
+                graph,
+                suffixes: self.suffixes,
+                main,
+                one_job: self.one_job,
+                delete_on_error: self.delete_on_error,
+            }),
+        }
     }
 }

@@ -57,10 +57,10 @@ impl Rules {
     {
         Ok(Rules {
             alloc,
-            graph: Graph::new(alloc)?,
             suffixes: Items::new(alloc, 0)?,
             main: Items::new(alloc, 0)?,
             targets: Items::new(alloc, 0)?,
+            graph: Graph::new(alloc)?,
             everywhere: Everywhere {
                 precious: false,
                 silent: false,
