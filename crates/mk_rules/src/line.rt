@@ -176,7 +176,7 @@ impl Rules {
     {
         let sources = meet_all(self.alloc, &mut self.graph, &line.sources)?;
         names_at(self.alloc, &self.graph, sources.as_slice(), &mut self.main)?;
-        self.group = IndexSet::new(self.alloc);
+        forget(self.alloc, &mut self.group);
         Ok(())
     }
 
@@ -189,7 +189,7 @@ impl Rules {
     {
         let sources = meet_all(self.alloc, &mut self.graph, &line.sources)?;
         order_neighbours(&mut self.graph, sources.as_slice())?;
-        self.group = IndexSet::new(self.alloc);
+        forget(self.alloc, &mut self.group);
         Ok(())
     }
 
@@ -202,7 +202,7 @@ impl Rules {
     {
         let sources = meet_all(self.alloc, &mut self.graph, &line.sources)?;
         mark_all(&mut self.graph, attr, sources.as_slice());
-        self.group = IndexSet::new(self.alloc);
+        forget(self.alloc, &mut self.group);
         Ok(())
     }
 
@@ -213,7 +213,7 @@ impl Rules {
             self.suffixes = Items::new(self.alloc, 0)?;
         }
         add_suffixes(self.alloc, &mut self.suffixes, &line.sources)?;
-        self.group = IndexSet::new(self.alloc);
+        forget(self.alloc, &mut self.group);
         Ok(())
     }
 
@@ -230,12 +230,12 @@ impl Rules {
             Special::Suffixes => Ok(self.read_suffixes(line)?),
             Special::NotParallel => {
                 self.one_job = true;
-                self.group = IndexSet::new(self.alloc);
+                forget(self.alloc, &mut self.group);
                 Ok(())
             }
             Special::DeleteOnError => {
                 self.delete_on_error = true;
-                self.group = IndexSet::new(self.alloc);
+                forget(self.alloc, &mut self.group);
                 Ok(())
             }
             Special::Phony => self.read_marks(Attr::Phony, line),
