@@ -1,5 +1,5 @@
 //! Meta files as they are read.
-ghost use Rattle.std.specs.Prelude.{◌≡◌, Some, IfOk, IfSome};
+ghost use Rattle.std.specs.Prelude.{◌≡◌, Some, IfOk, IfSome, length, option_and_then};
 ghost use Rattle.std.specs.Option.{option_map};
 ghost use Rattle.std.specs.Cmp.Lexicographic.{slice_cmp};
 ghost use Rattle.std.specs.Ordering.{is_lt, nat_cmp};
@@ -167,6 +167,56 @@ fn is_head(alloc: Global, target: &Text, first: &[u8]) -> Result<bool, NoMemory>
     Ok(head.bytes() == first)
 }
 
+// Reads what stands behind the middle, where the first line names the target.
+fn read_end<'t>(
+    alloc: Global,
+    first: &[u8],
+    front: &Front,
+    middle: &Middle,
+    text: &'t [u8],
+) -> Result<Option<(Option<Recs>, &'t [u8])>, NoMemory>
+    ensures { IfOk result (λ found. option_map (λ read.
+        (spec.value_of (front_view front.now) (middle_view middle.now) read.0, read.1.now)) found
+        ≡ option_and_then (λ records. spec.whole first.now
+        (spec.value_of (front_view front.now) (middle_view middle.now) records.0) records.1)
+        (spec.records_at (length front.now.lines) text.now)) }
+{
+    let Some((records, rest)) = read_records(alloc, front.lines.len(), text)? else {
+        return Ok(None);
+    };
+    if !is_head(alloc, &middle.target, first)? {
+        return Ok(None);
+    }
+    Ok(Some((records, rest)))
+}
+
+// Reads the parts behind the first line and the front.
+fn read_parts<'t>(
+    alloc: Global,
+    first: &[u8],
+    front: &Front,
+    text: &'t [u8],
+) -> Result<Option<(Middle, Option<Recs>, &'t [u8])>, NoMemory>
+    ensures { IfOk result (λ found. option_map (λ read.
+        (spec.value_of (front_view front.now) (middle_view read.0) read.1, read.2.now)) found
+        ≡ spec.meta_behind first.now (front_view front.now, text.now)) }
+{
+    let Some((middle, rest)) = read_middle(alloc, text)? else {
+        return Ok(None);
+    };
+    match read_end(alloc, first, front, &middle, rest) {
+        Ok(Some((records, rest))) => Ok(Some((middle, records, rest))),
+        Ok(None) => {
+            drop(middle);
+            Ok(None)
+        }
+        Err(fault) => {
+            drop(middle);
+            Err(fault)
+        }
+    }
+}
+
 // Reads what stands behind the first line and the front.
 fn read_behind<'t>(
     alloc: Global,
@@ -177,16 +227,17 @@ fn read_behind<'t>(
     ensures { IfOk result (λ found. option_map (λ read. (read.0, read.1.now)) found
         ≡ spec.meta_behind first.now (front_view front, text.now)) }
 {
-    let Some((middle, rest)) = read_middle(alloc, text)? else {
-        return Ok(None);
-    };
-    let Some((records, rest)) = read_records(alloc, front.lines.len(), rest)? else {
-        return Ok(None);
-    };
-    if !is_head(alloc, &middle.target, first)? {
-        return Ok(None);
+    match read_parts(alloc, first, &front, text) {
+        Ok(Some((middle, records, rest))) => Ok(Some((value_of(front, middle, records), rest))),
+        Ok(None) => {
+            drop(front);
+            Ok(None)
+        }
+        Err(fault) => {
+            drop(front);
+            Err(fault)
+        }
     }
-    Ok(Some((value_of(front, middle, records), rest)))
 }
 
 fn value_of(front: Front, middle: Middle, records: Option<Recs>) -> Meta
@@ -220,8 +271,14 @@ fn read_whole(alloc: Global, text: &[u8]) -> Result<Option<Meta>, NoMemory>
     ensures { IfOk result (λ found. found ≡ spec.meta_in text.now) }
 {
     match read_value(alloc, text)? {
-        Some((meta, [])) => Ok(Some(meta)),
-        _ => Ok(None),
+        Some((meta, rest)) => {
+            if rest.is_empty() {
+                return Ok(Some(meta));
+            }
+            drop(meta);
+            Ok(None)
+        }
+        None => Ok(None),
     }
 }
 
