@@ -70,9 +70,11 @@ impl MemWorld {
         ensures idle { IfOk result
             (λ world. tickets_of (state_of world.chronicle).children ≡ []) }
     {
-        let base = base::base_of(alloc, &files)?;
+        let chronicle = first_chronicle(alloc, &files);
+        drop(files);
+        drop(cwd);
         Ok(MemWorld {
-            chronicle: Chronicle::new(alloc, base)?,
+            chronicle: chronicle?,
             outages: Outages::new(fails),
             schedule: Schedule::new(alloc, schedule),
         })
@@ -301,6 +303,14 @@ impl MemWorld {
             Some(ticket) => place_in(kids, ticket),
         }
     }
+}
+
+// A history that begins with these files.
+fn first_chronicle(alloc: Global, files: &Pairs) -> Result<Chronicle, NoMemory>
+    ensures { IfOk result
+        (λ chronicle. chronicle ≡ record { base = base_of files.now; events = [] }) }
+{
+    Chronicle::new(alloc, base::base_of(alloc, files)?)
 }
 
 // Where the child with a ticket stands; where there is none, the oldest one.
@@ -536,7 +546,13 @@ impl World for MemWorld {
     {
         let is_struck = self.outages.strikes(CallKind::Ask);
         let going = self.next()?;
-        let rest = self.chronicle.doing(&going, cmd)?;
+        let rest = match self.chronicle.doing(&going, cmd) {
+            Ok(rest) => rest,
+            Err(NoMemory) => {
+                drop(going);
+                return Err(WorldFault::NoMemory);
+            }
+        };
         self.proceed(going, rest.numbers(), is_struck)?;
         let ended = self.chronicle.ask(cmd, rest)?;
         Ok(ended)
@@ -621,7 +637,13 @@ impl World for MemWorld {
         let going = self.next()?;
         let place = self.place(kids, &going);
         let ticket = kids.ticket(place).0;
-        let rest = self.chronicle.rest(&going, ticket)?;
+        let rest = match self.chronicle.rest(&going, ticket) {
+            Ok(rest) => rest,
+            Err(NoMemory) => {
+                drop(going);
+                return Err(WorldFault::NoMemory);
+            }
+        };
         self.proceed(going, rest.numbers(), is_struck)?;
         let ended = self.chronicle.finish(ticket, rest)?;
         self.schedule.take_in(ticket);

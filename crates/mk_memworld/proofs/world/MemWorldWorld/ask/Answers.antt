@@ -13,13 +13,13 @@ use Rattle.mk_memworld.proofs.world.MemWorldWorld.ask.Goals as goal
 pub returns-clause-done : goal.returns-clause-done
 returns-clause-done c =
     let mid = c.proceed.new.self.chronicle in
-    let doing : doing_of c.in_ok-rest.rest ≡ does language c.args.cmd.now (files_of mid) =
-    c.in_ok-rest.ensures
+    let doing : doing_of c.in-Ok.rest ≡ does language c.args.cmd.now (files_of mid) =
+    c.in-Ok.ensures
     ∙ ap (λ h. does language c.args.cmd.now (files_of h)) (sym c.in_ok-proceed.ensures.went_on.history) in
     AddsEvents-behind (OwnAsk language c.args.cmd.now c.in_ok-ended.ended)
     c.args.self.now.chronicle mid c.ask.new.self
     (subst (λ h. AddsSteps h mid) c.next.ensures.history c.proceed.ensures.steps)
-    (adds_ask mid c.ask.new.self c.args.cmd.now (doing_of c.in_ok-rest.rest)
+    (adds_ask mid c.ask.new.self c.args.cmd.now (doing_of c.in-Ok.rest)
     c.in_ok-ended.ended doing c.in_ok-ended.ensures.ok c.in_ok-ended.ensures.answer)
 
 pub returns-clause-children : goal.returns-clause-children

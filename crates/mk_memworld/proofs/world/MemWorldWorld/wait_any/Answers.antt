@@ -38,9 +38,9 @@ changes_err : (c : goal.After-drop-rest-in_err-proceed)
 changes_err c =
     let tickets = c.args.kids.now.tickets in
     changes-are c.args.self.now c.next.new.self c.in_ok-going.going tickets
-    c.place-place.result c.ticket-ticket.result.0 c.numbers.result (doing_of c.in_ok-rest.rest)
+    c.place-place.result c.ticket-ticket.result.0 c.numbers.result (doing_of c.in-Ok.rest)
     (entered_err c) (slice_get-get_or tickets c.place-place.result 0 c.place-place.ensures.within
-    ∙ ap Some (sym c.ticket-ticket.ensures)) c.place-place.ensures.taken c.in_ok-rest.ensures
+    ∙ ap Some (sym c.ticket-ticket.ensures)) c.place-place.ensures.taken c.in-Ok.ensures
     c.numbers.ensures
 
 pub returns-in_err-proceed-clause-exactly : goal.returns-in_err-proceed-clause-exactly
@@ -93,12 +93,12 @@ taken_at : (c : goal.After-take) → Taken c.args.self.now.chronicle c.proceed.n
     c.finish.new.self c.ticket-ticket.result.0 c.in_ok-ended.ended
 taken_at c =
     let ticket = c.ticket-ticket.result.0 in
-    let rest = doing_of c.in_ok-rest.rest in
+    let rest = doing_of c.in-Ok.rest in
     Taken-ended_by c.args.self.now.chronicle c.proceed.new.self.chronicle c.finish.new.self ticket
     rest c.in_ok-ended.ended (subst (λ h. AddsSteps h c.proceed.new.self.chronicle) c.next.ensures.history
     c.proceed.ensures.steps)
     (subst (λ h. IsRest (state_of h) ticket rest) (sym c.in_ok-proceed.ensures.went_on.history)
-    c.in_ok-rest.ensures) c.in_ok-ended.ensures.history c.in_ok-ended.ensures.told
+    c.in-Ok.ensures) c.in_ok-ended.ensures.history c.in_ok-ended.ensures.told
 
 pub returns-clause-done : goal.returns-clause-done
 returns-clause-done c = (taken_at c).adds
@@ -146,8 +146,8 @@ pub returns-clause-exactly : goal.returns-clause-exactly
 returns-clause-exactly c =
     let changes = changes-are c.args.self.now c.next.new.self c.in_ok-going.going
     c.args.kids.now.tickets c.place-place.result c.ticket-ticket.result.0 c.numbers.result
-    (doing_of c.in_ok-rest.rest) (entered_at c) (at_place c) c.place-place.ensures.taken
-    c.in_ok-rest.ensures c.numbers.ensures in
+    (doing_of c.in-Ok.rest) (entered_at c) (at_place c) c.place-place.ensures.taken
+    c.in-Ok.ensures c.numbers.ensures in
     neither (λ struck. c.in_ok-proceed.ensures.exactly (inl (c.strikes-is_struck.ensures.struck.1 struck)))
     (subst (λ n. IsTooShort c.args.self.now n → ⊥) changes
     (long_enough c.args.self.now c.next.new.self c.in_ok-going.going c.numbers.result
