@@ -1,5 +1,5 @@
 -- A set of the known suffixes, where one is added.
-use Rattle.std.proofs.Common.{◌≡◌, ℕ, zero, suc, ◌+◌, ◌<◌, length, take, get_or, arith, ◌||◌, Bool, true, false, List, [], ◌∷◌, ◌++◌, Vec, Global, refl, sym, ap, ◌∙◌}
+use Rattle.std.proofs.Common.{◌≡◌, ℕ, zero, suc, ◌+◌, ◌<◌, length, take, get_or, arith, ◌||◌, Bool, true, false, not, true≢false, List, [], ◌∷◌, ◌++◌, Vec, Global, refl, sym, ap, ◌∙◌}
 use Rattle.std.specs.List.{list_any}
 use Rattle.std.specs.Str.{bytes_eq}
 use Rattle.std.proofs.lemmas.List.Folds.{list_any-append}
@@ -50,6 +50,11 @@ pub Holds-same : (keys new : List (Vec ℕ Global)) (known : List (List ℕ)) (k
     → new ≡ insert_key (λ one other. bytes_eq one.items other.items) keys key
     → Holds new known
 Holds-same keys new known key holds there inserts = rw (inserts, there) holds
+
+-- what was not new was there
+pub was_there : (there new : Bool) → new ≡ not there → new ≡ false → there ≡ true
+was_there true new is none = refl
+was_there false new is none = absurd (true≢false (sym is ∙ none))
 
 -- one more of a list
 pub take_one : (texts : List (List ℕ)) (i : ℕ) (text : List ℕ)
