@@ -5,7 +5,7 @@ use Rattle.mk_world.specs.Talks.{does}
 use Rattle.mk_memworld.specs.Meaning.{language}
 use Rattle.mk_memworld.specs.Rest.{doing_of}
 use Rattle.mk_memworld.specs.Running.{AddsSteps}
-use Rattle.mk_memworld.proofs.AskLemmas.{adds_ask}
+use Rattle.mk_memworld.proofs.AskLemmas.{adds_ask, unanswered_after, unanswered_here, unanswered_later, unanswered_same}
 use Rattle.mk_memworld.proofs.ChronicleLemmas.{state_of-with_event}
 use Rattle.mk_memworld.proofs.RunningLemmas.{AddsEvents-behind}
 use Rattle.mk_memworld.proofs.world.MemWorldWorld.ask.Goals as goal
@@ -27,3 +27,23 @@ returns-clause-children c = λ kids runs.
     ap (λ (s : State). tickets_of s.children)
     (state_of-with_event c.proceed.new.self.chronicle c.ask.new.self _ c.in_ok-ended.ensures.ok)
     ∙ c.proceed.ensures.tickets ∙ ap (λ h. tickets_of (state_of h).children) c.next.ensures.history ∙ runs
+
+pub returns-in_err-going-clause-refused : goal.returns-in_err-going-clause-refused
+returns-in_err-going-clause-refused c =
+    unanswered_same c.args.cmd.now _ _ _ c.next.ensures.history
+
+pub returns-in-Err-clause-refused : goal.returns-in-Err-clause-refused
+returns-in-Err-clause-refused c =
+    rw c.next.ensures.history (unanswered_here c.args.cmd.now c.args.self.now.chronicle)
+
+pub returns-in_err-proceed-clause-refused : goal.returns-in_err-proceed-clause-refused
+returns-in_err-proceed-clause-refused c =
+    unanswered_after c.args.cmd.now _ _ _
+    (subst (λ h. AddsSteps h c.proceed.new.self.chronicle) c.next.ensures.history
+    c.proceed.ensures.steps)
+
+pub returns-in_err-ended-clause-refused : goal.returns-in_err-ended-clause-refused
+returns-in_err-ended-clause-refused c =
+    unanswered_later c.args.cmd.now _ _ c.proceed.new.self.chronicle _
+    (subst (λ h. AddsSteps h c.proceed.new.self.chronicle) c.next.ensures.history
+    c.proceed.ensures.steps) c.in_err-ended.ensures.err

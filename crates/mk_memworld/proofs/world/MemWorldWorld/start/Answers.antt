@@ -6,7 +6,7 @@ use Rattle.mk_world.specs.History.{State, state_of, tickets_of}
 use Rattle.mk_world.specs.declared.history.Happening.TheVariants.{Start}
 use Rattle.mk_memworld.proofs.ChronicleLemmas.{state_of-with_event}
 use Rattle.mk_memworld.proofs.RunningLemmas.{AddsEvents-behind}
-use Rattle.mk_memworld.proofs.WorldLemmas.{adds_event, not_held, tickets_of-append}
+use Rattle.mk_memworld.proofs.WorldLemmas.{adds_event, not_held, refused_after, refused_later, tickets_of-append}
 use Rattle.mk_memworld.proofs.world.MemWorldWorld.start.Goals as goal
 
 pub returns-clause-done : goal.returns-clause-done
@@ -33,3 +33,10 @@ returns-clause-children c =
     ∙ tickets_of-append (state_of mid).children _
     ∙ ap (λ ks. ks ++ c.args.ticket.0 ∷ []) (c.begin.ensures.tickets ∙ c.requires.exact)
     ∙ sym c.add.ensures.tickets
+
+pub returns-in_err-begin-clause-refused : goal.returns-in_err-begin-clause-refused
+returns-in_err-begin-clause-refused c = refused_after _ _ _ c.begin.ensures.steps
+
+pub returns-in_err-start-clause-refused : goal.returns-in_err-start-clause-refused
+returns-in_err-start-clause-refused c =
+    refused_later _ _ c.begin.new.self.chronicle _ c.begin.ensures.steps c.in_err-start.ensures.err

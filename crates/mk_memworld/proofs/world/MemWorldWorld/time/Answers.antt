@@ -4,7 +4,7 @@ use Rattle.mk_world.specs.History.{State, tickets_of}
 use Rattle.mk_world.specs.declared.history.Happening.TheVariants.{Look}
 use Rattle.mk_memworld.proofs.ChronicleLemmas.{state_of-with_event}
 use Rattle.mk_memworld.proofs.RunningLemmas.{AddsEvents-behind}
-use Rattle.mk_memworld.proofs.WorldLemmas.{adds_event}
+use Rattle.mk_memworld.proofs.WorldLemmas.{adds_event, refused_after, refused_later}
 use Rattle.mk_memworld.proofs.world.MemWorldWorld.time.Goals as goal
 
 pub returns-clause-done : goal.returns-clause-done
@@ -21,3 +21,10 @@ returns-clause-children c = λ kids runs.
     (state_of-with_event c.begin.new.self.chronicle c.look.new.self (Look c.args.path.now)
     c.in_ok-look.ensures.ok)
     ∙ c.begin.ensures.tickets ∙ runs
+
+pub returns-in_err-begin-clause-refused : goal.returns-in_err-begin-clause-refused
+returns-in_err-begin-clause-refused c = refused_after _ _ _ c.begin.ensures.steps
+
+pub returns-in_err-look-clause-refused : goal.returns-in_err-look-clause-refused
+returns-in_err-look-clause-refused c =
+    refused_later _ _ c.begin.new.self.chronicle _ c.begin.ensures.steps c.in_err-look.ensures.err

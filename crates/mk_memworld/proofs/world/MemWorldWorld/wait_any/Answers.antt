@@ -9,7 +9,7 @@ use Rattle.mk_memworld.specs.Schedule.{course_after, next_taken, taken_in}
 use Rattle.mk_memworld.specs.Turned.{HasFailed, IsTooShort, changes_to_end, turned}
 use Rattle.mk_memworld.proofs.EndingLemmas.{Taken, Taken-ended_by}
 use Rattle.mk_memworld.proofs.EnterLemmas.{Entered, HasFailed-is, IsTooShort-is, changes-are, course-is, long_enough, next_taken-is, turned-is}
-use Rattle.mk_memworld.proofs.WorldLemmas.{FailsWhere-passed, OnFailed-passed, TakenOut-at, either, held_by, neither}
+use Rattle.mk_memworld.proofs.WorldLemmas.{FailsWhere-passed, OnFailed-passed, TakenOut-at, either, held_by, neither, refused_after, refused_here, refused_later, refused_same}
 use Rattle.mk_memworld.proofs.world.MemWorldWorld.wait_any.Goals as goal
 
 pub rest-requires-clause-held : goal.rest-requires-clause-held
@@ -152,3 +152,22 @@ returns-clause-exactly c =
     (subst (λ n. IsTooShort c.args.self.now n → ⊥) changes
     (long_enough c.args.self.now c.next.new.self c.in_ok-going.going c.numbers.result
     (entered_at c) (λ short. c.in_ok-proceed.ensures.exactly (inr short))))
+
+pub returns-in_err-going-clause-refused : goal.returns-in_err-going-clause-refused
+returns-in_err-going-clause-refused c = refused_same _ _ _ c.next.ensures.history
+
+pub returns-in-Err-clause-refused : goal.returns-in-Err-clause-refused
+returns-in-Err-clause-refused c =
+    rw c.next.ensures.history (refused_here c.args.self.now.chronicle)
+
+pub returns-in_err-proceed-clause-refused : goal.returns-in_err-proceed-clause-refused
+returns-in_err-proceed-clause-refused c =
+    refused_after _ _ _
+    (subst (λ h. AddsSteps h c.proceed.new.self.chronicle) c.next.ensures.history
+    c.proceed.ensures.steps)
+
+pub returns-in_err-ended-clause-refused : goal.returns-in_err-ended-clause-refused
+returns-in_err-ended-clause-refused c =
+    refused_later _ _ c.proceed.new.self.chronicle _
+    (subst (λ h. AddsSteps h c.proceed.new.self.chronicle) c.next.ensures.history
+    c.proceed.ensures.steps) c.in_err-ended.ensures.same
