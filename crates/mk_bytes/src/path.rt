@@ -125,10 +125,17 @@ fn push_names(text: &mut Text, names: &[&[u8]]) -> Result<(), NoMemory>
     ensures { OnOk result (text.new ≡ text.old ++ spec.from_root (spec.seen names.now)) }
 {
     for name in names {
-        text.push(b"/")?;
-        text.push(name)?;
+        text.push_both(b"/", name)?;
     }
     Ok(())
+}
+
+// A text with names behind it, a slash before each.
+fn with_names(text: Text, names: &[&[u8]]) -> Result<Text, NoMemory>
+    ensures { IfOk result (λ whole. whole ≡ text ++ spec.from_root (spec.seen names.now)) }
+{
+    let mut text = text;
+    push_names(&mut text, names).and(Ok(text))
 }
 
 // The text of a place, seen from a directory.
@@ -140,18 +147,12 @@ fn spelled(alloc: Global, dir: &[&[u8]], place: &[&[u8]]) -> Result<Text, NoMemo
 {
     match below(dir, place) {
         Some([]) => Text::from_bytes(alloc, b"."),
-        Some([first, rest @ ..]) => {
-            let mut text = Text::from_bytes(alloc, first)?;
-            push_names(&mut text, rest)?;
-            Ok(text)
-        }
+        Some([first, rest @ ..]) => with_names(Text::from_bytes(alloc, first)?, rest),
         None => {
             if place.is_empty() {
                 return Text::from_bytes(alloc, b"/");
             }
-            let mut text = Text::new(alloc);
-            push_names(&mut text, place)?;
-            Ok(text)
+            with_names(Text::new(alloc), place)
         }
     }
 }
