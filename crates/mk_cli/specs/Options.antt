@@ -1,5 +1,5 @@
 -- What options change in the order of a command line.
-use Rattle.std.specs.Prelude.{ℕ, Bool, true, false, ◌||◌, List, [], Result, Ok, Err}
+use Rattle.std.specs.Prelude.{ℕ, Bool, true, false, ◌||◌, List, [], ◌∷◌, ◌++◌, Result, Ok, Err}
 use Rattle.std.specs.Prelude.{if◌then◌else◌, codes}
 use Rattle.std.specs.Str.{bytes_eq}
 use Rattle.mk_bytes.specs.Agrees.{◌>>=◌}
@@ -37,6 +37,10 @@ names_nothing text = bytes_eq text [] || bytes_eq text (codes "-")
 -- a bad path refuses the word that holds it
 abbrev pub path : ℕ → List ℕ → Result (List ℕ) Usage
 path place text = if names_nothing text then Err (Word place) else Ok text
+
+-- a path behind others
+abbrev pub with_path : ℕ → List (List ℕ) → List ℕ → Result (List (List ℕ)) Usage
+with_path place paths text = path place text >>= λ p. Ok (paths ++ p ∷ [])
 
 -- a global that is set to `1`
 abbrev pub definition : List ℕ → Set

@@ -9,7 +9,7 @@ ghost use Rattle.mk_cli.specs.declared.order.Usage.TheVariants.{NoMemory as no_m
 use crate::letter::Argument;
 use crate::number::number;
 use crate::order::{AssignOp, Order, Print, Set, Usage};
-use mk_bytes::{NoMemory, Text};
+use mk_bytes::{NoMemory, Text, Texts};
 use mk_scopes::Class;
 use std::alloc::Global;
 
@@ -24,14 +24,16 @@ pub fn names_nothing(text: &[u8]) -> bool
     text.is_empty() || text == b"-".as_slice()
 }
 
-// A path, which is neither empty nor `-`.
-fn path(alloc: Global, place: u32, text: &[u8]) -> Result<Text, Usage>
-    ensures { Agrees no_memory (λ path. path) result (spec.path place text.now) }
+// Adds a path, which is neither empty nor `-`.
+fn push_path(alloc: Global, paths: &mut Texts, place: u32, text: &[u8]) -> Result<(), Usage>
+    ensures { Agrees no_memory (λ _. paths.new) result
+        (spec.with_path place paths.old text.now) }
 {
     if names_nothing(text) {
         return Err(Usage::Word(place));
     }
-    Ok(Text::from_bytes(alloc, text)?)
+    paths.push(Text::from_bytes(alloc, text)?)?;
+    Ok(())
 }
 
 fn definition(alloc: Global, name: &[u8]) -> Result<Set, NoMemory>
@@ -66,13 +68,13 @@ pub fn add_argument(
 {
     match argument {
         Argument::Define => order.sets.push(definition(alloc, text)?)?,
-        Argument::File => order.files.push(path(alloc, place, text)?)?,
+        Argument::File => return push_path(alloc, &mut order.files, place, text),
         Argument::Generate => order.generate = Some(number(MOST_GENERATED, place, text)?),
         Argument::Jobs => order.flags.jobs = number(MOST_JOBS, place, text)?,
-        Argument::Near => order.near.push(path(alloc, place, text)?)?,
+        Argument::Near => return push_path(alloc, &mut order.near, place, text),
         Argument::Print => add_print(alloc, order, false, text)?,
         Argument::PrintFull => add_print(alloc, order, true, text)?,
-        Argument::System => order.system.push(path(alloc, place, text)?)?,
+        Argument::System => return push_path(alloc, &mut order.system, place, text),
     }
     Ok(())
 }

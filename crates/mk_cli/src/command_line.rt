@@ -11,6 +11,17 @@ use crate::reading::Reading;
 use mk_bytes::Texts;
 use std::alloc::Global;
 
+// Reads words in order.
+fn read_all(alloc: Global, cwd: &[u8], words: &Texts, reading: &mut Reading) -> Result<(), Usage>
+    ensures { Agrees no_memory (λ _. reading.new) result
+        (spec.read_words cwd.now 0 reading.old words.now) }
+{
+    for (place, word) in words.as_slice().iter().enumerate() {
+        reading.read(alloc, cwd, place as u32, word.bytes())?;
+    }
+    Ok(())
+}
+
 /// What the words of a command line ask for (make(1), "OPTIONS"), with the targets cleaned against
 /// the current directory `cwd`. `Word(i)` exactly where word `i`, counted from 0, is the first that
 /// is refused: an unknown letter, a bad argument, an option whose argument is missing, an empty
@@ -24,9 +35,12 @@ pub fn words(alloc: Global, words: &Texts, cwd: &[u8]) -> Result<Order, Usage>
     ensures numbers { IfOk result IsInRange }
     ensures place { (i : ℕ) → result ≡ Err (Usage.Word i) → i < length words.now }
 {
-    let mut reading = Reading::new(alloc)?;
-    for (place, word) in words.as_slice().iter().enumerate() {
-        reading.read(alloc, cwd, place as u32, word.bytes())?;
+    let mut reading = Reading::new(alloc);
+    match read_all(alloc, cwd, words, &mut reading) {
+        Ok(()) => reading.finish(),
+        Err(usage) => {
+            drop(reading);
+            Err(usage)
+        }
     }
-    reading.finish()
 }

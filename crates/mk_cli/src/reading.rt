@@ -1,5 +1,5 @@
 //! A command line that is read word by word.
-ghost use Rattle.std.specs.Prelude.{◌≡◌, IfOk};
+ghost use Rattle.std.specs.Prelude.{◌≡◌};
 ghost use Rattle.mk_bytes.specs.Agrees.{Agrees};
 ghost use Rattle.mk_cli.specs.Assignments.{assignment as written};
 ghost use Rattle.mk_cli.specs.Options as options;
@@ -11,7 +11,7 @@ use crate::argument::{add_argument, names_nothing};
 use crate::assignment::{assignment, is_assignment};
 use crate::letter::{Argument, Flag, Letter, letter_of};
 use crate::order::{Order, Usage};
-use mk_bytes::{Items, NoMemory, clean_path};
+use mk_bytes::{Items, clean_path};
 use mk_flags::Flags;
 use std::alloc::Global;
 
@@ -37,34 +37,34 @@ pub struct Reading {
     pub expected: Expected,
 }
 
-fn no_flags(alloc: Global) -> Result<Flags, NoMemory>
-    ensures { IfOk result (λ flags. flags ≡ orders.no_flags) }
+fn no_flags(alloc: Global) -> Flags
+    ensures { result ≡ orders.no_flags }
 {
-    Ok(Flags {
+    Flags {
         jobs: 1,
         keep_going: false,
         ignore: false,
         silent: false,
         dry: false,
         query: false,
-        requested: Items::new(alloc, 0)?,
-    })
+        requested: Items::new(alloc, 0).unwrap(),
+    }
 }
 
-fn no_order(alloc: Global) -> Result<Order, NoMemory>
-    ensures { IfOk result (λ order. order ≡ orders.no_order) }
+fn no_order(alloc: Global) -> Order
+    ensures { result ≡ orders.no_order }
 {
-    Ok(Order {
-        files: Items::new(alloc, 0)?,
-        near: Items::new(alloc, 0)?,
-        system: Items::new(alloc, 0)?,
-        sets: Items::new(alloc, 0)?,
-        prints: Items::new(alloc, 0)?,
+    Order {
+        files: Items::new(alloc, 0).unwrap(),
+        near: Items::new(alloc, 0).unwrap(),
+        system: Items::new(alloc, 0).unwrap(),
+        sets: Items::new(alloc, 0).unwrap(),
+        prints: Items::new(alloc, 0).unwrap(),
         env_first: false,
         explain: false,
         generate: None,
-        flags: no_flags(alloc)?,
-    })
+        flags: no_flags(alloc),
+    }
 }
 
 // What the next word may be, behind the argument of an option.
@@ -102,15 +102,15 @@ fn is_explain(word: &[u8]) -> bool
 }
 
 impl Reading {
-    /// Before the first word.
-    pub fn new(alloc: Global) -> Result<Reading, NoMemory>
-        ensures { IfOk result (λ reading. reading ≡ orders.first_reading) }
+    /// Before the first word. Takes no memory.
+    pub fn new(alloc: Global) -> Reading
+        ensures { result ≡ orders.first_reading }
     {
-        Ok(Reading {
-            order: no_order(alloc)?,
+        Reading {
+            order: no_order(alloc),
             one_job: false,
             expected: Expected::Any,
-        })
+        }
     }
 
     fn set_flag(&mut self, flag: Flag)
@@ -262,6 +262,7 @@ impl Reading {
             expected,
         } = self;
         if let Expected::ArgumentOf(option, _) = expected {
+            drop(order);
             return Err(Usage::Word(option));
         }
         if one_job {
