@@ -1,6 +1,11 @@
 use Rattle.std.proofs.Common.{rules, arith, refl, codes}
 use Rattle.std.proofs.lemmas.Slice.Eq.{text_from_reads}
+use Rattle.std.proofs.lemmas.Grind.{common_steps}
 use Rattle.mk_directive.proofs.directive.further_branch.Goals as goal
+
+pub returns-in-elif : goal.returns-in-elif
+returns-in-elif c =
+    rw (text_from_reads c.args.word.now (codes "elif") (omega arith) (search rules)) refl
 
 pub returns-in-elifdef : goal.returns-in-elifdef
 returns-in-elifdef c =
@@ -17,3 +22,6 @@ returns-in-elifmake c =
 pub returns-in-elifnmake : goal.returns-in-elifnmake
 returns-in-elifnmake c =
     rw (text_from_reads c.args.word.now (codes "elifnmake") (omega arith) (search rules)) refl
+
+pub returns-in_default : goal.returns-in_default
+returns-in_default c = grind (arith, common_steps)
