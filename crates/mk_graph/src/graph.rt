@@ -121,10 +121,9 @@ impl Graph {
         ensures nodes { OnOk result (self.new ≡ self.old ++ spec.new_node name.now ∷ []) }
         ensures err { OnErr result (self.new ≡ self.old) }
     {
-        let links = Links::none(self.alloc)?;
         self.nodes.reserve(1)?;
         let name = self.names.add(name)?;
-        self.nodes.push(links).unwrap();
+        self.nodes.push(Links::none(self.alloc)).unwrap();
         Ok(name.0)
     }
 

@@ -1,9 +1,9 @@
-ghost use Rattle.std.specs.Prelude.{[], IfOk, ◌≡◌};
+ghost use Rattle.std.specs.Prelude.{◌≡◌};
 ghost use Rattle.mk_graph.specs.View.{no_links};
 
 use crate::attr::Marks;
 use crate::lists::Nodes;
-use mk_bytes::{Items, NoMemory, Texts};
+use mk_bytes::{Items, Texts};
 use std::alloc::Global;
 
 /// What a node has beside its name.
@@ -18,14 +18,14 @@ pub struct Links {
 
 impl Links {
     /// Those of a node that is first mentioned. Takes no memory.
-    pub fn none(alloc: Global) -> Result<Links, NoMemory>
-        ensures { IfOk result (λ links. links ≡ no_links) }
+    pub fn none(alloc: Global) -> Links
+        ensures { result ≡ no_links }
     {
-        Ok(Links {
-            sources: Items::new(alloc, 0)?,
-            ordered: Items::new(alloc, 0)?,
-            commands: Items::new(alloc, 0)?,
+        Links {
+            sources: Items::new(alloc, 0).unwrap(),
+            ordered: Items::new(alloc, 0).unwrap(),
+            commands: Items::new(alloc, 0).unwrap(),
             marks: Marks::none(),
-        })
+        }
     }
 }

@@ -167,8 +167,8 @@ fn part(
 {
     let mut parting = Parting {
         queue: Vec::from_slice(alloc, sources.as_slice())?,
-        kept: Items::new(alloc, 0)?,
-        taken: Items::new(alloc, 0)?,
+        kept: Items::new(alloc, 0).unwrap(),
+        taken: Items::new(alloc, 0).unwrap(),
     };
     let mut next = 0;
     'sources: while next < parting.queue.len() {

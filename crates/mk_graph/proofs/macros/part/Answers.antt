@@ -9,14 +9,16 @@ use Rattle.mk_graph.proofs.macros.part.Goals as goal
 pub sources-init : goal.sources-init
 sources-init c =
     let queue = c.in_ok-from_slice.ensures.items ∙ c.as_slice.ensures.value in
+    let kept = rw c.unwrap.ensures at c.new.ensures.empty in
+    let taken = rw c.unwrap-2.ensures at c.new-2.ensures.empty in
     record {
       fit = first_fit c.args.nodes.now c.args.stamp c.in_ok-from_slice.field-0.items
-          c.in_ok-new.field-0 c.in_ok-new-2.field-0 c.args.taken_by.now.items c.args.sources.now
-          queue c.in_ok-new.ensures.empty c.in_ok-new-2.ensures.empty c.requires.stamps
+          c.unwrap.result c.unwrap-2.result c.args.taken_by.now.items c.args.sources.now
+          queue kept taken c.requires.stamps
           c.requires.fresh c.requires.sources;
       parted = first_part c.args.nodes.now c.args.stamp c.in_ok-from_slice.field-0.items
-          c.in_ok-new.field-0 c.in_ok-new-2.field-0 c.args.taken_by.now.items c.args.sources.now
-          queue c.in_ok-new.ensures.empty c.in_ok-new-2.ensures.empty c.requires.fresh;
+          c.unwrap.result c.unwrap-2.result c.args.taken_by.now.items c.args.sources.now
+          queue kept taken c.requires.fresh;
     }
 
 pub go_through-requires-clause-node : goal.go_through-requires-clause-node

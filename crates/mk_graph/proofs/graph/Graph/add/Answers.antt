@@ -23,8 +23,8 @@ names c = c.in_ok-name.ensures.texts
 items : (c : After-unwrap) → c.push.new.self.items ≡ c.self.inside.nodes.items ++ no_links ∷ []
 items c =
     let pushed = rw c.unwrap.ensures at c.push.ensures.items in
-    pushed ∙ ap (λ all. all ++ c.in_ok-links.links ∷ []) c.in_ok-reserve.ensures.items
-    ∙ ap (λ links. c.self.inside.nodes.items ++ links ∷ []) c.in_ok-links.ensures
+    pushed ∙ ap (λ all. all ++ c.none.result ∷ []) c.in_ok-reserve.ensures.items
+    ∙ ap (λ links. c.self.inside.nodes.items ++ links ∷ []) c.none.ensures
 
 pub invariant_of-self-2 : goal.invariant_of-self-2
 invariant_of-self-2 c =
