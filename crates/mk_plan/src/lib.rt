@@ -4,7 +4,6 @@
 //! A plan has the nodes that the wanted names need, each behind those that it is made from.
 #![tactic(auto)]
 
-mod copies;
 mod facts;
 mod fault;
 mod law;

@@ -14,10 +14,9 @@ ghost use Rattle.mk_plan.specs.declared.fault.PlanFault.TheVariants.{
 };
 ghost use Rattle.mk_world.specs.Causes.{HasCause};
 
-use crate::copies::copied;
 use crate::fault::PlanFault;
 use crate::plan::{Nodes, Plan, PlanNode};
-use mk_bytes::{Items, NoMemory, Text, Texts};
+use mk_bytes::{Items, NoMemory, Text, Texts, copy_texts};
 use mk_closure::{Closure, Sources, close};
 use mk_graph::{Attr, Graph, Made, Marks, Ordered, depth_first};
 use mk_world::World;
@@ -219,7 +218,7 @@ fn plan_node(
         name: Text::from_bytes(alloc, closure.name(n))?,
         sources,
         before,
-        commands: copied(alloc, closure.commands(n))?,
+        commands: copy_texts(alloc, closure.commands(n))?,
         implied: Text::from_bytes(alloc, closure.implied(n))?,
         marks: closure.marks(n),
     })
@@ -276,7 +275,7 @@ fn add_frame(
         name: Text::from_bytes(alloc, name)?,
         sources: Items::new(alloc, 0)?,
         before,
-        commands: copied(alloc, commands)?,
+        commands: copy_texts(alloc, commands)?,
         implied: Text::from_bytes(alloc, b"")?,
         marks: Marks::none().with(Attr::Phony),
     })?;
@@ -354,6 +353,7 @@ pub fn make_plan<W: World>(
         return Err(PlanFault::NoTarget);
     }
     let closure = close(alloc, &made.graph, &made.suffixes, names, world)?;
-    let plan = plan_of(alloc, &closure, names, query)?;
-    Ok(plan)
+    let plan = plan_of(alloc, &closure, names, query);
+    drop(closure);
+    plan
 }

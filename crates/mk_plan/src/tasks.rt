@@ -9,13 +9,12 @@ ghost use Rattle.mk_plan.specs.Refusals.{MeansLines, RefusedBehind, without_line
 ghost use Rattle.mk_plan.specs.Tasks as spec;
 ghost use Rattle.mk_plan.specs.Tasks.{setting_of};
 
-use crate::copies::copied;
 use crate::fault::TaskFault;
 use crate::metas::is_meta;
 use crate::oodate::refers;
 use crate::plan::{Nodes, Plan};
 use mk_ast::parse;
-use mk_bytes::{Items, NoMemory, Text, Texts};
+use mk_bytes::{Items, NoMemory, Text, Texts, copy_texts};
 use mk_expand::{ExpandFault, Facts, Locals, expand};
 use mk_flags::Flags;
 use mk_graph::{Attr, Made, Mode};
@@ -162,7 +161,7 @@ fn locals_of(
         all: names_at(alloc, plan, plan.sources(n))?,
         implied: Text::from_bytes(alloc, plan.implied(n))?,
         prefix: Text::from_bytes(alloc, prefix_of(suffixes, plan.name(n)))?,
-        oodate: copied(alloc, oodate.as_slice())?,
+        oodate: copy_texts(alloc, oodate.as_slice())?,
         some: true,
     })
 }
@@ -205,9 +204,10 @@ pub fn task<F: Facts>(
         manner,
         plan.commands(n),
         facts,
-    )?;
+    );
+    drop(locals);
     Ok(Task {
-        lines,
+        lines: lines?,
         cwd: Text::from_bytes(alloc, made.scopes.cwd())?,
         target: Text::from_bytes(alloc, plan.name(n))?,
         exports: Items::new(alloc, 0)?,
