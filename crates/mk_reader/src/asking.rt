@@ -48,7 +48,9 @@ fn value_in<W: World>(
         world,
         notes: &mut state.notes,
     };
-    value_of_text(alloc, &made.scopes, &locals, text, &mut facts, keep)
+    let value = value_of_text(alloc, &made.scopes, &locals, text, &mut facts, keep);
+    drop(locals);
+    value
 }
 
 // Whether a condition holds.
@@ -74,7 +76,9 @@ fn truth_in<W: World>(
         world,
         notes: &mut state.notes,
     };
-    eval_cond(alloc, &made.scopes, &locals, cond, &mut facts)
+    let truth = eval_cond(alloc, &made.scopes, &locals, cond, &mut facts);
+    drop(locals);
+    truth
 }
 
 // The command of a text in a directory, with no names in its environment.

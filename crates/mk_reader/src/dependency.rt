@@ -57,7 +57,9 @@ pub fn add_line(
         (spec.ruled rules.old cwd.now (option_copied command.entry) text.now)) }
 {
     let line = parse_dep(alloc, text, cwd, rules.suffixes())?;
-    rules.add_line(&line)?;
+    let added = rules.add_line(&line);
+    drop(line);
+    added?;
     if let Some(command) = command {
         rules.add_command(command)?;
     }

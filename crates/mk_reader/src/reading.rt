@@ -196,16 +196,21 @@ fn first_state(alloc: Global, env: &Env, order: &Order) -> Result<State, NoMemor
     ensures asked { IfOk result (λ state. state.notes.items ≡ []) }
 {
     let scopes = Scopes::new(alloc, env, order.env_first)?;
-    let rules = Rules::new(alloc)?;
-    Ok(State {
-        made: Draft {
-            scopes,
-            rules,
-            file: Text::new(alloc),
-        },
-        in_group: false,
-        notes: Vec::new(alloc),
-    })
+    match Rules::new(alloc) {
+        Ok(rules) => Ok(State {
+            made: Draft {
+                scopes,
+                rules,
+                file: Text::new(alloc),
+            },
+            in_group: false,
+            notes: Vec::new(alloc),
+        }),
+        Err(fault) => {
+            drop(scopes);
+            Err(fault)
+        }
+    }
 }
 
 // What makefiles leave.
@@ -213,14 +218,19 @@ fn made_of(draft: Draft, mode: Mode) -> Result<Made, ReadFault>
     ensures made { IfOk result (λ made. made ≡ modes.made_by draft mode) }
     ensures want { IfErr result (λ fault. fault ≡ no_memory) }
 {
-    let finished = draft.rules.finish()?;
-    Ok(Made {
-        scopes: draft.scopes,
-        graph: finished.graph,
-        suffixes: finished.suffixes,
-        main: finished.main,
-        mode,
-    })
+    match draft.rules.finish() {
+        Ok(finished) => Ok(Made {
+            scopes: draft.scopes,
+            graph: finished.graph,
+            suffixes: finished.suffixes,
+            main: finished.main,
+            mode,
+        }),
+        Err(fault) => {
+            drop(draft.scopes);
+            Err(ReadFault::from(fault))
+        }
+    }
 }
 
 /// Reads the makefiles of a run: what they leave, over the environment and the assignments of the
@@ -254,6 +264,11 @@ pub fn read<W: World, S: Sink>(
 {
     let mut state = first_state(alloc, env, order)?;
     let mut reader = Reader::new(world, err, &mut state, order);
-    let mode = reader.read_to_end(alloc)?;
-    made_of(state.into_made(), mode)
+    match reader.read_to_end(alloc) {
+        Ok(mode) => made_of(state.into_made(), mode),
+        Err(stop) => {
+            drop(state);
+            Err(ReadFault::from(stop))
+        }
+    }
 }

@@ -24,12 +24,10 @@ returns-in_err-state-clause-reading g c =
     let p = err_from_is_err_and c.from_residual.result c.from_residual.ensures.1 in
     rw (p.1, p.2) (read_nothing g.W.World.meaning _ _ _)
 
-pub returns-in_err-mode-clause-reading : goal.returns-in_err-mode-clause-reading
-returns-in_err-mode-clause-reading g c =
-    let p = err_from_is_err_and c.from_residual-in_err-mode.result
-    c.from_residual-in_err-mode.ensures.1 in
+pub returns-in-Err-clause-reading : goal.returns-in-Err-clause-reading
+returns-in-Err-clause-reading g c =
     let same = c.new-reader.ensures in
-    let went = c.in_err-mode.ensures in
+    let went = c.in-Err.ensures in
     let o = outer g.W.World.meaning g.W.World.history g.W.World.faults g.W.World.runs g.S.Sink.held
     g.S.Sink.faults in
     let start : standing c.new-reader.result ≡ first_moment c.args.env.now c.args.order.now =
@@ -42,41 +40,36 @@ returns-in_err-mode-clause-reading g c =
     ap (λ s. run_read answers (run_at s 0) >>= λ end. done (made_at end.0 end.1)) (sym start))
     (first-refused _ sorted (λ answers end. done (made_at end.0 end.1)) went) in
     rw (
-      p.1,
-      p.2,
+      c.from.ensures,
       c.world-1.given.1 (sym (went.leads.world ∙ same.same_world)),
       c.err-1.given.1 (sym (went.leads.err ∙ same.same_err)),
     )
-    (rw (same.world, same.err) at (read_err o c.in_err-mode.field-0.0 none idle whole))
+    (rw (same.world, same.err) at (read_err o c.in-Err.stop none idle whole))
 
-pub returns-in_err-mode-clause-world_cause : goal.returns-in_err-mode-clause-world_cause
-returns-in_err-mode-clause-world_cause g c =
-    let p = err_from_is_err_and c.from_residual-in_err-mode.result
-    c.from_residual-in_err-mode.ensures.1 in
+pub returns-in-Err-clause-world_cause : goal.returns-in-Err-clause-world_cause
+returns-in-Err-clause-world_cause g c =
     let same = c.new-reader.ensures in
-    let leads = c.in_err-mode.ensures.leads in
-    rw (p.1, p.2, c.world-1.given.1 (sym (leads.world ∙ same.same_world)))
-    (rw same.world at (world_by _ {A = Made} c.in_err-mode.field-0.0 leads))
+    let leads = c.in-Err.ensures.leads in
+    rw (c.from.ensures, c.world-1.given.1 (sym (leads.world ∙ same.same_world)))
+    (rw same.world at (world_by _ {A = Made} c.in-Err.stop leads))
 
-pub returns-in_err-mode-clause-sink_cause : goal.returns-in_err-mode-clause-sink_cause
-returns-in_err-mode-clause-sink_cause g c =
-    let p = err_from_is_err_and c.from_residual-in_err-mode.result
-    c.from_residual-in_err-mode.ensures.1 in
+pub returns-in-Err-clause-sink_cause : goal.returns-in-Err-clause-sink_cause
+returns-in-Err-clause-sink_cause g c =
     let same = c.new-reader.ensures in
-    let leads = c.in_err-mode.ensures.leads in
-    rw (p.1, p.2, c.err-1.given.1 (sym (leads.err ∙ same.same_err)))
-    (rw same.err at (sink_by _ {A = Made} c.in_err-mode.field-0.0 leads))
+    let leads = c.in-Err.ensures.leads in
+    rw (c.from.ensures, c.err-1.given.1 (sym (leads.err ∙ same.same_err)))
+    (rw same.err at (sink_by _ {A = Made} c.in-Err.stop leads))
 
-pub returns-clause-reading : goal.returns-clause-reading
-returns-clause-reading g c =
+pub returns-in-Ok-clause-reading : goal.returns-in-Ok-clause-reading
+returns-in-Ok-clause-reading g c =
     let same = c.new-reader.ensures in
-    let went = c.in_ok-mode.ensures in
+    let went = c.in-Ok.ensures in
     let o = outer g.W.World.meaning g.W.World.history g.W.World.faults g.W.World.runs g.S.Sink.held
     g.S.Sink.faults in
     let end = c.read_to_end.new.self in
     let world = c.world-1.given.1 (sym (went.leads.world ∙ same.same_world)) in
     let err = c.err-1.given.1 (sym (went.leads.err ∙ same.same_err)) in
-    let made = made_at c.in_ok-mode.mode (standing end) in
+    let made = made_at c.in-Ok.mode (standing end) in
     let is =
     rw (c.into_made.ensures, c.state-3-1.given.1 (sym (went.leads.state ∙ same.same_state)))
     at c.made_of.ensures.made in
@@ -106,16 +99,16 @@ returns-clause-reading g c =
     (rw (same.world, same.err) at (read_ok o made none idle given))
     (rw (same.world, same.err) at (read_err o stop.NoMemory none idle want)))
 
-pub returns-clause-looks : goal.returns-clause-looks
-returns-clause-looks g c =
+pub returns-in-Ok-clause-looks : goal.returns-in-Ok-clause-looks
+returns-in-Ok-clause-looks g c =
     let same = c.new-reader.ensures in
-    let went = c.in_ok-mode.ensures in
+    let went = c.in-Ok.ensures in
     let o = outer g.W.World.meaning g.W.World.history g.W.World.faults g.W.World.runs g.S.Sink.held
     g.S.Sink.faults in
     let end = c.read_to_end.new.self in
     let world = c.world-1.given.1 (sym (went.leads.world ∙ same.same_world)) in
     let err = c.err-1.given.1 (sym (went.leads.err ∙ same.same_err)) in
-    let made = made_at c.in_ok-mode.mode (standing end) in
+    let made = made_at c.in-Ok.mode (standing end) in
     let is =
     rw (c.into_made.ensures, c.state-3-1.given.1 (sym (went.leads.state ∙ same.same_state)))
     at c.made_of.ensures.made in
@@ -130,18 +123,18 @@ returns-clause-looks g c =
     (g.W.World.history end.world.now) (λ answers. looks answers c.args.env.now c.args.order.now)))
     made _ is c.made_of.ensures.want
     (rw same.world at
-    (looks_ok o c.in_ok-mode.mode (first_moment c.args.env.now c.args.order.now) start none idle went))
+    (looks_ok o c.in-Ok.mode (first_moment c.args.env.now c.args.order.now) start none idle went))
     tt)
 
-pub returns-clause-world_cause : goal.returns-clause-world_cause
-returns-clause-world_cause g c =
+pub returns-in-Ok-clause-world_cause : goal.returns-in-Ok-clause-world_cause
+returns-in-Ok-clause-world_cause g c =
     let same = c.new-reader.ensures in
-    let went = c.in_ok-mode.ensures in
+    let went = c.in-Ok.ensures in
     let o = outer g.W.World.meaning g.W.World.history g.W.World.faults g.W.World.runs g.S.Sink.held
     g.S.Sink.faults in
     let end = c.read_to_end.new.self in
     let world = c.world-1.given.1 (sym (went.leads.world ∙ same.same_world)) in
-    let made = made_at c.in_ok-mode.mode (standing end) in
+    let made = made_at c.in-Ok.mode (standing end) in
     let is =
     rw (c.into_made.ensures, c.state-3-1.given.1 (sym (went.leads.state ∙ same.same_state)))
     at c.made_of.ensures.made in
@@ -153,15 +146,15 @@ returns-clause-world_cause g c =
     (rw same.world at (world_ok o made went.leads))
     (rw same.world at (world_by o {A = Made} stop.NoMemory went.leads)))
 
-pub returns-clause-sink_cause : goal.returns-clause-sink_cause
-returns-clause-sink_cause g c =
+pub returns-in-Ok-clause-sink_cause : goal.returns-in-Ok-clause-sink_cause
+returns-in-Ok-clause-sink_cause g c =
     let same = c.new-reader.ensures in
-    let went = c.in_ok-mode.ensures in
+    let went = c.in-Ok.ensures in
     let o = outer g.W.World.meaning g.W.World.history g.W.World.faults g.W.World.runs g.S.Sink.held
     g.S.Sink.faults in
     let end = c.read_to_end.new.self in
     let err = c.err-1.given.1 (sym (went.leads.err ∙ same.same_err)) in
-    let made = made_at c.in_ok-mode.mode (standing end) in
+    let made = made_at c.in-Ok.mode (standing end) in
     let is =
     rw (c.into_made.ensures, c.state-3-1.given.1 (sym (went.leads.state ∙ same.same_state)))
     at c.made_of.ensures.made in
