@@ -273,10 +273,10 @@ fn add_frame(
     add_earlier(&mut before, nodes.len())?;
     nodes.push(PlanNode {
         name: Text::from_bytes(alloc, name)?,
-        sources: Items::new(alloc, 0)?,
+        sources: Items::new(alloc, 0).unwrap(),
         before,
         commands: copy_texts(alloc, commands)?,
-        implied: Text::from_bytes(alloc, b"")?,
+        implied: Text::new(alloc),
         marks: Marks::none().with(Attr::Phony),
     })?;
     Ok(())
@@ -353,7 +353,6 @@ pub fn make_plan<W: World>(
         return Err(PlanFault::NoTarget);
     }
     let closure = close(alloc, &made.graph, &made.suffixes, names, world)?;
-    let plan = plan_of(alloc, &closure, names, query);
-    drop(closure);
-    plan
+    let plan = plan_of(alloc, &closure, names, query)?;
+    Ok(plan)
 }
