@@ -353,6 +353,5 @@ pub fn make_plan<W: World>(
         return Err(PlanFault::NoTarget);
     }
     let closure = close(alloc, &made.graph, &made.suffixes, names, world)?;
-    let plan = plan_of(alloc, &closure, names, query)?;
-    Ok(plan)
+    plan_of(alloc, &closure, names, query)
 }
