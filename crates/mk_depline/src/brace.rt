@@ -163,6 +163,7 @@ fn next_word(alloc: Global, words: Pending) -> Result<(Text, Option<Pending>), N
     let (one, more) = first_alternative(behind(words.inside.bytes(), words.at));
     let word = joined(alloc, words.before.bytes(), one, words.behind.bytes())?;
     let Some(at) = more else {
+        drop(words);
         return Ok((word, None));
     };
     words.at += at;
