@@ -80,12 +80,14 @@ impl Scopes {
         requires { IsTrue (is_clean_directory env.now.cwd) }
         ensures { IfOk result (λ scopes. scopes ≡ spec.first_scopes env.now env_first) }
     {
+        let cwd = env.cwd.copy(alloc)?;
+        let globals = first_globals(alloc, cwd.bytes())?;
         Ok(Scopes {
             env: table_of(alloc, &env.vars)?,
-            globals: first_globals(alloc, env.cwd.bytes())?,
+            globals,
             commands: Table::new(alloc),
             env_first,
-            cwd: env.cwd.copy(alloc)?,
+            cwd,
         })
     }
 
