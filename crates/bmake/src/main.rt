@@ -90,7 +90,11 @@ fn run_in(rt: &HostRuntime, words: &Texts, env: &Env) -> u8 {
     };
     let mut out = RealSink::out(rt.stdout());
     let mut err = RealSink::err(rt.stderr());
-    run(rt.alloc(), words, env, &mut world, &mut out, &mut err).status
+    let report = run(rt.alloc(), words, env, &mut world, &mut out, &mut err);
+    let status = report.status;
+    drop(report);
+    drop(world);
+    status
 }
 
 fn answer(stdout: Stdout, text: &[u8]) -> u8 {

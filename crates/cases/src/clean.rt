@@ -25,9 +25,8 @@ fn take_away(case: &Case, world: &mut IdleWorld) -> Result<(), Trouble> {
 // A world with the sources as they stand before a run.
 fn clean_world(alloc: Global, job: &Job) -> Result<IdleWorld, Trouble> {
     let mut world = plain_world(alloc, job.case)?;
-    take_away(job.case, &mut world)?;
-    change_sources(job.case, job.step.item.line, &mut world)?;
-    Ok(world)
+    let mut world = take_away(job.case, &mut world).and(Ok(world))?;
+    change_sources(job.case, job.step.item.line, &mut world).and(Ok(world))
 }
 
 // The words without those that ask for several jobs.
@@ -92,10 +91,18 @@ fn compare_clean_end(found: &mut Found, job: &Job, ran: &Ran) {
 
 fn compare_build(found: &mut Found, job: &Job, world: &IdleWorld) -> Result<(), Trouble> {
     let mut clean = clean_world(found.alloc(), job)?;
-    let ran = run_clean(found.alloc(), job, &mut clean)?;
-    compare_clean_end(found, job, &ran);
-    compare_made(found, job.case, world, &clean);
-    Ok(())
+    let ran = run_clean(found.alloc(), job, &mut clean);
+    let told = match ran {
+        Ok(ran) => {
+            compare_clean_end(found, job, &ran);
+            drop(ran);
+            compare_made(found, job.case, world, &clean);
+            Ok(())
+        }
+        Err(trouble) => Err(trouble),
+    };
+    drop(clean);
+    told
 }
 
 /// Behind a run that has ended well, where the case names made files, each has the bytes that a clean build

@@ -56,8 +56,7 @@ fn world_before(alloc: Global, job: &Job, call: &Failing) -> Result<IdleWorld, T
     let schedule = schedule_of(alloc, job.case)?;
     let fails = one_fail(alloc, call, Where::World)?;
     let mut world = world_with(alloc, job.case, Course { schedule, fails })?;
-    change_files(job.case, job.step.item.line, &mut world)?;
-    Ok(world)
+    change_files(job.case, job.step.item.line, &mut world).and(Ok(world))
 }
 
 fn sinks_at(alloc: Global, call: &Failing) -> Result<Sinks, NoMemory> {
@@ -66,12 +65,27 @@ fn sinks_at(alloc: Global, call: &Failing) -> Result<Sinks, NoMemory> {
     sinks_with(alloc, out, err)
 }
 
+// A run in a world, of which a call is refused where it is one of the sinks'.
+fn run_at(
+    alloc: Global,
+    job: &Job,
+    call: &Failing,
+    world: &mut IdleWorld,
+) -> Result<Ran, Trouble> {
+    let sinks = sinks_at(alloc, call)?;
+    run_step(alloc, job, sinks, world)
+}
+
 // A run in which a call is refused, in a world of its own.
 fn run_with(alloc: Global, job: &Job, call: &Failing) -> Result<Behind, Trouble> {
     let mut world = world_before(alloc, job, call)?;
-    let sinks = sinks_at(alloc, call)?;
-    let ran = run_step(alloc, job, sinks, &mut world)?;
-    Ok(Behind { ran, world })
+    match run_at(alloc, job, call, &mut world) {
+        Ok(ran) => Ok(Behind { ran, world }),
+        Err(trouble) => {
+            drop(world);
+            Err(trouble)
+        }
+    }
 }
 
 // The beginning of what is said of a refused call: which one it is.
@@ -147,12 +161,33 @@ fn compare_again(found: &mut Found, trial: &Trial, one: &Refusal, again: &Ran, w
     compare_made(found, trial.job.case, world, &trial.model.world);
 }
 
+// The same words are run again in the world behind a run.
+fn try_again(
+    found: &mut Found,
+    trial: &Trial,
+    one: &Refusal,
+    world: IdleWorld,
+) -> Result<(), Trouble> {
+    let mut world = world;
+    match run_unrefused(found.alloc(), trial.job, &mut world) {
+        Ok(again) => {
+            compare_again(found, trial, one, &again, &world);
+            drop(again);
+            drop(world);
+            Ok(())
+        }
+        Err(trouble) => {
+            drop(world);
+            Err(trouble)
+        }
+    }
+}
+
 fn try_call(found: &mut Found, trial: &Trial, one: &Refusal) -> Result<(), Trouble> {
-    let mut first = run_with(found.alloc(), trial.job, &one.call)?;
-    compare_first(found, trial, one, &first.ran);
-    let again = run_unrefused(found.alloc(), trial.job, &mut first.world)?;
-    compare_again(found, trial, one, &again, &first.world);
-    Ok(())
+    let Behind { ran, world } = run_with(found.alloc(), trial.job, &one.call)?;
+    compare_first(found, trial, one, &ran);
+    drop(ran);
+    try_again(found, trial, one, world)
 }
 
 // A call is refused.
@@ -202,7 +237,10 @@ fn refuse_kinds(found: &mut Found, trial: &Trial) {
 
 fn refuse_run(found: &mut Found, job: &Job) {
     match run_with(found.alloc(), job, &NONE) {
-        Ok(model) => refuse_kinds(found, &Trial { job, model: &model }),
+        Ok(model) => {
+            refuse_kinds(found, &Trial { job, model: &model });
+            drop(model);
+        }
         Err(trouble) => found.refuse(trouble),
     }
 }

@@ -21,8 +21,13 @@ pub fn run_step(
     sinks: Sinks,
     world: &mut IdleWorld,
 ) -> Result<Ran, Trouble> {
-    let words = words_of(alloc, &job.step.item)?;
-    run_words(alloc, job.case, &words, sinks, world)
+    match words_of(alloc, &job.step.item) {
+        Ok(words) => run_words(alloc, job.case, &words, sinks, world),
+        Err(trouble) => {
+            drop(sinks);
+            Err(trouble)
+        }
+    }
 }
 
 // A run with the sinks of its case.
@@ -34,10 +39,11 @@ fn run_once(alloc: Global, job: &Job, world: &mut IdleWorld) -> Result<Ran, Trou
 // A run; one that memory ran out in is run again.
 fn run_well(alloc: Global, job: &Job, world: &mut IdleWorld) -> Result<Ran, Trouble> {
     let ran = run_once(alloc, job, world)?;
-    match ran.report.end {
-        End::NoMemory => run_once(alloc, job, world),
-        _ => Ok(ran),
+    if !matches!(&ran.report.end, End::NoMemory) {
+        return Ok(ran);
     }
+    drop(ran);
+    run_once(alloc, job, world)
 }
 
 // What differs in a run.
@@ -51,7 +57,10 @@ fn compare_run(found: &mut Found, job: &Job, ran: &Ran, world: &IdleWorld) {
 // A run, and what differs.
 fn take_run(found: &mut Found, job: &Job, world: &mut IdleWorld) {
     match run_well(found.alloc(), job, world) {
-        Ok(ran) => compare_run(found, job, &ran, world),
+        Ok(ran) => {
+            compare_run(found, job, &ran, world);
+            drop(ran);
+        }
         Err(trouble) => found.refuse(trouble),
     }
 }
@@ -90,6 +99,7 @@ fn run_under(found: &mut Found, case: &Case, seed: u32, schedule: Turns) {
         Ok(world) => {
             let mut world = world;
             take_steps(found, case, seed, &mut world);
+            drop(world);
         }
         Err(trouble) => found.refuse(trouble),
     }

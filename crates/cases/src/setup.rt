@@ -81,8 +81,13 @@ pub fn plain_world(alloc: Global, case: &Case) -> Result<IdleWorld, Trouble> {
 /// Sinks in which these writes fail.
 pub fn sinks_with(alloc: Global, out: Fails, err: Fails) -> Result<Sinks, NoMemory> {
     let out = MemSink::new(alloc, out)?;
-    let err = MemSink::new(alloc, err)?;
-    Ok(Sinks { out, err })
+    match MemSink::new(alloc, err) {
+        Ok(err) => Ok(Sinks { out, err }),
+        Err(no_memory) => {
+            drop(out);
+            Err(no_memory)
+        }
+    }
 }
 
 /// The sinks of a run of a case.
@@ -107,6 +112,11 @@ pub fn run_words(
     sinks: Sinks,
     world: &mut IdleWorld,
 ) -> Result<Ran, Trouble> {
-    let env = environment_of(alloc, case)?;
-    Ok(world.run(alloc, words, &env, sinks))
+    match environment_of(alloc, case) {
+        Ok(env) => Ok(world.run(alloc, words, &env, sinks)),
+        Err(trouble) => {
+            drop(sinks);
+            Err(trouble)
+        }
+    }
 }

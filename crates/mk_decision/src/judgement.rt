@@ -131,8 +131,13 @@ fn judgement_of<W: World>(
     ensures cause { HasCause world_failed (W.faults world.old) (W.faults world.new) result }
     ensures children { (kids : List ℕ) → W.runs world.old kids → W.runs world.new kids }
 {
-    let found = find(maker, world, node, &task, target, ages, newest)?;
-    Ok(Judgement::Judged(task, found))
+    match find(maker, world, node, &task, target, ages, newest) {
+        Ok(found) => Ok(Judgement::Judged(task, found)),
+        Err(fault) => {
+            drop(task);
+            Err(fault)
+        }
+    }
 }
 
 // The judgement of a node with commands that was looked at.

@@ -111,13 +111,16 @@ fn end_line<W: World>(
     ensures children { W.runs world.new kids.new.tickets }
 {
     if line_fails(line_at(&job.task, job.number), status) {
-        return fail_job(maker, world, course, &job, status);
+        let failed = fail_job(maker, world, course, &job, status);
+        drop(job);
+        return failed;
     }
     if is_last(&job) {
         return finish_job(maker, world, course, job);
     }
     if is_stopped_by(maker, &course.failure) {
         course.sched.ended(job.node, true);
+        drop(job);
         return Ok(());
     }
     run_on(maker, world, kids, course, job)
@@ -155,7 +158,7 @@ pub fn take_in<W: World, S: Sink>(
     let mut job = take_job(&mut course.jobs, ended.ticket.0);
     let status = ended.status;
     put(&mut course.events, Event::End(job.node, job.number, status));
-    print_end(
+    let shown = print_end(
         out,
         maker.plan,
         are_many(maker),
@@ -163,8 +166,16 @@ pub fn take_in<W: World, S: Sink>(
         job.node,
         line_at(&job.task, job.number),
         ended.output.bytes(),
-    )?;
-    keep_end(maker.alloc, &mut job.collected, job.number, ended)?;
+    );
+    if let Err(fault) = shown {
+        drop(job);
+        drop(ended);
+        return Err(Halt::from(fault));
+    }
+    let Ok(()) = keep_end(maker.alloc, &mut job.collected, job.number, ended) else {
+        drop(job);
+        return Err(Halt::NoMemory);
+    };
     end_line(maker, world, kids, course, job, status)?;
     Ok(())
 }

@@ -155,7 +155,10 @@ fn start_line<W: World>(
     ensures children { W.runs world.new kids.new.tickets }
 {
     let ticket = next_ticket(kids, &mut course.last_ticket);
-    start_command(maker, world, kids, &mut course.events, &job, ticket)?;
+    if let Err(fault) = start_command(maker, world, kids, &mut course.events, &job, ticket) {
+        drop(job);
+        return Err(fault);
+    }
     let mut started = job;
     started.ticket = ticket;
     add_job(&mut course.jobs, started)?;
@@ -191,7 +194,10 @@ pub fn run_on<W: World>(
     ensures children { W.runs world.new kids.new.tickets }
 {
     let lines = job.task.lines.as_slice();
-    let passed = pass_lines(&mut course.events, job.node, lines, job.number)?;
+    let Ok(passed) = pass_lines(&mut course.events, job.node, lines, job.number) else {
+        drop(job);
+        return Err(WorldFault::NoMemory);
+    };
     if passed as usize >= job.task.lines.len() {
         return finish_job(maker, world, course, job);
     }

@@ -137,8 +137,14 @@ fn meta_of(maker: &Maker, job: Job) -> Result<Meta, NoMemory>
     ensures { IfOk result (λ meta. meta
         ≡ spec.meta_of (work_of maker.now) job.node job.task.lines job.collected) }
 {
-    let mut meta = frame_of(maker, &job)?;
-    let collected = job.collected;
+    let frame = frame_of(maker, &job);
+    let Job {
+        collected,
+        task,
+        ..
+    } = job;
+    drop(task);
+    let mut meta = frame?;
     meta.output = collected.output;
     meta.records = counted(maker, collected.records);
     Ok(meta)
@@ -150,7 +156,9 @@ fn whole_text(maker: &Maker, job: Job) -> Result<Text, NoMemory>
     ensures { IfOk result (λ text. text ≡ metas.text_of (work_of maker.now) job) }
 {
     let meta = meta_of(maker, job)?;
-    write_meta(maker.alloc, &meta)
+    let text = write_meta(maker.alloc, &meta);
+    drop(meta);
+    text
 }
 
 // Writes the whole meta file of a job, later than the newest time.
@@ -197,9 +205,16 @@ fn close_meta<W: World>(
     ensures cause { HasCause world_failed (W.faults world.old) (W.faults world.new) result }
     ensures children { (kids : List ℕ) → W.runs world.old kids → W.runs world.new kids }
 {
-    let when = world.time(maker.alloc, maker.plan.name(job.node))?;
-    note_time(newest, when);
-    write_whole(maker, world, newest, job)
+    match world.time(maker.alloc, maker.plan.name(job.node)) {
+        Ok(when) => {
+            note_time(newest, when);
+            write_whole(maker, world, newest, job)
+        }
+        Err(fault) => {
+            drop(job);
+            Err(fault)
+        }
+    }
 }
 
 // Closes a job whose lines have ended well.
@@ -220,6 +235,7 @@ fn close_job<W: World>(
     if is_meta(maker.plan, &maker.made.mode, job.node) {
         return close_meta(maker, world, newest, job);
     }
+    drop(job);
     Ok(())
 }
 

@@ -51,23 +51,33 @@ fn carry_out<W: World>(
             Ok(())
         }
         Decision::Refuse(number, what) => {
-            tell(&mut course.events, Event::Refused(node, number))?;
+            let Ok(()) = tell(&mut course.events, Event::Refused(node, number)) else {
+                drop(what);
+                return Err(WorldFault::NoMemory);
+            };
             course.sched.refused(node);
             let failure = Failure::Expand(node, number, what);
             note_failure(&mut course.failure, failure);
             Ok(())
         }
         Decision::Make(task, _) => {
-            let collected = open_job(maker, world, &mut course.newest, node)?;
-            course.sched.started(node);
-            let job = Job {
-                ticket: 0,
-                node,
-                number: 0,
-                task,
-                collected,
-            };
-            run_on(maker, world, kids, course, job)
+            match open_job(maker, world, &mut course.newest, node) {
+                Ok(collected) => {
+                    course.sched.started(node);
+                    let job = Job {
+                        ticket: 0,
+                        node,
+                        number: 0,
+                        task,
+                        collected,
+                    };
+                    run_on(maker, world, kids, course, job)
+                }
+                Err(fault) => {
+                    drop(task);
+                    Err(fault)
+                }
+            }
         }
     }
 }

@@ -62,7 +62,9 @@ fn run_line<W: World, S: Sink>(
     ensures children { W.runs world.new kids.new.tickets }
 {
     let cmd = command(alloc, line, made.scopes.cwd())?;
-    start_child(alloc, world, kids, events, place, TICKET, Time(0), &cmd)?;
+    let started = start_child(alloc, world, kids, events, place, TICKET, Time(0), &cmd);
+    drop(cmd);
+    started?;
     let ended = wait_child(alloc, world, kids, events)?;
     put(events, Event::End(place.node, place.number, ended.status));
     write_all(out, &[ended.output.bytes()])?;

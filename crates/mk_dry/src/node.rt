@@ -70,7 +70,10 @@ fn carry_out<W: World, S: Sink>(
     match decision {
         Decision::Keep => tell(&mut course.events, Event::Kept(node))?,
         Decision::Refuse(number, what) => {
-            tell(&mut course.events, Event::Refused(node, number))?;
+            let Ok(()) = tell(&mut course.events, Event::Refused(node, number)) else {
+                drop(what);
+                return Err(Halt::NoMemory);
+            };
             note_failure(&mut course.failure, Failure::Expand(node, number, what));
             return Ok(NodeState::Failed);
         }
@@ -78,7 +81,9 @@ fn carry_out<W: World, S: Sink>(
             course.plan.count_as_new(node);
             let failure = &mut course.failure;
             let events = &mut course.events;
-            return show_lines(alloc, made, world, out, kids, events, failure, node, &task);
+            let shown = show_lines(alloc, made, world, out, kids, events, failure, node, &task);
+            drop(task);
+            return shown;
         }
     }
     Ok(NodeState::Settled)

@@ -89,19 +89,27 @@ fn new_course(alloc: Global, plan: Plan) -> Result<Course, NoMemory>
     ensures { IfOk result (λ course. IsFirstCourse plan course) }
 {
     let many = plan.len() as usize;
-    Ok(Course {
-        nodes: vec![in alloc; NodeState::Undecided; many]?,
-        plan,
-        events: Vec::new(alloc),
-        failure: None,
-    })
+    let nodes = vec![in alloc; NodeState::Undecided; many];
+    match nodes {
+        Ok(nodes) => Ok(Course {
+            nodes,
+            plan,
+            events: Vec::new(alloc),
+            failure: None,
+        }),
+        Err(fault) => {
+            drop(plan);
+            Err(NoMemory::from(fault))
+        }
+    }
 }
 
 // The report of a dry run.
 fn events_of(course: Course) -> Events
     ensures { result ≡ course.events.items }
 {
-    let Course { events, .. } = course;
+    let Course { events, plan, .. } = course;
+    drop(plan);
     Events::of(events)
 }
 
@@ -145,6 +153,7 @@ pub fn dry_run<W: World, S: Sink>(
     ensures idle { W.runs world.new [] }
 {
     let Ok(mut kids) = Kids::new(alloc, 1) else {
+        drop(plan);
         return no_memory(alloc);
     };
     let Ok(mut course) = new_course(alloc, plan) else {

@@ -102,8 +102,9 @@ fn push_changed(
         return Ok(());
     };
     let paths = paths_of(alloc, ignored, meta)?;
-    push_read(text, text_at(&paths.found, place), when, meta.stamp)?;
-    Ok(())
+    let pushed = push_read(text, text_at(&paths.found, place), when, meta.stamp);
+    drop(paths);
+    pushed
 }
 
 // Appends the path at a place of those that the job missed.
@@ -121,8 +122,9 @@ fn push_appeared(
         return Ok(());
     };
     let paths = paths_of(alloc, ignored, meta)?;
-    push_path(text, b"appeared ", text_at(&paths.missed, place))?;
-    Ok(())
+    let pushed = push_path(text, b"appeared ", text_at(&paths.missed, place));
+    drop(paths);
+    pushed
 }
 
 // Appends the path at a place of those that the job left written.
@@ -140,8 +142,9 @@ fn push_left(
         return Ok(());
     };
     let paths = paths_of(alloc, ignored, meta)?;
-    push_path(text, b"left ", text_at(&paths.left, place))?;
-    Ok(())
+    let pushed = push_path(text, b"left ", text_at(&paths.left, place));
+    drop(paths);
+    pushed
 }
 
 // Appends a reason.

@@ -55,7 +55,12 @@ fn told_of(maker: &Maker, node: u32, judgement: Judgement) -> Result<Option<Reas
     match judgement {
         Judgement::Nothing => Ok(None),
         Judgement::Refused(line, what) => Err(ExplainFault::Expand(node, line, what)),
-        Judgement::Judged(task, found) => Ok(reason_of(maker, node, &task, &found)?),
+        Judgement::Judged(task, found) => {
+            let reason = reason_of(maker, node, &task, &found);
+            drop(task);
+            drop(found);
+            Ok(reason?)
+        }
     }
 }
 
@@ -117,6 +122,32 @@ fn explain_node<W: World>(
     Ok(())
 }
 
+// The same of a plan that is lent, whose nodes with a reason come to count as new.
+fn explain_all<W: World>(
+    alloc: Global,
+    plan: &mut Plan,
+    made: &Made,
+    flags: &Flags,
+    world: &mut W,
+) -> Result<Reasons, ExplainFault>
+    requires idle { W.runs world.old [] }
+    ensures explained { IfOk result (λ reasons. IsExplained
+        (SawFiles W.meaning (W.history world.old) (W.history world.new))
+        (work_on plan.old made.now flags.now) reasons) }
+    ensures refused { IfErr result (λ fault. IsStoppedBy
+        (SawFiles W.meaning (W.history world.old) (W.history world.new))
+        (work_on plan.old made.now flags.now) fault) }
+    ensures looked { OnlyLooked (W.history world.old) (W.history world.new) }
+    ensures cause { HasCause failed (W.faults world.old) (W.faults world.new) result }
+    ensures idle { W.runs world.new [] }
+{
+    let mut reasons = Items::new(alloc, 0)?;
+    for node in 0..plan.len() {
+        explain_node(alloc, plan, made, flags, world, node, &mut reasons)?;
+    }
+    Ok(reasons)
+}
+
 /// Why the nodes of a plan are out of date, in plan order. A node that has a reason counts as new for the
 /// nodes that are made from it. Nothing is started or changed.
 ///
@@ -141,9 +172,7 @@ pub fn explain<W: World>(
     ensures idle { W.runs world.new [] }
 {
     let mut plan = plan;
-    let mut reasons = Items::new(alloc, 0)?;
-    for node in 0..plan.len() {
-        explain_node(alloc, &mut plan, made, flags, world, node, &mut reasons)?;
-    }
-    Ok(reasons)
+    let reasons = explain_all(alloc, &mut plan, made, flags, world);
+    drop(plan);
+    reasons
 }

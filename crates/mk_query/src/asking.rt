@@ -34,13 +34,20 @@ fn first_not_kept<W: World>(
 {
     let mut newest = Time(0);
     for node in 0..maker.plan.len() {
-        match decide_on(maker, world, node, &mut newest)? {
+        let decision = decide_on(maker, world, node, &mut newest)?;
+        match decision {
             Decision::Keep => events.push(Event::Kept(node))?,
             Decision::Refuse(number, what) => {
-                events.push(Event::Refused(node, number))?;
+                let Ok(()) = events.push(Event::Refused(node, number)) else {
+                    drop(what);
+                    return Err(WorldFault::NoMemory);
+                };
                 return Ok(QueryResult::Expand(node, number, what));
             }
-            Decision::Make(_, _) => return Ok(QueryResult::OutOfDate(node)),
+            Decision::Make(task, _) => {
+                drop(task);
+                return Ok(QueryResult::OutOfDate(node));
+            }
         }
     }
     Ok(QueryResult::UpToDate)

@@ -75,7 +75,10 @@ pub fn end_by(alloc: Global, names: &PlanNames, ended: BuildResult) -> End
         },
         BuildResult::Expand(n, line, fault) => match name_at(alloc, names, n) {
             Ok(name) => End::Expand(name, line, fault),
-            Err(_) => End::NoMemory,
+            Err(_) => {
+                drop(fault);
+                End::NoMemory
+            }
         },
         BuildResult::World => End::WorldFault,
         BuildResult::Sink => End::SinkFault,

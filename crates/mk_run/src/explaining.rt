@@ -56,7 +56,10 @@ fn end_of(alloc: Global, names: &PlanNames, fault: ExplainFault) -> End
     match fault {
         ExplainFault::Expand(n, line, what) => match name_at(alloc, names, n) {
             Ok(name) => End::Expand(name, line, what),
-            Err(_) => End::NoMemory,
+            Err(_) => {
+                drop(what);
+                End::NoMemory
+            }
         },
         ExplainFault::Failed => End::WorldFault,
         ExplainFault::NoMemory => End::NoMemory,
@@ -114,6 +117,7 @@ fn explain_plan<W: World, S: Sink>(
     ensures idle { W.runs world.new [] }
 {
     let Ok(names) = names_of(alloc, &plan) else {
+        drop(plan);
         return unbuilt(alloc, End::NoMemory);
     };
     Went {

@@ -61,12 +61,18 @@ fn shown<F: Facts>(
     let text = print.text.bytes();
     let locals = Locals::none(alloc)?;
     if has_dollar(text) {
-        return value_of_text(alloc, scopes, &locals, text, facts, false);
+        let value = value_of_text(alloc, scopes, &locals, text, facts, false);
+        drop(locals);
+        return value;
     }
     if print.full {
         let tree = name_tree(alloc, text)?;
-        return expand(alloc, scopes, &locals, &tree, facts, false);
+        let value = expand(alloc, scopes, &locals, &tree, facts, false);
+        drop(tree);
+        drop(locals);
+        return value;
     }
+    drop(locals);
     Ok(Text::from_bytes(alloc, raw_value(scopes, text))?)
 }
 

@@ -35,7 +35,10 @@ fn end_of(alloc: Global, names: &PlanNames, ended: QueryResult) -> End
         },
         QueryResult::Expand(n, line, fault) => match name_at(alloc, names, n) {
             Ok(name) => End::Expand(name, line, fault),
-            Err(_) => End::NoMemory,
+            Err(_) => {
+                drop(fault);
+                End::NoMemory
+            }
         },
         QueryResult::World => End::WorldFault,
         QueryResult::NoMemory => End::NoMemory,

@@ -121,7 +121,11 @@ fn follow<W: World, S: Sink>(
     ensures idle { W.runs world.new [] }
 {
     match read(alloc, world, err, order, env) {
-        Ok(made) => by_mode(alloc, &made, order, world, out),
+        Ok(made) => {
+            let went = by_mode(alloc, &made, order, world, out);
+            drop(made);
+            went
+        }
         Err(fault) => unbuilt(alloc, End::from(fault)),
     }
 }
@@ -133,6 +137,7 @@ fn finish<S: Sink>(words: &Texts, went: End, err: &mut S) -> End
     ensures cause { LineCause (S.faults err.old) (S.faults err.new) went result }
 {
     if write_line(err, words, &went).is_err() {
+        drop(went);
         return End::SinkFault;
     }
     went

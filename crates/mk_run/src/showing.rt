@@ -41,6 +41,7 @@ fn show_plan<W: World, S: Sink>(
     ensures idle { W.runs world.new [] }
 {
     let Ok(names) = names_of(alloc, &plan) else {
+        drop(plan);
         return unbuilt(alloc, End::NoMemory);
     };
     let shown = dry_run(alloc, plan, made, flags, world, out);

@@ -130,21 +130,10 @@ fn made(report: Report) -> Result<Report, End>
     ensures made { IfOk result (λ made. (made ≡ report) × (report.end ≡ done)) }
     ensures unmade { IfErr result (λ end. (end ≡ report.end) × (report.end ≡ done → ⊥)) }
 {
-    let Report {
-        status,
-        end,
-        plan,
-        events,
-    } = report;
-    match end {
-        End::Done => Ok(Report {
-            status,
-            end: End::Done,
-            plan,
-            events,
-        }),
-        end => Err(end),
+    if matches!(&report.end, End::Done) {
+        return Ok(report);
     }
+    Err(report.end)
 }
 
 // A run inside that has made all; else its end.
@@ -185,14 +174,33 @@ fn run_in(alloc: Global, n: u32, request: &Request, world: MemWorld) -> Result<T
     ensures ended { IfErr result (spec.EndsInside n) }
 {
     let mut world = world;
-    let first = make_all(alloc, request, &mut world)?;
-    change(&mut world)?;
-    let second = make_all(alloc, request, &mut world)?;
-    Ok(Twice {
-        first,
-        second,
-        world,
-    })
+    let first = match make_all(alloc, request, &mut world) {
+        Ok(first) => first,
+        Err(end) => {
+            drop(world);
+            return Err(end);
+        }
+    };
+    match change(&mut world) {
+        Ok(()) => {}
+        Err(end) => {
+            drop(first);
+            drop(world);
+            return Err(end);
+        }
+    }
+    match make_all(alloc, request, &mut world) {
+        Ok(second) => Ok(Twice {
+            first,
+            second,
+            world,
+        }),
+        Err(end) => {
+            drop(first);
+            drop(world);
+            Err(end)
+        }
+    }
 }
 
 /// Generates a world, and runs twice in it, with a changed source in between.
@@ -204,7 +212,10 @@ pub fn run_twice(alloc: Global, n: u32) -> Result<Twice, End>
         return Err(End::NoMemory);
     };
     let Ok(world) = new_world(alloc, n) else {
+        drop(request);
         return Err(End::NoMemory);
     };
-    run_in(alloc, n, &request, world)
+    let twice = run_in(alloc, n, &request, world);
+    drop(request);
+    twice
 }

@@ -48,7 +48,11 @@ fn generate<S: Sink>(alloc: Global, n: u32, out: &mut S) -> End
     ensures cause { causes.OutCause n (S.faults out.old) (S.faults out.new) result }
 {
     match run_twice(alloc, n) {
-        Ok(twice) => tell(alloc, n, &twice, out),
+        Ok(twice) => {
+            let end = tell(alloc, n, &twice, out);
+            drop(twice);
+            end
+        }
         Err(end) => end,
     }
 }
@@ -120,7 +124,11 @@ pub fn run<W: World, S: Sink>(
     ensures idle { W.runs world.new [] }
 {
     match asked(alloc, words, env.cwd.bytes()) {
-        Ok(order) => follow(alloc, words, &order, env, world, out, err),
+        Ok(order) => {
+            let report = follow(alloc, words, &order, env, world, out, err);
+            drop(order);
+            report
+        }
         Err(end) => close(words, unbuilt(alloc, end), err),
     }
 }

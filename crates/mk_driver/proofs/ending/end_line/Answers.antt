@@ -108,4 +108,4 @@ returns-clause-halted g c =
 
 pub returns-then-line_fails-clause-fits : goal.returns-then-line_fails-clause-fits
 returns-then-line_fails-clause-fits g c =
-    ok_from c.fail_job.result (c.fail_job.ensures.fits _ _ c.requires.fits)
+    ok_from c.fail_job-failed.result (c.fail_job-failed.ensures.fits _ _ c.requires.fits)

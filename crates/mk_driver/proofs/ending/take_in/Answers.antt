@@ -2,6 +2,7 @@ use Rattle.std.proofs.Common.{◌∙◌, [], ◌∷◌, true, false, append_asso
 use Rattle.std.proofs.lemmas.Result.{err_from_is_err_and}
 use Rattle.mk_sched.proofs.DecideLemmas.{open_within}
 use Rattle.mk_decision.specs.Makers.{work_of}
+use Rattle.mk_child.specs.declared.halt.Halt.TheVariants.{NoMemory as no_memory}
 use Rattle.mk_trace.specs.Builds.{moment}
 use Rattle.mk_trace.specs.declared.event.Event.TheVariants as event
 use Rattle.mk_driver.proofs.EndingLemmas.{halted-waiting, so_far-taken, wait-facts, within-plan}
@@ -25,8 +26,8 @@ line_at-requires g c =
     c.take_job-job.ensures c.in_ok-ended.ensures.taken in
     (out.one, out.has)
 
-pub print_end-requires : goal.print_end-requires
-print_end-requires g c =
+pub print_end-shown-requires : goal.print_end-shown-requires
+print_end-shown-requires g c =
     let out = fits-taken _ _ _ _ _ _ _ _ _ c.take_job-job.result c.requires.fits
     c.take_job-job.ensures c.in_ok-ended.ensures.taken in
     within-plan (work_of c.args.maker.now) c.args.course.now.sched _ _ _ _ _ _ out.fits
@@ -61,10 +62,8 @@ returns-in_err-ended-clause-halted g c =
     (g.W.World.history c.wait_child.new.world) c.wait_child.new.events.items at.2 facts.0 facts.1
     c.in_err-ended.ensures.refused c.in_err-ended.ensures.untold)
 
-pub returns-in_err-print_end-clause-halted : goal.returns-in_err-print_end-clause-halted
-returns-in_err-print_end-clause-halted g c =
-    let p = err_from_is_err_and c.from_residual-in_err-print_end.result
-    c.from_residual-in_err-print_end.ensures.1 in
+pub returns-in-Err-clause-halted : goal.returns-in-Err-clause-halted
+returns-in-Err-clause-halted g c =
     let work = work_of c.args.maker.now in
     let course = c.args.course.now in
     let ended = c.in_ok-ended.ended in
@@ -75,24 +74,22 @@ returns-in_err-print_end-clause-halted g c =
     let told = c.put.ensures.told ∙ rw c.in_ok-ended.ensures.told
     (append_assoc course.events.items (event.Wait ∷ []) (event.End job.node job.number ended.status ∷ [])) in
     let has = found c.line_at.result.now job.task.lines job.number c.line_at.ensures (out.one, out.has) in
-    rw (p.1, p.2) (λ first at. (
+    rw c.from.ensures (λ first at. (
       at.0,
       _,
       so_far-weaken g.W.World.meaning work true first _ _ at.0 at.0 _ _
           (so_far-taken g.W.World.meaning work true at.0 course.sched.nodes course.jobs.items
           c.take_job-job.new.jobs.items course.failure job c.line_at.result.now ended course.last_shown first
           (moment (g.W.World.history c.args.world.now) (g.S.Sink.held c.args.out.now) course.events.items)
-          (moment (g.W.World.history c.wait_child.new.world) (g.S.Sink.held c.print_end.new.out)
+          (moment (g.W.World.history c.wait_child.new.world) (g.S.Sink.held c.print_end-shown.new.out)
           c.put.new.events.items) at.2 facts.0 facts.1 c.take_job-job.ensures out.token has
           (c.in_ok-ended.ensures.done job.node job.number) told
-          (rw (← c.are_many.ensures, ← c.bytes.ensures.value) c.in_err-print_end.ensures.cut))
+          (rw (← c.are_many.ensures, ← c.bytes.ensures.value) c.in-Err.ensures.cut))
           (λ tasks has_tasks. has_tasks) (λ tasks build has_tasks is. tt),
     ))
 
-pub returns-in_err-keep_end-clause-halted : goal.returns-in_err-keep_end-clause-halted
-returns-in_err-keep_end-clause-halted g c =
-    let p = err_from_is_err_and c.from_residual-in_err-keep_end.result
-    c.from_residual-in_err-keep_end.ensures.1 in
+pub returns-in_default-keep_end-clause-halted : goal.returns-in_default-keep_end-clause-halted
+returns-in_default-keep_end-clause-halted g c =
     let work = work_of c.args.maker.now in
     let course = c.args.course.now in
     let ended = c.in_ok-ended.ended in
@@ -103,15 +100,15 @@ returns-in_err-keep_end-clause-halted g c =
     let told = c.put.ensures.told ∙ rw c.in_ok-ended.ensures.told
     (append_assoc course.events.items (event.Wait ∷ []) (event.End job.node job.number ended.status ∷ [])) in
     let has = found c.line_at.result.now job.task.lines job.number c.line_at.ensures (out.one, out.has) in
-    rw p.1 (λ first at.
-    halted g.W.World.meaning work p.0 first _ (g.S.Sink.held c.print_end.new.out) c.put.new.events.items _ at.0
+    λ first at.
+    halted g.W.World.meaning work no_memory first _ (g.S.Sink.held c.print_end-shown.new.out) c.put.new.events.items _ at.0
     _ (so_far-taken g.W.World.meaning work false at.0 course.sched.nodes course.jobs.items
     c.take_job-job.new.jobs.items course.failure job c.line_at.result.now ended course.last_shown first
     (moment (g.W.World.history c.args.world.now) (g.S.Sink.held c.args.out.now) course.events.items)
-    (moment (g.W.World.history c.wait_child.new.world) (g.S.Sink.held c.print_end.new.out)
+    (moment (g.W.World.history c.wait_child.new.world) (g.S.Sink.held c.print_end-shown.new.out)
     c.put.new.events.items) at.2 facts.0 facts.1 c.take_job-job.ensures out.token has
     (c.in_ok-ended.ensures.done job.node job.number) told
-    (rw (← c.are_many.ensures, ← c.bytes.ensures.value) c.in_ok-print_end.ensures.done)))
+    (rw (← c.are_many.ensures, ← c.bytes.ensures.value) c.in_default.ensures.done))
 
 pub returns-in_err-end_line-clause-halted : goal.returns-in_err-end_line-clause-halted
 returns-in_err-end_line-clause-halted g c =
@@ -128,17 +125,17 @@ returns-in_err-end_line-clause-halted g c =
     (append_assoc course.events.items (event.Wait ∷ []) (event.End job.node job.number ended.status ∷ [])) in
     let has = found c.line_at.result.now job.task.lines job.number c.line_at.ensures (out.one, out.has) in
     rw (p.1, p.2) (λ first at.
-    c.in_err-end_line.ensures.halted first (g.S.Sink.held c.print_end.new.out) (
+    c.in_err-end_line.ensures.halted first (g.S.Sink.held c.print_end-shown.new.out) (
       at.0,
       at.1,
-      rw (c.in_ok-print_end.ensures.last, c.bytes.ensures.value, c.in_ok-keep_end.ensures)
+      rw (c.in_default.ensures.last, c.bytes.ensures.value, c.in-Ok.ensures)
           (so_far-taken g.W.World.meaning work false at.0 course.sched.nodes course.jobs.items
           c.take_job-job.new.jobs.items course.failure job c.line_at.result.now ended course.last_shown first
           (moment (g.W.World.history c.args.world.now) (g.S.Sink.held c.args.out.now) course.events.items)
-          (moment (g.W.World.history c.wait_child.new.world) (g.S.Sink.held c.print_end.new.out)
+          (moment (g.W.World.history c.wait_child.new.world) (g.S.Sink.held c.print_end-shown.new.out)
           c.put.new.events.items) at.2 facts.0 facts.1 c.take_job-job.ensures out.token has
           (c.in_ok-ended.ensures.done job.node job.number) told
-          (rw (← c.are_many.ensures, ← c.bytes.ensures.value) c.in_ok-print_end.ensures.done)),
+          (rw (← c.are_many.ensures, ← c.bytes.ensures.value) c.in_default.ensures.done)),
     ))
 
 pub returns-clause-goes : goal.returns-clause-goes
@@ -154,17 +151,17 @@ returns-clause-goes g c =
     (append_assoc course.events.items (event.Wait ∷ []) (event.End job.node job.number ended.status ∷ [])) in
     let has = found c.line_at.result.now job.task.lines job.number c.line_at.ensures (out.one, out.has) in
     λ first at.
-    c.in_ok-end_line.ensures.goes first (g.S.Sink.held c.print_end.new.out) (
+    c.in_ok-end_line.ensures.goes first (g.S.Sink.held c.print_end-shown.new.out) (
       at.0,
       at.1,
-      rw (c.in_ok-print_end.ensures.last, c.bytes.ensures.value, c.in_ok-keep_end.ensures)
+      rw (c.in_default.ensures.last, c.bytes.ensures.value, c.in-Ok.ensures)
           (so_far-taken g.W.World.meaning work false at.0 course.sched.nodes course.jobs.items
           c.take_job-job.new.jobs.items course.failure job c.line_at.result.now ended course.last_shown first
           (moment (g.W.World.history c.args.world.now) (g.S.Sink.held c.args.out.now) course.events.items)
-          (moment (g.W.World.history c.wait_child.new.world) (g.S.Sink.held c.print_end.new.out)
+          (moment (g.W.World.history c.wait_child.new.world) (g.S.Sink.held c.print_end-shown.new.out)
           c.put.new.events.items) at.2 facts.0 facts.1 c.take_job-job.ensures out.token has
           (c.in_ok-ended.ensures.done job.node job.number) told
-          (rw (← c.are_many.ensures, ← c.bytes.ensures.value) c.in_ok-print_end.ensures.done)),
+          (rw (← c.are_many.ensures, ← c.bytes.ensures.value) c.in_default.ensures.done)),
     )
 
 pub returns-clause-left : goal.returns-clause-left

@@ -1,6 +1,5 @@
 use Rattle.std.proofs.Common.{◌≡◌, ◌+◌, ◌-◌, ◌≤◌, ℕ, length, sym, subst, arith}
 use Rattle.std.proofs.lemmas.Grind.{common_steps}
-use Rattle.std.proofs.lemmas.Result.{err_from_is_err_and}
 use Rattle.mk_decision.specs.Makers.{work_of}
 use Rattle.mk_driver.specs.Progress.{BehindOn}
 use Rattle.mk_sched.proofs.DecideLemmas.{open_within}
@@ -11,11 +10,10 @@ use Rattle.mk_driver.proofs.line.run_on.Goals as goal
 back : (n : ℕ) → n + 1 - 1 ≡ n
 back n = omega arith
 
-pub returns-in_err-passed-clause-halted : goal.returns-in_err-passed-clause-halted
-returns-in_err-passed-clause-halted g c =
-    let p = err_from_is_err_and c.from_residual.result c.from_residual.ensures.1 in
-    let halts = rw c.as_slice-lines.ensures.value at c.in_err-passed.ensures.halted in
-    rw (p.1, p.2) (λ first out at.
+pub returns-in_default-clause-halted : goal.returns-in_default-clause-halted
+returns-in_default-clause-halted g c =
+    let halts = rw c.as_slice-lines.ensures.value at c.in_default.ensures.halted in
+    λ first out at.
     halts
     (record {
       meaning = g.W.World.meaning;
@@ -25,7 +23,7 @@ returns-in_err-passed-clause-halted g c =
       first = first;
       out = out;
     })
-    (record { unstopped = c.requires.going; token = c.requires.token }) c.args.job.collected at)
+    (record { unstopped = c.requires.going; token = c.requires.token }) c.args.job.collected at
 
 pub finish_job-requires-clause-within : goal.finish_job-requires-clause-within
 finish_job-requires-clause-within g c =
@@ -34,11 +32,11 @@ finish_job-requires-clause-within g c =
 
 pub returns-then-passed-len-clause-goes : goal.returns-then-passed-len-clause-goes
 returns-then-passed-len-clause-goes g c =
-    let behind = rw c.as_slice-lines.ensures.value at c.in_ok-passed.ensures.behind in
-    let none : length c.args.job.task.lines ≤ c.in_ok-passed.passed = grind (arith, common_steps) in
+    let behind = rw c.as_slice-lines.ensures.value at c.in-Ok.ensures.behind in
+    let none : length c.args.job.task.lines ≤ c.in-Ok.passed = grind (arith, common_steps) in
     on_ok c.finish_job.result (λ goes first out at.
     goes first out (over-behind g.W.World.meaning (work_of c.args.maker.now) _ c.args.course.now
-    c.pass_lines.new.events.items c.args.job c.in_ok-passed.passed first out none
+    c.pass_lines.new.events.items c.args.job c.in-Ok.passed first out none
     (behind
     (record {
       meaning = g.W.World.meaning;
@@ -53,11 +51,11 @@ returns-then-passed-len-clause-goes g c =
 
 pub returns-then-passed-len-clause-halted : goal.returns-then-passed-len-clause-halted
 returns-then-passed-len-clause-halted g c =
-    let behind = rw c.as_slice-lines.ensures.value at c.in_ok-passed.ensures.behind in
-    let none : length c.args.job.task.lines ≤ c.in_ok-passed.passed = grind (arith, common_steps) in
+    let behind = rw c.as_slice-lines.ensures.value at c.in-Ok.ensures.behind in
+    let none : length c.args.job.task.lines ≤ c.in-Ok.passed = grind (arith, common_steps) in
     if_err c.finish_job.result (λ fault halts first out at.
     halts first out (over-behind g.W.World.meaning (work_of c.args.maker.now) _ c.args.course.now
-    c.pass_lines.new.events.items c.args.job c.in_ok-passed.passed first out none
+    c.pass_lines.new.events.items c.args.job c.in-Ok.passed first out none
     (behind
     (record {
       meaning = g.W.World.meaning;
@@ -76,12 +74,12 @@ returns-then-passed-len-clause-fits g c =
 
 pub returns-clause-goes : goal.returns-clause-goes
 returns-clause-goes g c =
-    let behind = rw c.as_slice-lines.ensures.value at c.in_ok-passed.ensures.behind in
+    let behind = rw c.as_slice-lines.ensures.value at c.in-Ok.ensures.behind in
     on_ok c.start_line.result (λ goes first out at.
     goes first out
     (subst (λ k. BehindOn g.W.World.meaning (work_of c.args.maker.now)
     (g.W.World.history c.args.world.now) c.args.course.now c.pass_lines.new.events.items c.args.job.node
-    c.args.job.task.lines c.args.job.collected k first out) (sym (back c.in_ok-passed.passed))
+    c.args.job.task.lines c.args.job.collected k first out) (sym (back c.in-Ok.passed))
     (behind
     (record {
       meaning = g.W.World.meaning;
@@ -95,12 +93,12 @@ returns-clause-goes g c =
 
 pub returns-clause-halted : goal.returns-clause-halted
 returns-clause-halted g c =
-    let behind = rw c.as_slice-lines.ensures.value at c.in_ok-passed.ensures.behind in
+    let behind = rw c.as_slice-lines.ensures.value at c.in-Ok.ensures.behind in
     if_err c.start_line.result (λ fault halts first out at.
     halts first out
     (subst (λ k. BehindOn g.W.World.meaning (work_of c.args.maker.now)
     (g.W.World.history c.args.world.now) c.args.course.now c.pass_lines.new.events.items c.args.job.node
-    c.args.job.task.lines c.args.job.collected k first out) (sym (back c.in_ok-passed.passed))
+    c.args.job.task.lines c.args.job.collected k first out) (sym (back c.in-Ok.passed))
     (behind
     (record {
       meaning = g.W.World.meaning;

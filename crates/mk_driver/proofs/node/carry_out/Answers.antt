@@ -3,6 +3,7 @@ use Rattle.std.proofs.lemmas.Result.{err_from_is_err_and}
 use Rattle.mk_sched.proofs.DecideLemmas.{decided}
 use Rattle.mk_world.specs.declared.command.TaskLine.{TaskLine}
 use Rattle.mk_decision.specs.Decisions.{IsKept}
+use Rattle.mk_world.specs.declared.fault.WorldFault.TheVariants.{NoMemory as no_memory}
 use Rattle.mk_trace.specs.Builds.{rules_of, moment}
 use Rattle.mk_child.specs.Halts.{of_world}
 use Rattle.mk_decision.specs.Makers.{work_of}
@@ -30,17 +31,15 @@ returns-in_err-tell-in-Keep-clause-halted g c =
     (moment history out c.tell.new.events.items) _ at.0 _ at.2 (called-none g.W.World.meaning history)
     c.in_err-tell-in-Keep.ensures.err refl))
 
-pub returns-in_err-tell-in-Refuse-clause-halted : goal.returns-in_err-tell-in-Refuse-clause-halted
-returns-in_err-tell-in-Refuse-clause-halted g c =
-    let p = err_from_is_err_and c.from_residual-in_err-tell-in-Refuse.result
-    c.from_residual-in_err-tell-in-Refuse.ensures.1 in
+pub returns-in_default-clause-halted : goal.returns-in_default-clause-halted
+returns-in_default-clause-halted g c =
     let work = work_of c.args.maker.now in
     let history = g.W.World.history c.args.world.now in
-    rw p.1 (λ seen dec first out at.
-    halted g.W.World.meaning work (of_world p.0) first history out _ _ at.0 _
+    λ seen dec first out at.
+    halted g.W.World.meaning work (of_world no_memory) first history out _ _ at.0 _
     (so_far-nothing g.W.World.meaning work first (moment history out c.args.course.now.events.items)
     (moment history out c.tell-in-Refuse.new.events.items) _ at.0 _ at.2 (called-none g.W.World.meaning history)
-    c.in_err-tell-in-Refuse.ensures.err refl))
+    c.in_default.ensures.err refl)
 
 pub returns-in_ok-tell-in-Keep-clause-goes : goal.returns-in_ok-tell-in-Keep-clause-goes
 returns-in_ok-tell-in-Keep-clause-goes g c =
@@ -69,8 +68,8 @@ returns-in_ok-tell-in-Keep-clause-nodes g c =
     rw c.kept.ensures (undecided-less c.args.course.now.sched.nodes c.args.node _ d.within d.undecided
     refl)
 
-pub returns-in_ok-tell-in-Refuse-clause-goes : goal.returns-in_ok-tell-in-Refuse-clause-goes
-returns-in_ok-tell-in-Refuse-clause-goes g c =
+pub returns-in-Ok-clause-goes : goal.returns-in-Ok-clause-goes
+returns-in-Ok-clause-goes g c =
     let work = work_of c.args.maker.now in
     let history = g.W.World.history c.args.world.now in
     let course = c.args.course.now in
@@ -85,16 +84,16 @@ returns-in_ok-tell-in-Refuse-clause-goes g c =
           c.in-Refuse.number c.in-Refuse.what seen
           course.last_shown first (moment history out course.events.items)
           (moment history out c.tell-in-Refuse.new.events.items) at.2 d.within may (rw c.in-Refuse.is at dec) refl
-          c.in_ok-tell-in-Refuse.ensures.ok refl,
+          c.in-Ok.ensures.ok refl,
     )
 
-pub returns-in_ok-tell-in-Refuse-clause-fits : goal.returns-in_ok-tell-in-Refuse-clause-fits
-returns-in_ok-tell-in-Refuse-clause-fits g c =
+pub returns-in-Ok-clause-fits : goal.returns-in-Ok-clause-fits
+returns-in-Ok-clause-fits g c =
     rw (c.refused.ensures, c.note_failure.ensures)
     (fits-refused _ _ _ _ _ _ _ _ c.requires.fits c.requires.next)
 
-pub returns-in_ok-tell-in-Refuse-clause-nodes : goal.returns-in_ok-tell-in-Refuse-clause-nodes
-returns-in_ok-tell-in-Refuse-clause-nodes g c =
+pub returns-in-Ok-clause-nodes : goal.returns-in-Ok-clause-nodes
+returns-in-Ok-clause-nodes g c =
     let d = decided c.args.course.now.sched c.args.node c.requires.next in
     rw c.refused.ensures (undecided-less c.args.course.now.sched.nodes c.args.node _ d.within
     d.undecided refl)
@@ -107,21 +106,19 @@ open_job-requires g c =
           d.within;
     }
 
-pub returns-in_err-collected-in-Make-clause-halted : goal.returns-in_err-collected-in-Make-clause-halted
-returns-in_err-collected-in-Make-clause-halted g c =
-    let p = err_from_is_err_and c.from_residual-in_err-collected-in-Make.result
-    c.from_residual-in_err-collected-in-Make.ensures.1 in
+pub returns-in-Err-clause-halted : goal.returns-in-Err-clause-halted
+returns-in-Err-clause-halted g c =
     let work = work_of c.args.maker.now in
     let course = c.args.course.now in
     let n = c.args.node in
     let d = decided course.sched n c.requires.next in
     let may = may_decide-of (rules_of work) course.sched n c.requires.fits.rules_are c.requires.next in
-    rw p.1 (λ seen dec first out at.
+    λ seen dec first out at.
     let made = rw c.in-Make.is at dec in
-    halted-opening g.W.World.meaning work (of_world p.0) at.0 course.sched.nodes course.jobs.items
+    halted-opening g.W.World.meaning work (of_world c.in-Err.fault) at.0 course.sched.nodes course.jobs.items
     course.failure n c.in-Make.task.lines seen course.last_shown first
     (g.W.World.history c.args.world.now) (g.W.World.history c.open_job.new.world) out course.events.items at.2
-    d.undecided may at.1 made.0 c.in_err-collected-in-Make.ensures.refused)
+    d.undecided may at.1 made.0 c.in-Err.ensures.refused
 
 pub run_on-requires-clause-fits : goal.run_on-requires-clause-fits
 run_on-requires-clause-fits g c =
@@ -138,8 +135,8 @@ run_on-requires-clause-going g c =
     rw c.started.ensures (unstopped-begun (rules_of (work_of c.args.maker.now)) course.sched c.args.node
     c.requires.fits.rules_are d.within d.undecided d.going)
 
-pub returns-in_ok-collected-in-Make-clause-goes : goal.returns-in_ok-collected-in-Make-clause-goes
-returns-in_ok-collected-in-Make-clause-goes g c =
+pub returns-in-Ok-open_job-clause-goes : goal.returns-in-Ok-open_job-clause-goes
+returns-in-Ok-open_job-clause-goes g c =
     let work = work_of c.args.maker.now in
     let course = c.args.course.now in
     let n = c.args.node in
@@ -151,12 +148,12 @@ returns-in_ok-collected-in-Make-clause-goes g c =
     goes first out (rw c.started.ensures
     (so_far-opened g.W.World.meaning work at.0 course.sched.nodes course.jobs.items course.failure n
     c.in-Make.task.lines seen course.last_shown first (moment (g.W.World.history c.args.world.now) out course.events.items)
-    (moment (g.W.World.history c.open_job.new.world) out course.events.items) c.in_ok-collected-in-Make.collected at.2
-    d.within d.undecided may apart at.1 made.0 made.1 c.in_ok-collected-in-Make.ensures.opened refl refl)))
+    (moment (g.W.World.history c.open_job.new.world) out course.events.items) c.in-Ok-open_job.collected at.2
+    d.within d.undecided may apart at.1 made.0 made.1 c.in-Ok-open_job.ensures.opened refl refl)))
     c.run_on.ensures.goes
 
-pub returns-in_ok-collected-in-Make-clause-halted : goal.returns-in_ok-collected-in-Make-clause-halted
-returns-in_ok-collected-in-Make-clause-halted g c =
+pub returns-in-Ok-open_job-clause-halted : goal.returns-in-Ok-open_job-clause-halted
+returns-in-Ok-open_job-clause-halted g c =
     let work = work_of c.args.maker.now in
     let course = c.args.course.now in
     let n = c.args.node in
@@ -168,12 +165,12 @@ returns-in_ok-collected-in-Make-clause-halted g c =
     halts first out (rw c.started.ensures
     (so_far-opened g.W.World.meaning work at.0 course.sched.nodes course.jobs.items course.failure n
     c.in-Make.task.lines seen course.last_shown first (moment (g.W.World.history c.args.world.now) out course.events.items)
-    (moment (g.W.World.history c.open_job.new.world) out course.events.items) c.in_ok-collected-in-Make.collected at.2
-    d.within d.undecided may apart at.1 made.0 made.1 c.in_ok-collected-in-Make.ensures.opened refl refl)))
+    (moment (g.W.World.history c.open_job.new.world) out course.events.items) c.in-Ok-open_job.collected at.2
+    d.within d.undecided may apart at.1 made.0 made.1 c.in-Ok-open_job.ensures.opened refl refl)))
     c.run_on.ensures.halted
 
-pub returns-in_ok-collected-in-Make-clause-nodes : goal.returns-in_ok-collected-in-Make-clause-nodes
-returns-in_ok-collected-in-Make-clause-nodes g c =
+pub returns-in-Ok-open_job-clause-nodes : goal.returns-in-Ok-open_job-clause-nodes
+returns-in-Ok-open_job-clause-nodes g c =
     let course = c.args.course.now in
     let d = decided course.sched c.args.node c.requires.next in
     let less = undecided-less course.sched.nodes c.args.node _ d.within d.undecided refl in

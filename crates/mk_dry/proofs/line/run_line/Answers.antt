@@ -13,17 +13,17 @@ returns-in_err-cmd-clause-goes g c =
     let p = err_from_is_err_and c.from_residual.result c.from_residual.ensures.1 in
     was-ended p.0 p.1 (λ scene at. halted g.W.World.meaning scene.start p.0 scene.first _ scene.known _ at.1)
 
-pub returns-in_err-start_child-clause-goes : goal.returns-in_err-start_child-clause-goes
-returns-in_err-start_child-clause-goes g c =
-    let p = err_from_is_err_and c.from_residual-in_err-start_child.result
-    c.from_residual-in_err-start_child.ensures.1 in
+pub returns-in_err-started-clause-goes : goal.returns-in_err-started-clause-goes
+returns-in_err-started-clause-goes g c =
+    let p = err_from_is_err_and c.from_residual-in_err-started.result
+    c.from_residual-in_err-started.ensures.1 in
     was-ended p.0 p.1 (λ scene at.
     halted g.W.World.meaning scene.start p.0 scene.first _ scene.known _
     (so_far-nothing g.W.World.meaning scene.start scene.first
     (moment (g.W.World.history c.args.world.now) (g.S.Sink.held c.args.out.now) c.args.events.now.items)
-    (moment (g.W.World.history c.start_child.new.world) (g.S.Sink.held c.args.out.now)
-    c.start_child.new.events.items) scene.known _ at.1 c.in_err-start_child.ensures.refused
-    c.in_err-start_child.ensures.untold refl))
+    (moment (g.W.World.history c.start_child-started.new.world) (g.S.Sink.held c.args.out.now)
+    c.start_child-started.new.events.items) scene.known _ at.1 c.in_err-started.ensures.refused
+    c.in_err-started.ensures.untold refl))
 
 pub returns-in_err-ended-clause-goes : goal.returns-in_err-ended-clause-goes
 returns-in_err-ended-clause-goes g c =
@@ -31,13 +31,13 @@ returns-in_err-ended-clause-goes g c =
     c.from_residual-in_err-ended.ensures.1 in
     was-ended p.0 p.1 (λ scene at.
     in-unwaited g.W.World.meaning scene p.0 c.args.place.number 1
-    (g.W.World.history c.start_child.new.world) (g.W.World.history c.wait_child.new.world)
-    (g.S.Sink.held c.args.out.now) c.start_child.new.events.items c.wait_child.new.events.items at.0.is_open
+    (g.W.World.history c.start_child-started.new.world) (g.W.World.history c.wait_child.new.world)
+    (g.S.Sink.held c.args.out.now) c.start_child-started.new.events.items c.wait_child.new.events.items at.0.is_open
     (line-started g.W.World.meaning scene c.args.place c.args.line.now c.in_ok-cmd.cmd c.cwd.result.now
-    (g.W.World.history c.args.world.now) (g.W.World.history c.start_child.new.world)
-    (g.S.Sink.held c.args.out.now) c.args.events.now.items c.start_child.new.events.items c.args.made.now.scopes at.0
-    c.requires.starts c.cwd.ensures.value c.in_ok-cmd.ensures at.1 c.in_ok-start_child.ensures.done
-    c.in_ok-start_child.ensures.told)
+    (g.W.World.history c.args.world.now) (g.W.World.history c.start_child-started.new.world)
+    (g.S.Sink.held c.args.out.now) c.args.events.now.items c.start_child-started.new.events.items c.args.made.now.scopes at.0
+    c.requires.starts c.cwd.ensures.value c.in_ok-cmd.ensures at.1 c.in_ok-started.ensures.done
+    c.in_ok-started.ensures.told)
     c.in_err-ended.ensures.refused c.in_err-ended.ensures.untold)
 
 pub returns-in_err-write_all-clause-goes : goal.returns-in_err-write_all-clause-goes
@@ -45,22 +45,22 @@ returns-in_err-write_all-clause-goes g c =
     let p = err_from_is_err_and c.from_residual-in_err-write_all.result
     c.from_residual-in_err-write_all.ensures.1 in
     let ended = c.in_ok-ended.ended in
-    let ticket = taken-one ended.ticket.0 1 _ _ (c.in_ok-start_child.ensures.held ∙ rw c.requires.alone.none refl)
+    let ticket = taken-one ended.ticket.0 1 _ _ (c.in_ok-started.ensures.held ∙ rw c.requires.alone.none refl)
     c.in_ok-ended.ensures.taken in
     let told = c.put.ensures.told ∙ rw c.in_ok-ended.ensures.told
-    (append_assoc c.start_child.new.events.items (event.Wait ∷ []) (event.End c.args.place.node c.args.place.number ended.status ∷ [])) in
+    (append_assoc c.start_child-started.new.events.items (event.Wait ∷ []) (event.End c.args.place.node c.args.place.number ended.status ∷ [])) in
     was-ended p.0 p.1 (rw p.2 (λ scene at. (
       scene.known,
       so_far-weaken g.W.World.meaning scene.start true scene.first _ scene.known scene.known _ _
           (line-ended g.W.World.meaning scene true c.args.place c.args.line.now
-          ended (g.W.World.history c.start_child.new.world) (g.W.World.history c.wait_child.new.world)
-          (g.S.Sink.held c.args.out.now) (g.S.Sink.held c.write_all.new.sink) c.start_child.new.events.items
+          ended (g.W.World.history c.start_child-started.new.world) (g.W.World.history c.wait_child.new.world)
+          (g.S.Sink.held c.args.out.now) (g.S.Sink.held c.write_all.new.sink) c.start_child-started.new.events.items
           c.put.new.events.items c.args.made.now.scopes at.0 ticket.0
           (line-started g.W.World.meaning scene c.args.place c.args.line.now c.in_ok-cmd.cmd c.cwd.result.now
-          (g.W.World.history c.args.world.now) (g.W.World.history c.start_child.new.world)
-          (g.S.Sink.held c.args.out.now) c.args.events.now.items c.start_child.new.events.items c.args.made.now.scopes at.0
-          c.requires.starts c.cwd.ensures.value c.in_ok-cmd.ensures at.1 c.in_ok-start_child.ensures.done
-          c.in_ok-start_child.ensures.told)
+          (g.W.World.history c.args.world.now) (g.W.World.history c.start_child-started.new.world)
+          (g.S.Sink.held c.args.out.now) c.args.events.now.items c.start_child-started.new.events.items c.args.made.now.scopes at.0
+          c.requires.starts c.cwd.ensures.value c.in_ok-cmd.ensures at.1 c.in_ok-started.ensures.done
+          c.in_ok-started.ensures.told)
           (c.in_ok-ended.ensures.done c.args.place.node c.args.place.number) told
           (subst (GainsPart (g.S.Sink.held c.args.out.now) (g.S.Sink.held c.write_all.new.sink))
           (append-nil c.bytes.result.now ∙ c.bytes.ensures.value) c.in_err-write_all.ensures.cut))
@@ -70,20 +70,20 @@ returns-in_err-write_all-clause-goes g c =
 pub returns-clause-goes : goal.returns-clause-goes
 returns-clause-goes g c =
     let ended = c.in_ok-ended.ended in
-    let ticket = taken-one ended.ticket.0 1 _ _ (c.in_ok-start_child.ensures.held ∙ rw c.requires.alone.none refl)
+    let ticket = taken-one ended.ticket.0 1 _ _ (c.in_ok-started.ensures.held ∙ rw c.requires.alone.none refl)
     c.in_ok-ended.ensures.taken in
     let told = c.put.ensures.told ∙ rw c.in_ok-ended.ensures.told
-    (append_assoc c.start_child.new.events.items (event.Wait ∷ []) (event.End c.args.place.node c.args.place.number ended.status ∷ [])) in
+    (append_assoc c.start_child-started.new.events.items (event.Wait ∷ []) (event.End c.args.place.node c.args.place.number ended.status ∷ [])) in
     record {
       goes = λ scene at. line-ended g.W.World.meaning scene false c.args.place c.args.line.now
-          ended (g.W.World.history c.start_child.new.world) (g.W.World.history c.wait_child.new.world)
-          (g.S.Sink.held c.args.out.now) (g.S.Sink.held c.write_all.new.sink) c.start_child.new.events.items
+          ended (g.W.World.history c.start_child-started.new.world) (g.W.World.history c.wait_child.new.world)
+          (g.S.Sink.held c.args.out.now) (g.S.Sink.held c.write_all.new.sink) c.start_child-started.new.events.items
           c.put.new.events.items c.args.made.now.scopes at.0 ticket.0
           (line-started g.W.World.meaning scene c.args.place c.args.line.now c.in_ok-cmd.cmd c.cwd.result.now
-          (g.W.World.history c.args.world.now) (g.W.World.history c.start_child.new.world)
-          (g.S.Sink.held c.args.out.now) c.args.events.now.items c.start_child.new.events.items c.args.made.now.scopes at.0
-          c.requires.starts c.cwd.ensures.value c.in_ok-cmd.ensures at.1 c.in_ok-start_child.ensures.done
-          c.in_ok-start_child.ensures.told)
+          (g.W.World.history c.args.world.now) (g.W.World.history c.start_child-started.new.world)
+          (g.S.Sink.held c.args.out.now) c.args.events.now.items c.start_child-started.new.events.items c.args.made.now.scopes at.0
+          c.requires.starts c.cwd.ensures.value c.in_ok-cmd.ensures at.1 c.in_ok-started.ensures.done
+          c.in_ok-started.ensures.told)
           (c.in_ok-ended.ensures.done c.args.place.node c.args.place.number) told
           (subst (Gains (g.S.Sink.held c.args.out.now) (g.S.Sink.held c.write_all.new.sink))
           (append-nil c.bytes.result.now ∙ c.bytes.ensures.value) c.in_ok-write_all.ensures.done);

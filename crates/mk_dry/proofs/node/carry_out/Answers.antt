@@ -45,7 +45,7 @@ returns-in-Refuse-clause-goes g c =
       so_far-refuses g.W.World.meaning from.start (work_in course made flags) at.1 course.nodes.items
           course.failure n c.in-Refuse.number c.in-Refuse.what dec.0 from.first
           (g.W.World.history c.args.world.now) (g.S.Sink.held c.args.out.now) course.events.items
-          c.tell-in-Refuse.new.events.items may (rw c.in-Refuse.is at dec.1) at.3 c.in_ok-tell-in-Refuse.ensures.ok,
+          c.tell-in-Refuse.new.events.items may (rw c.in-Refuse.is at dec.1) at.3 c.in-Ok.ensures.ok,
     ))
 
 pub returns-in-Make-clause-goes : goal.returns-in-Make-clause-goes
@@ -57,7 +57,7 @@ returns-in-Make-clause-goes g c =
     let lines = c.in-Make.task.lines in
     let nodes = course.nodes.items in
     let now = point (g.W.World.history c.args.world.now) (g.S.Sink.held c.args.out.now) course in
-    leads-to c.show_lines.result (λ from dec.
+    leads-to c.show_lines-shown.result (λ from dec.
     let made_of = rw c.in-Make.is at dec in
     let begun = begun-from g.W.World.meaning made flags n lines now made_of.0 c.requires.due made_of.1.0
     made_of.1.1 from made_of.2 in
@@ -65,11 +65,11 @@ returns-in-Make-clause-goes g c =
       scene_from made flags n lines at.1 now from,
       begun,
       (λ stands goes. shown-after g.W.World.meaning from.start from.first course.plan c.count_as_new.new.self
-          made flags at.1 nodes n lines stands c.show_lines.new.failure
-          (moment (g.W.World.history c.show_lines.new.world) (g.S.Sink.held c.show_lines.new.out)
-          c.show_lines.new.events.items) c.count_as_new.ensures at.0 at.2 goes),
+          made flags at.1 nodes n lines stands c.show_lines-shown.new.failure
+          (moment (g.W.World.history c.show_lines-shown.new.world) (g.S.Sink.held c.show_lines-shown.new.out)
+          c.show_lines-shown.new.events.items) c.count_as_new.ensures at.0 at.2 goes),
       (λ halt ended. ended),
-    )) c.show_lines.ensures.goes
+    )) c.show_lines-shown.ensures.goes
 
 pub returns-in-Make-clause-carried : goal.returns-in-Make-clause-carried
 returns-in-Make-clause-carried g c =
@@ -80,5 +80,5 @@ returns-in-Make-clause-carried g c =
       nodes = refl;
       rules = rules-new plan new c.args.made.now c.args.flags.now n c.count_as_new.ensures;
       length = same-length plan new n c.count_as_new.ensures;
-      come = c.show_lines.ensures.stands;
+      come = c.show_lines-shown.ensures.stands;
     }

@@ -5,10 +5,10 @@ use Rattle.mk_plan.specs.declared.plan.NodeState.TheVariants.{Undecided}
 use Rattle.mk_sched.specs.Schedule.{none_decided}
 use Rattle.mk_dry.proofs.running.new_course.Goals as goal
 
-pub returns : goal.returns
-returns c =
-    let nodes_are : c.in_ok-vec.field-0.items ≡ none_decided c.args.plan =
-    c.in_ok-vec.ensures.items_if_clones_equal (λ y is. is)
+pub returns-in-Ok : goal.returns-in-Ok
+returns-in-Ok c =
+    let nodes_are : c.in-Ok.nodes.items ≡ none_decided c.args.plan =
+    c.in-Ok.ensures.items_if_clones_equal (λ y is. is)
     ∙ splat_is_map c.args.plan c.len-many.result Undecided (sym c.len-many.ensures.value) in
     record {
       plan_is = refl;

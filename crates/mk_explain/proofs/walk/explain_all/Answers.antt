@@ -6,7 +6,7 @@ use Rattle.mk_decision.proofs.LookLemmas.{looks-none}
 use Rattle.mk_decision.specs.Makers.{work_on}
 use Rattle.mk_explain.proofs.FileLemmas.{saw-files, saw-only}
 use Rattle.mk_explain.proofs.TurnLemmas.{stopped-map, walked-all, walked-none}
-use Rattle.mk_explain.proofs.walk.explain.Goals as goal
+use Rattle.mk_explain.proofs.walk.explain_all.Goals as goal
 
 pub loop-node-init : goal.loop-node-init
 loop-node-init g c = record {
@@ -22,7 +22,7 @@ returns-in_err-explain_node-clause-refused g c =
     c.from_residual-in_err-explain_node.ensures.1 in
     let idle : IsIdle (g.W.World.history c.args.world.now) =
     λ h is. g.met.W.World.told_children c.args.world.now h [] c.requires.idle is in
-    let first = work_on c.args.plan c.args.made.now c.args.flags.now in
+    let first = work_on c.args.plan.now c.args.made.now c.args.flags.now in
     let halts = c.in_err-explain_node.ensures.refused (g.W.World.history c.args.world.now) first
     c.loop-node.invariant.walked in
     rw (p.1, p.2) (stopped-map _ _ first _
@@ -33,7 +33,7 @@ returns-in_err-explain_node-clause-looked g c =
     let idle : IsIdle (g.W.World.history c.args.world.now) =
     λ h is. g.met.W.World.told_children c.args.world.now h [] c.requires.idle is in
     let halts = c.in_err-explain_node.ensures.refused (g.W.World.history c.args.world.now)
-    (work_on c.args.plan c.args.made.now c.args.flags.now) c.loop-node.invariant.walked in
+    (work_on c.args.plan.now c.args.made.now c.args.flags.now) c.loop-node.invariant.walked in
     saw-only g.W.World.meaning _ _ halts.seen
     (saw-files g.W.World.meaning _ _ halts.seen idle halts.looked)
 
@@ -41,7 +41,7 @@ pub returns-clause-explained : goal.returns-clause-explained
 returns-clause-explained g c =
     let idle : IsIdle (g.W.World.history c.args.world.now) =
     λ h is. g.met.W.World.told_children c.args.world.now h [] c.requires.idle is in
-    let all : c.loop-node.node ≡ length c.args.plan = grind (arith, common_steps) in
+    let all : c.loop-node.node ≡ length c.args.plan.now = grind (arith, common_steps) in
     walked-all _ _ _ _ c.loop-node.node _
     (λ seen looked. saw-files g.W.World.meaning _ _ seen idle looked) all
     c.loop-node.invariant.walked

@@ -2,7 +2,7 @@ use Rattle.std.proofs.Common.{◌≡◌, [], length}
 use Rattle.mk_decision.specs.Looks.{LooksAt}
 use Rattle.mk_decision.specs.Makers.{work_on}
 use Rattle.mk_explain.specs.Walks.{AreWalked}
-use Rattle.mk_explain.proofs.walk.explain.Given as goal
+use Rattle.mk_explain.proofs.walk.explain_all.Given as goal
 
 -- the nodes before this one had their turns
 abbrev pub invariant-loop-node : goal.invariant-loop-node
