@@ -7,13 +7,13 @@ use Rattle.mk_run.proofs.running.follow.Goals as goal
 
 pub returns-in-Ok-clause-world_cause : goal.returns-in-Ok-clause-world_cause
 returns-in-Ok-clause-world_cause g c =
-    EndCause-behind World WorldFault c.by_mode.result.end _ _ _ c.in-Ok.made
-    c.in-Ok.ensures.world_cause c.by_mode.ensures.world_cause
+    EndCause-behind World WorldFault c.by_mode-went.result.end _ _ _ c.in-Ok.made
+    c.in-Ok.ensures.world_cause c.by_mode-went.ensures.world_cause
 
 pub returns-in-Ok-clause-sink_cause : goal.returns-in-Ok-clause-sink_cause
 returns-in-Ok-clause-sink_cause g c =
-    SinkCause-behind _ _ _ _ c.in-Ok.made c.by_mode.result.end c.in-Ok.ensures.sink_cause
-    c.by_mode.ensures.sink_cause
+    SinkCause-behind _ _ _ _ c.in-Ok.made c.by_mode-went.result.end c.in-Ok.ensures.sink_cause
+    c.by_mode-went.ensures.sink_cause
 
 pub returns-in-Err-clause-goes : goal.returns-in-Err-clause-goes
 returns-in-Err-clause-goes g c =
