@@ -8,8 +8,8 @@ pub returns-in-Ok-clause-generates : goal.returns-in-Ok-clause-generates
 returns-in-Ok-clause-generates g c =
     let twice = c.in-Ok.twice in
     generates-told c.args.n twice.world twice.first twice.second
-    (record { before = g.S.Sink.held c.args.out.now; after = g.S.Sink.held c.tell.new.out })
-    c.tell.result c.in-Ok.ensures.made c.tell.ensures.tells
+    (record { before = g.S.Sink.held c.args.out.now; after = g.S.Sink.held c.tell-end.new.out })
+    c.tell-end.result c.in-Ok.ensures.made c.tell-end.ensures.tells
 
 pub returns-in-Err-clause-generates : goal.returns-in-Err-clause-generates
 returns-in-Err-clause-generates g c =
@@ -20,8 +20,8 @@ returns-in-Err-clause-generates g c =
 
 pub returns-in-Ok-clause-cause : goal.returns-in-Ok-clause-cause
 returns-in-Ok-clause-cause g c =
-    OutCause-told c.args.n (g.S.Sink.faults c.args.out.now) (g.S.Sink.faults c.tell.new.out) c.tell.result
-    c.tell.ensures.cause
+    OutCause-told c.args.n (g.S.Sink.faults c.args.out.now) (g.S.Sink.faults c.tell-end.new.out) c.tell-end.result
+    c.tell-end.ensures.cause
 
 pub returns-in-Err-clause-cause : goal.returns-in-Err-clause-cause
 returns-in-Err-clause-cause g c =
