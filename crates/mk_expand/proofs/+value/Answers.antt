@@ -2,13 +2,15 @@ use Rattle.std.proofs.Common.{◌≡◌, ◌+◌, ◌-◌, ◌<◌, take, false,
 use Rattle.std.proofs.lemmas.Grind.{common_steps}
 use Rattle.std.proofs.lemmas.Result.{err_from_is_err_and}
 use Rattle.mk_ast.proofs.Views as trees
-use Rattle.mk_ast.proofs.Views.{view-Short, view-Keep, view-Without, view-Select, view-Choose}
+use Rattle.mk_ast.proofs.Views.{view-Plain, view-Escaped, view-Double, view-Lone, view-Short, view-Ref}
+use Rattle.mk_ast.proofs.Views.{view-Keep, view-Without, view-Subst, view-Select, view-Suffix}
+use Rattle.mk_ast.proofs.Views.{view-IfUndefined, view-IfDefined, view-NameOf, view-Choose, view-Each}
 use Rattle.mk_ast.specs.Tree.{range_to}
 use Rattle.mk_ast.specs.View.{mod_view, part_view, tree_view}
 use Rattle.mk_ast.specs.declared.tree.ModTree.{the_lemmas as mod_lemmas}
 use Rattle.mk_bytes.specs.declared.pair.Pair.{Pair}
 use Rattle.mk_cond.specs.View.{side_view}
-use Rattle.mk_mods.proofs.PieceLemmas.{Begins-refl}
+use Rattle.mk_mods.proofs.PieceLemmas.{Begins-refl, Begins-trans}
 use Rattle.mk_expand.specs.Calls.{at, here}
 use Rattle.mk_expand.specs.Value.{found_at}
 use Rattle.mk_expand.specs.View.{chain_view}
@@ -2020,3 +2022,154 @@ modifiers::word_modified-returns-in_ok-apply-in-Some-clause-within g t c =
 pub modifiers::word_modified-returns-in-None-clause-facts : goal.modifiers::word_modified-returns-in-None-clause-facts
 modifiers::word_modified-returns-in-None-clause-facts g t c =
     Asks-ok _ c.in_ok-modifier.ensures.facts
+
+pub evaluation::append_part-returns-in-Ref-clause-value : goal.evaluation::append_part-returns-in-Ref-clause-value
+evaluation::append_part-returns-in-Ref-clause-value g t c =
+    rw (c.in-Ref.is, view-Ref) (rw (c.in-Ref.is, view-Ref) at c.append_reference-in-Ref.ensures.value)
+
+pub evaluation::append_part-returns-in-Short-clause-value : goal.evaluation::append_part-returns-in-Short-clause-value
+evaluation::append_part-returns-in-Short-clause-value g t c =
+    rw (c.in-Short.is, view-Short) (rw (c.in-Short.is, view-Short) at c.append_reference.ensures.value)
+
+pub evaluation::append_part-returns-in-Plain-clause-value : goal.evaluation::append_part-returns-in-Plain-clause-value
+evaluation::append_part-returns-in-Plain-clause-value g t c =
+    rw (c.in-Plain.is, view-Plain) (λ answers by.
+    gives_at (λ done. c.append.new.text) _ c.append.result _ (rw c.bytes.ensures.value at c.append.ensures))
+
+pub evaluation::append_part-returns-in-Lone-clause-value : goal.evaluation::append_part-returns-in-Lone-clause-value
+evaluation::append_part-returns-in-Lone-clause-value g t c =
+    rw (c.in-Lone.is, view-Lone) (λ answers by.
+    gives_at (λ done. c.append-in-Lone.new.text) _ c.append-in-Lone.result _ c.append-in-Lone.ensures)
+
+pub evaluation::append_part-returns-in-Escaped-clause-value : goal.evaluation::append_part-returns-in-Escaped-clause-value
+evaluation::append_part-returns-in-Escaped-clause-value g t c =
+    rw (c.in-Escaped.is, view-Escaped) (λ answers by.
+    gives_at (λ done. c.append-in-Escaped.new.text) _ c.append-in-Escaped.result _ c.append-in-Escaped.ensures)
+
+pub evaluation::append_part-returns-in-Double-clause-value : goal.evaluation::append_part-returns-in-Double-clause-value
+evaluation::append_part-returns-in-Double-clause-value g t c =
+    rw (c.in-Double.is, view-Double) (λ answers by.
+    gives_at (λ done. c.append-in-Double.new.text) _ c.append-in-Double.result _ (rw c.double.ensures at c.append-in-Double.ensures))
+
+pub evaluation::found_inside-returns-in-Short-clause-value : goal.evaluation::found_inside-returns-in-Short-clause-value
+evaluation::found_inside-returns-in-Short-clause-value g t c =
+    rw (c.in-Short.is, view-Short) c.variable.ensures.value
+
+pub evaluation::found_inside-returns-in-Ref-clause-value : goal.evaluation::found_inside-returns-in-Ref-clause-value
+evaluation::found_inside-returns-in-Ref-clause-value g t c =
+    rw (c.in-Ref.is, view-Ref) c.reference.ensures.value
+
+pub words::append_new-returns-in-Plain-clause-value : goal.words::append_new-returns-in-Plain-clause-value
+words::append_new-returns-in-Plain-clause-value g t c =
+    rw (c.in-Plain.is, view-Plain) (λ answers by.
+    gives_at (λ done. c.append_with_old.new.text) _ c.append_with_old.result _ (rw c.bytes.ensures.value at c.append_with_old.ensures))
+
+pub words::modifier-returns-in_err-substitution-in-Subst-clause-value : goal.words::modifier-returns-in_err-substitution-in-Subst-clause-value
+words::modifier-returns-in_err-substitution-in-Subst-clause-value g t c =
+    rw (c.in-Subst.is, view-Subst) (λ answers by.
+    let fault = rw c.bytes.ensures.value at (c.in_err-substitution-in-Subst.ensures.value answers by) in
+    refused_as _ c.from_residual-in_err-substitution-in-Subst.result c.from_residual-in_err-substitution-in-Subst.ensures.1
+    (fault))
+
+pub words::modifier-returns-in_err-suffix-in-Suffix-clause-value : goal.words::modifier-returns-in_err-suffix-in-Suffix-clause-value
+words::modifier-returns-in_err-suffix-in-Suffix-clause-value g t c =
+    rw (c.in-Suffix.is, view-Suffix) (λ answers by.
+    refused_as _ c.from_residual-in_err-suffix-in-Suffix.result c.from_residual-in_err-suffix-in-Suffix.ensures.1
+    (c.in_err-suffix-in-Suffix.ensures.value answers by))
+
+pub words::modifier-returns-in_err-range-in-Range-Some-clause-value : goal.words::modifier-returns-in_err-range-in-Range-Some-clause-value
+words::modifier-returns-in_err-range-in-Range-Some-clause-value g t c =
+    let is : mod_view c.args.one.now ≡ range_to (tree_view c.in-Range-Some.number) =
+    search (rules, mod_lemmas, trees.views) in
+    rw is (λ answers by.
+    refused_as _ c.from_residual-in_err-range-in-Range-Some.result c.from_residual-in_err-range-in-Range-Some.ensures.1
+    (c.in_err-range-in-Range-Some.ensures.value answers by))
+
+pub words::modifier-returns-in_ok-suffix-in-Suffix-clause-value : goal.words::modifier-returns-in_ok-suffix-in-Suffix-clause-value
+words::modifier-returns-in_ok-suffix-in-Suffix-clause-value g t c =
+    rw (c.in-Suffix.is, view-Suffix) c.in_ok-suffix-in-Suffix.ensures.value
+
+pub words::modifier-returns-in_ok-substitution-in-Subst-clause-value : goal.words::modifier-returns-in_ok-substitution-in-Subst-clause-value
+words::modifier-returns-in_ok-substitution-in-Subst-clause-value g t c =
+    rw (c.in-Subst.is, view-Subst)
+    (rw c.bytes.ensures.value at c.in_ok-substitution-in-Subst.ensures.value)
+
+pub words::modifier-returns-in_ok-tree_value-in-Keep-clause-value : goal.words::modifier-returns-in_ok-tree_value-in-Keep-clause-value
+words::modifier-returns-in_ok-tree_value-in-Keep-clause-value g t c =
+    rw (c.in-Keep.is, view-Keep c.in-Keep.pattern) (λ answers by.
+    rw (c.in_ok-tree_value-in-Keep.ensures.value answers by) refl)
+
+pub words::modifier-returns-in_ok-tree_value-in-Without-clause-value : goal.words::modifier-returns-in_ok-tree_value-in-Without-clause-value
+words::modifier-returns-in_ok-tree_value-in-Without-clause-value g t c =
+    rw (c.in-Without.is, view-Without c.in-Without.pattern) (λ answers by.
+    rw (c.in_ok-tree_value-in-Without.ensures.value answers by) refl)
+
+pub words::modifier-returns-in_ok-tree_value-in-Select-clause-value : goal.words::modifier-returns-in_ok-tree_value-in-Select-clause-value
+words::modifier-returns-in_ok-tree_value-in-Select-clause-value g t c =
+    rw (c.in-Select.is, view-Select c.in-Select.places) (λ answers by.
+    rw (c.in_ok-tree_value-in-Select.ensures.value answers by) refl)
+
+pub modifiers::given_modified-returns-in-IfDefined-clause-value : goal.modifiers::given_modified-returns-in-IfDefined-clause-value
+modifiers::given_modified-returns-in-IfDefined-clause-value g t c =
+    rw (c.in-IfDefined.is, view-IfDefined) c.if_defined.ensures.value
+
+pub modifiers::given_modified-returns-in-IfUndefined-clause-value : goal.modifiers::given_modified-returns-in-IfUndefined-clause-value
+modifiers::given_modified-returns-in-IfUndefined-clause-value g t c =
+    rw (c.in-IfUndefined.is, view-IfUndefined) c.if_undefined.ensures.value
+
+pub modifiers::given_modified-returns-in_ok-given-in-NameOf-clause-value : goal.modifiers::given_modified-returns-in_ok-given-in-NameOf-clause-value
+modifiers::given_modified-returns-in_ok-given-in-NameOf-clause-value g t c =
+    rw (c.in-NameOf.is, view-NameOf) (λ answers by.
+    rw (c.in_ok-given-in-NameOf.ensures.value, c.in_ok-text-in-NameOf.ensures) refl)
+
+pub modifiers::modified-returns-in-Each-clause-value : goal.modifiers::modified-returns-in-Each-clause-value
+modifiers::modified-returns-in-Each-clause-value g t c =
+    rw (c.in-Each.is, view-Each) (rw c.bytes.ensures.value at c.each.ensures.value)
+
+pub modifiers::if_defined-returns-in_err-text-clause-value : goal.modifiers::if_defined-returns-in_err-text-clause-value
+modifiers::if_defined-returns-in_err-text-clause-value g t c =
+    λ answers by. refused_as _ c.from_residual-in_err-text.result c.from_residual-in_err-text.ensures.1
+    (rw c.if-not-chain.false (fault_of_all _ _ _ (c.in_err-text.ensures.value answers by)))
+
+pub modifiers::if_undefined-returns-in_err-text-clause-value : goal.modifiers::if_undefined-returns-in_err-text-clause-value
+modifiers::if_undefined-returns-in_err-text-clause-value g t c =
+    λ answers by. refused_as _ c.from_residual.result c.from_residual.ensures.1
+    (rw c.if-chain.false (fault_of_all _ _ _ (c.in_err-text.ensures.value answers by)))
+
+pub modifiers::word_modified-returns-in_err-modifier-clause-value : goal.modifiers::word_modified-returns-in_err-modifier-clause-value
+modifiers::word_modified-returns-in_err-modifier-clause-value g t c =
+    λ answers by. refused_as _ c.from_residual.result c.from_residual.ensures.1
+    (fault_of_all _ _ _ (c.in_err-modifier.ensures.value answers by))
+
+pub modifiers::word_modified-returns-in-None-clause-run : goal.modifiers::word_modified-returns-in-None-clause-run
+modifiers::word_modified-returns-in-None-clause-run g t c =
+    let run = c.in_ok-modifier.ensures.run in
+    record {
+      open_names = run.open_names;
+      bound = run.bound;
+      begins = rw run.region (Begins-refl _);
+    }
+
+pub modifiers::each-returns-clause-run : goal.modifiers::each-returns-clause-run
+modifiers::each-returns-clause-run g t c =
+    let run = c.in_ok-results.ensures.run in
+    record {
+      open_names = run.open_names;
+      bound = run.bound;
+      begins = Begins-trans _ _ _ run.begins c.in_ok-with_results.ensures.begins;
+    }
+
+pub words::substitution-returns-in_err-old-clause-value : goal.words::substitution-returns-in_err-old-clause-value
+words::substitution-returns-in_err-old-clause-value g t c =
+    λ answers by. refused_as _ c.from_residual.result c.from_residual.ensures.1
+    (fault_of_all _ _ _ (c.in_err-old.ensures.value answers by))
+
+pub words::suffix-returns-in_err-old-clause-value : goal.words::suffix-returns-in_err-old-clause-value
+words::suffix-returns-in_err-old-clause-value g t c =
+    λ answers by. refused_as _ c.from_residual.result c.from_residual.ensures.1
+    (fault_of_all _ _ _ (c.in_err-old.ensures.value answers by))
+
+pub modifiers::each-returns-in_err-results-clause-value : goal.modifiers::each-returns-in_err-results-clause-value
+modifiers::each-returns-in_err-results-clause-value g t c =
+    λ answers by. refused_as _ c.from_residual.result c.from_residual.ensures.1
+    (fault_of_all _ _ _ (c.in_err-results.ensures.value answers by))
