@@ -3,6 +3,7 @@ pub mod LimitLemmas
 pub mod LongLemmas
 pub mod OrderLemmas
 pub mod PieceLemmas
+pub mod RefusalLemmas
 pub mod ReplaceLemmas
 pub mod ResultLemmas
 mod Rows

@@ -1,4 +1,4 @@
-use Rattle.std.proofs.Common.{◌≡◌, ◌+◌, ◌≤◌, ◌++◌, ◌∷◌, ◌&&◌, not, [], Err, is_some, length, drop, get_or, sym, ap, ◌∙◌, arith}
+use Rattle.std.proofs.Common.{◌≡◌, ◌+◌, ◌≤◌, ◌++◌, ◌∷◌, ◌&&◌, not, [], Err, is_some, length, drop, get_or, sym, ap, ◌∙◌, arith, inl, refl}
 use Rattle.std.proofs.lemmas.List.{append_assoc, append-nil, drop_all}
 use Rattle.std.proofs.lemmas.Result.{err_from_is_err_and}
 use Rattle.mk_pool.specs.declared.region.Piece.{Piece}
@@ -8,9 +8,10 @@ use Rattle.mk_mods.specs.Pieces.{bytes_of, texts_of}
 use Rattle.mk_mods.specs.Substitution.{word_changed, words_changed}
 use Rattle.mk_mods.specs.declared.fault.ModFault.TheVariants.{TooLong as too_long}
 use Rattle.mk_mods.proofs.LimitLemmas.{fault_is}
-use Rattle.mk_mods.proofs.PieceLemmas.{Begins-under, length-begins, texts_of-begins, texts_of-push, furthest-push, furthest-at}
+use Rattle.mk_mods.proofs.PieceLemmas.{Begins-under, length-begins, texts_of-begins, texts_of-push, furthest-push, furthest-at, Begins-refl}
 use Rattle.mk_mods.proofs.TextLemmas.{texts_of-more}
 use Rattle.mk_mods.proofs.ReplaceLemmas.{rest_changed, rest_changed-more, rest_changed-none, still_ready}
+use Rattle.mk_mods.proofs.RefusalLemmas.{early_as, refused_if}
 use Rattle.mk_mods.proofs.replace.change_words.Goals as goal
 
 pub changed_piece-requires : goal.changed_piece-requires
@@ -110,3 +111,39 @@ returns-clause-words c =
           ∙ ap (λ rest. texts_of here c.loop-word.pieces.items ++ rest) (sym none)
           ∙ c.loop-word.invariant.words;
     })
+
+pub returns-in_err-pieces-clause-words : goal.returns-in_err-pieces-clause-words
+returns-in_err-pieces-clause-words c = refused_if _ _ c.from_residual.result c.from_residual.ensures.1
+
+pub returns-in_err-pieces-clause-begins : goal.returns-in_err-pieces-clause-begins
+returns-in_err-pieces-clause-begins c = Begins-refl _
+
+pub returns-in_err-pieces-clause-early : goal.returns-in_err-pieces-clause-early
+returns-in_err-pieces-clause-early c = early_as _ c.from_residual.result c.from_residual.ensures.1 (inl refl)
+
+pub returns-in_err-piece-clause-words : goal.returns-in_err-piece-clause-words
+returns-in_err-piece-clause-words c = refused_if _ _ c.from_residual-in_err-piece.result c.from_residual-in_err-piece.ensures.1
+
+pub returns-in_err-piece-clause-begins : goal.returns-in_err-piece-clause-begins
+returns-in_err-piece-clause-begins c = Begins-refl _
+
+pub returns-in_err-piece-clause-early : goal.returns-in_err-piece-clause-early
+returns-in_err-piece-clause-early c = early_as _ c.from_residual-in_err-piece.result c.from_residual-in_err-piece.ensures.1 c.in_err-piece.ensures.early
+
+pub returns-in_err-push-clause-words : goal.returns-in_err-push-clause-words
+returns-in_err-push-clause-words c = refused_if _ _ c.from_residual-in_err-push.result c.from_residual-in_err-push.ensures.1
+
+pub returns-in_err-push-clause-begins : goal.returns-in_err-push-clause-begins
+returns-in_err-push-clause-begins c = Begins-refl _
+
+pub returns-in_err-push-clause-early : goal.returns-in_err-push-clause-early
+returns-in_err-push-clause-early c = early_as _ c.from_residual-in_err-push.result c.from_residual-in_err-push.ensures.1 (inl refl)
+
+pub returns-in_err-place-clause-words : goal.returns-in_err-place-clause-words
+returns-in_err-place-clause-words c = refused_if _ _ c.from_residual-in_err-place.result c.from_residual-in_err-place.ensures.1
+
+pub returns-in_err-place-clause-begins : goal.returns-in_err-place-clause-begins
+returns-in_err-place-clause-begins c = c.in_err-place.ensures.begins
+
+pub returns-in_err-place-clause-early : goal.returns-in_err-place-clause-early
+returns-in_err-place-clause-early c = early_as _ c.from_residual-in_err-place.result c.from_residual-in_err-place.ensures.1 (inl refl)
