@@ -142,6 +142,15 @@ fn part_value(alloc: Global, part: &Mod, value: &[u8]) -> Result<Text, ExpandFau
     Ok(text(alloc, &region, &parts)?)
 }
 
+// A part of each word of the value of a local name.
+fn local_part(alloc: Global, locals: &Locals, local: Local, part: &Mod) -> Result<Text, ExpandFault>
+    ensures { Agrees no_memory (λ text. text) result
+        (spec.part_value part.now (spec.local_value locals.now local)) }
+{
+    let value = local_value(alloc, locals, local)?;
+    part_value(alloc, part, value.bytes())
+}
+
 /// The raw value of a local name, where there are some.
 pub fn local_raw(alloc: Global, locals: &Locals, name: &[u8]) -> Result<Option<Text>, ExpandFault>
     ensures { Agrees no_memory (λ raw. raw) result (spec.local_raw locals.now name.now) }
@@ -150,8 +159,9 @@ pub fn local_raw(alloc: Global, locals: &Locals, name: &[u8]) -> Result<Option<T
         return Ok(None);
     }
     if let Some((local, part)) = part_form(name) {
-        let value = local_value(alloc, locals, local)?;
-        return Ok(Some(part_value(alloc, &part, value.bytes())?));
+        let raw = local_part(alloc, locals, local, &part);
+        drop(part);
+        return Ok(Some(raw?));
     }
     match local_named(name) {
         None => Ok(None),
