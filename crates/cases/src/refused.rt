@@ -66,12 +66,7 @@ fn sinks_at(alloc: Global, call: &Failing) -> Result<Sinks, NoMemory> {
 }
 
 // A run in a world, of which a call is refused where it is one of the sinks'.
-fn run_at(
-    alloc: Global,
-    job: &Job,
-    call: &Failing,
-    world: &mut IdleWorld,
-) -> Result<Ran, Trouble> {
+fn run_at(alloc: Global, job: &Job, call: &Failing, world: &mut IdleWorld) -> Result<Ran, Trouble> {
     let sinks = sinks_at(alloc, call)?;
     run_step(alloc, job, sinks, world)
 }

@@ -147,7 +147,11 @@ const TEXTS: [TextRow; 24] = [
 // What is read of a text, written again; nothing where it is no meta file.
 fn again(alloc: Global, text: &[u8]) -> Result<Option<Text>, NoMemory> {
     match read_meta(alloc, text)? {
-        Some(meta) => Ok(Some(write_meta(alloc, &meta)?)),
+        Some(meta) => {
+            let text = write_meta(alloc, &meta);
+            drop(meta);
+            Ok(Some(text?))
+        }
         None => Ok(None),
     }
 }
@@ -224,8 +228,9 @@ fn job(alloc: Global) -> Result<Meta, NoMemory> {
 #[test]
 fn a_job_is_written(rt: HostRuntime) -> Result<(), Refused> {
     let job = job(rt.alloc())?;
-    let text = write_meta(rt.alloc(), &job)?;
-    assert_eq!(rt; text.bytes(), SAMPLE);
+    let text = write_meta(rt.alloc(), &job);
+    drop(job);
+    assert_eq!(rt; text?.bytes(), SAMPLE);
     Ok(())
 }
 

@@ -40,10 +40,17 @@ fn scopes(rt: &impl Abort, alloc: Global) -> Result<Scopes, NoMemory> {
 }
 
 fn has_value(alloc: Global, scopes: &Scopes, name: &[u8], wanted: &[u8]) -> bool {
-    let (Ok(locals), Ok(tree)) = (Locals::none(alloc), name_tree(alloc, name)) else {
+    let Ok(tree) = name_tree(alloc, name) else {
         return false;
     };
-    match expand(alloc, scopes, &locals, &tree, &mut Untold, false) {
+    let Ok(locals) = Locals::none(alloc) else {
+        drop(tree);
+        return false;
+    };
+    let value = expand(alloc, scopes, &locals, &tree, &mut Untold, false);
+    drop(tree);
+    drop(locals);
+    match value {
         Ok(value) => value.bytes() == wanted,
         Err(_) => false,
     }
@@ -52,13 +59,14 @@ fn has_value(alloc: Global, scopes: &Scopes, name: &[u8], wanted: &[u8]) -> bool
 // Variables of which one has a dollar in its name.
 fn with_dollar(rt: &impl Abort, alloc: Global) -> Result<Scopes, NoMemory> {
     let mut scopes = scopes(rt, alloc)?;
-    scopes.assign(Class::Global, b"x$", b"name")?;
-    Ok(scopes)
+    scopes.assign(Class::Global, b"x$", b"name").and(Ok(scopes))
 }
 
 fn dollar_is_a_byte(rt: &impl Abort, alloc: Global) -> Result<bool, NoMemory> {
     let scopes = with_dollar(rt, alloc)?;
-    Ok(has_value(alloc, &scopes, b"x$", b"name"))
+    let has = has_value(alloc, &scopes, b"x$", b"name");
+    drop(scopes);
+    Ok(has)
 }
 
 #[test]
