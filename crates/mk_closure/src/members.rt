@@ -140,8 +140,7 @@ impl<'g> Closure<'g> {
         let sources = self.sources(n);
         let mut preds = Items::new(alloc, sources.len())?;
         self.add_sources(&mut preds, sources)?;
-        self.add_planned(&mut preds, self.ordered(n))
-            .and(Ok(preds))
+        self.add_planned(&mut preds, self.ordered(n)).and(Ok(preds))
     }
 
     /// The predecessors of each node.
