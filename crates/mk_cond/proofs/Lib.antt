@@ -7,6 +7,7 @@ pub mod ReadConditions
 mod Refused
 pub mod Turns
 pub mod Views
+pub mod WalkLemmas
 pub mod Words
 pub mod Written
 pub mod WrittenConditions

@@ -6,3 +6,4 @@ pub mod Grammar
 pub mod Terms
 pub mod Truth
 pub mod View
+pub mod Walk

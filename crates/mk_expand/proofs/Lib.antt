@@ -8,7 +8,6 @@ pub mod LookLemmas
 pub mod NameLemmas
 pub mod NeverLemmas
 pub mod NewerLemmas
-pub mod OuterLemmas
 pub mod PlainLemmas
 pub mod RefusalLemmas
 mod Rows
@@ -16,3 +15,4 @@ pub mod SameLemmas
 pub mod SeparatorLemmas
 pub mod SubstitutionLemmas
 pub mod ValueLemmas
+pub mod WalkLemmas

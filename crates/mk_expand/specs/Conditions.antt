@@ -14,6 +14,10 @@ use Rattle.mk_cond.specs.declared.cond.Fun.{Fun}
 use Rattle.mk_cond.specs.declared.cond.Fun.TheVariants.{Defined, Make, Empty, Exists, Target}
 use Rattle.mk_cond.specs.declared.cond.Fun.TheVariants.{Commands}
 use Rattle.mk_cond.specs.declared.fault.NoNumber.{NoNumber}
+use Rattle.mk_cond.specs.declared.walk.Leaf.{Leaf}
+use Rattle.mk_cond.specs.declared.walk.Leaf.TheVariants as leaves
+use Rattle.mk_cond.specs.View.{side_view}
+use Rattle.mk_ast.specs.View.{tree_view}
 use Rattle.mk_expand.specs.Evaluators.{Progress, Counted, Finder, ◌>>=◌, either, gives, looking, tried}
 use Rattle.mk_expand.specs.Evaluators.{with_asked}
 use Rattle.mk_expand.specs.Facts.{Answers, Lists, fact_of, asked_with}
@@ -143,3 +147,11 @@ unfoldable mutual
   all_truth find c p (cond_then cond conds) =
       truth_of find c p cond
       >>= λ t. either t.0 (all_truth find c t.1 conds) (gives false t.1)
+
+-- the truth of a condition of the code without conditions inside
+abbrev pub leaf_truth : Finder → Context → Progress → Leaf → Counted Bool
+leaf_truth find c p (leaves.Known truth) = gives truth p
+leaf_truth find c p (leaves.Test fun argument) = test_truth find c p fun (tree_view argument.now)
+leaf_truth find c p (leaves.Alone side) = alone_truth find c p (side_view side.now)
+leaf_truth find c p (leaves.Both left op right) =
+    both_truth find c p (side_view left.now) op (side_view right.now)

@@ -8,7 +8,6 @@ pub mod Locals
 pub mod Looks
 pub mod ModFaults
 pub mod Names
-pub mod Outer
 pub mod Parts
 pub mod Plain
 pub mod Separators

@@ -4,7 +4,6 @@ ghost use Rattle.mk_ast.specs.View.{tree_view};
 ghost use Rattle.mk_cond.specs.View.{cond_view, side_view};
 ghost use Rattle.mk_expand.specs.Calls.{AsksOf, Finds, Keeps};
 ghost use Rattle.mk_expand.specs.Conditions as spec;
-ghost use Rattle.mk_expand.specs.Outer.{leaf_truth};
 ghost use Rattle.mk_expand.specs.Value.{found_at};
 
 use crate::answer::{answer_of, if_defined, lone_reference};
@@ -12,11 +11,10 @@ use crate::evaluation::{Run, found, tree_value};
 use crate::facts::Facts;
 use crate::fault::ExpandFault;
 use crate::name::Names;
-use crate::outer::{Leaf, Step, entered, left_behind};
 use crate::plain::plain_bytes;
 use mk_ast::Tree;
 use mk_bytes::Text;
-use mk_cond::{CmpOp, Cond, Fun, Side, compare, truth};
+use mk_cond::{CmpOp, Cond, Fun, Leaf, Side, Step, compare, entered, left_behind, truth};
 
 /// The truth of a condition. The conditions round the one that is evaluated stand in a list.
 #[cycle(value)]
@@ -58,7 +56,7 @@ fn leaf_truth<F: Facts>(
     leaf: Leaf<'_>,
 ) -> Result<bool, ExpandFault>
     ensures value { Finds F.Facts names.now false run.old run.new facts.old facts.new result
-        (λ c p. leaf_truth (found_at room) c p leaf.entry) }
+        (λ c p. spec.leaf_truth (found_at room) c p leaf.entry) }
     ensures run { OnOk result (Keeps run.old run.new) }
     ensures facts { AsksOf F.Facts facts.old facts.new result }
 {

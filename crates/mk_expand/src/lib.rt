@@ -16,7 +16,6 @@ mod limit;
 mod local;
 mod modifiers;
 mod name;
-mod outer;
 mod plain;
 mod separator;
 mod substitution;

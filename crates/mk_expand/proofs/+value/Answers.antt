@@ -1,4 +1,4 @@
-use Rattle.std.proofs.Common.{◌≡◌, ◌+◌, ◌-◌, ◌<◌, take, false, [], Ok, refl, sym, ap, ◌∙◌, inl, inr, rules, arith}
+use Rattle.std.proofs.Common.{◌≡◌, ◌+◌, ◌-◌, ◌<◌, take, false, [], ◌∷◌, ◌++◌, Ok, refl, sym, ap, ◌∙◌, inl, inr, rules, arith}
 use Rattle.std.proofs.lemmas.Grind.{common_steps}
 use Rattle.std.proofs.lemmas.Result.{err_from_is_err_and}
 use Rattle.mk_ast.proofs.Views as trees
@@ -9,7 +9,9 @@ use Rattle.mk_ast.specs.Tree.{range_to}
 use Rattle.mk_ast.specs.View.{mod_view, part_view, tree_view}
 use Rattle.mk_ast.specs.declared.tree.ModTree.{the_lemmas as mod_lemmas}
 use Rattle.mk_bytes.specs.declared.pair.Pair.{Pair}
-use Rattle.mk_cond.specs.View.{side_view}
+use Rattle.mk_cond.proofs.WalkLemmas.{behind_all-push, weight-push}
+use Rattle.mk_cond.specs.View.{cond_view, side_view}
+use Rattle.mk_cond.specs.Walk.{behind_all, step_size, way, weight}
 use Rattle.mk_mods.proofs.PieceLemmas.{Begins-refl, Begins-trans}
 use Rattle.mk_expand.specs.Calls.{at, here}
 use Rattle.mk_expand.specs.Value.{found_at}
@@ -25,15 +27,14 @@ use Rattle.mk_expand.proofs.FaultLemmas.{never-of_cond, never-of_mod, never-open
 use Rattle.mk_expand.proofs.RefusalLemmas.{never-of_tree, refused, refused_if, refused_as, holds}
 use Rattle.mk_expand.proofs.RefusalLemmas.{Asks-refused, Asks-never, Keeps-behind, Keeps-same}
 use Rattle.mk_expand.specs.Evaluators.{Counted, gives, progress}
-use Rattle.mk_expand.specs.Outer.{leaf_truth, step_size, weight}
 use Rattle.mk_expand.proofs.LentLemmas.{gives-lent, gives-not}
 use Rattle.mk_expand.proofs.NameLemmas.{raw_of-above, raw_of-fault}
-use Rattle.mk_expand.proofs.OuterLemmas.{fault_inside, round_all-inside, round_all-push, weight-push}
 use Rattle.mk_expand.proofs.PlainLemmas.{opened_value-plain}
 use Rattle.mk_expand.proofs.PlainLemmas.{side_value-plain, text_value-plain, tree_value-plain}
 use Rattle.mk_expand.proofs.PlainLemmas.{variable-plain, variable-fault}
 use Rattle.mk_expand.proofs.ValueLemmas.{joined-part, joined-end, joined-new, joined-new-end}
 use Rattle.mk_expand.proofs.ValueLemmas.{found-not, found-may, old_text_start}
+use Rattle.mk_expand.proofs.WalkLemmas.{done, walked, walked-done, walked-fault, walked-on, walked-whole}
 use Rattle.mk_expand.proofs.+value.Goals as goal
 
 pub evaluation::joined-loop-part-init : goal.evaluation::joined-loop-part-init
@@ -712,7 +713,7 @@ conditions::truth_of-returns-in_err-truth-in-AtLeaf-clause-value g t c =
     rw (p.1, p.2) (λ answers by.
     let before = earlier _ _ answers first.ensures.facts.asked by in
     rw (← l.invariant.value answers before, c.in-AtLeaf.is)
-    (fault_inside _ _ l.outer.items _ first.field-0.0 (first.ensures.value answers by)))
+    (walked-fault _ _ _ _ c.in-AtLeaf.leaf _ first.field-0.0 (first.ensures.value answers by)))
 
 pub conditions::truth_of-steps-smaller : goal.conditions::truth_of-steps-smaller
 conditions::truth_of-steps-smaller g t c =
@@ -728,27 +729,22 @@ pub conditions::truth_of-steps-preserved : goal.conditions::truth_of-steps-prese
 conditions::truth_of-steps-preserved g t c =
     let l = c.steps in
     let leaf = c.in_ok-truth-in-AtLeaf.ensures in
+    let outer = c.pop.new.self.items in
     record {
       value = λ answers by.
           let before = earlier _ _ answers leaf.facts.asked by in
-          let old = here c.args.names.now.scopes.now c.args.names.now.locals.now
-          (g.F.Facts.lists l.facts) l.run false answers in
-          let inside = leaf_truth (found_at c.args.room) old (at l.run (g.F.Facts.asked l.facts))
-          c.in-AtLeaf.leaf in
           let next = here c.args.names.now.scopes.now c.args.names.now.locals.now
           (g.F.Facts.lists c.leaf_truth.new.facts) c.leaf_truth.new.run false answers in
           let p = at c.leaf_truth.new.run (g.F.Facts.asked c.leaf_truth.new.facts) in
-          ap (λ one. one.answer) (c.in_ok-step-in-Some.ensures.same (found_at c.args.room) next p)
-          ∙ round_all-inside (found_at c.args.room) next c.pop.new.self.items c.in-Some.one
-          (gives c.in_ok-truth-in-AtLeaf.truth p) inside (sym (leaf.value answers by))
+          ap (λ one. (walked (found_at c.args.room) next p one).answer)
+          (c.in_ok-step-in-Some.ensures.same done ∙ ap (way c.in_ok-truth-in-AtLeaf.truth) (sym (behind_all-push outer c.in-Some.one done)))
+          ∙ rw (leaf.run.open_names, leaf.run.bound, leaf.facts.lists)
+          (sym (walked-on _ _ _ p c.in-AtLeaf.leaf (behind_all (outer ++ c.in-Some.one ∷ []) done) c.in_ok-truth-in-AtLeaf.truth
+          (leaf.value answers by)))
           ∙ rw (
             ← l.invariant.value answers before,
             c.in-AtLeaf.is,
             c.in-Some.ensures.items,
-            round_all-push _ _ c.pop.new.self.items c.in-Some.one _,
-            leaf.run.open_names,
-            leaf.run.bound,
-            leaf.facts.lists,
           ) refl;
       run = Keeps-then _ _ _ l.invariant.run leaf.run;
       facts = Asks-then (g.met.F.Facts.goes_on _ _ _) l.invariant.facts (Asks-ok tt leaf.facts);
@@ -761,7 +757,9 @@ conditions::truth_of-returns-in-None-clause-value g t c =
     let none : l.outer.items ≡ [] = grind (arith, common_steps) in
     λ answers by.
     let before = earlier _ _ answers leaf.facts.asked by in
-    rw (← l.invariant.value answers before, c.in-AtLeaf.is, none) (leaf.value answers by)
+    rw (← l.invariant.value answers before, c.in-AtLeaf.is, none)
+    (walked-on _ _ _ _ c.in-AtLeaf.leaf done c.in_ok-truth-in-AtLeaf.truth (leaf.value answers by)
+    ∙ walked-done _ _ c.in_ok-truth-in-AtLeaf.truth _)
 
 pub conditions::alone_truth-returns-in_err-value-clause-run : goal.conditions::alone_truth-returns-in_err-value-clause-run
 conditions::alone_truth-returns-in_err-value-clause-run g t c =

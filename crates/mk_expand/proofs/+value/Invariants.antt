@@ -1,16 +1,17 @@
 use Rattle.std.proofs.Common.{◌≡◌, ◌+◌, ◌*◌, ◌≤◌, drop, length, false, Ok}
 use Rattle.mk_ast.specs.View.{mods_view, tree_view}
 use Rattle.mk_cond.specs.View.{cond_view}
+use Rattle.mk_cond.specs.Walk.{behind_all, step_size, step_walk, weight}
 use Rattle.mk_mods.specs.Pieces.{end_of, texts_of}
 use Rattle.mk_expand.specs.Calls.{Asks, Extends, Keeps, at, here}
 use Rattle.mk_expand.specs.Chains.{all_modified, each_behind}
 use Rattle.mk_expand.specs.Conditions.{truth_of}
 use Rattle.mk_expand.specs.Facts.{Answers, AnsweredBy}
-use Rattle.mk_expand.specs.Outer.{round_all, step_size, step_truth, weight}
 use Rattle.mk_expand.specs.Parts.{joined, tree_value}
 use Rattle.mk_expand.specs.Substitutions.{old_in_tree}
 use Rattle.mk_expand.specs.Value.{found_at}
 use Rattle.mk_expand.specs.View.{chain_view}
+use Rattle.mk_expand.proofs.WalkLemmas.{done, walked}
 use Rattle.mk_expand.proofs.+value.Given as goal
 
 abbrev pub decreases-evaluation::found : goal.decreases-evaluation::found
@@ -203,15 +204,13 @@ invariant-modifiers::each_behind-loop-word g l = record {
       (g.F.Facts.faults l.initial.facts) (g.F.Facts.faults l.facts) (Ok tt);
 }
 
--- the step that is next, inside the conditions round it, is the whole condition
+-- the walk that is left, from the step that is next, comes to the truth of the whole condition
 abbrev pub invariant-conditions::truth_of-steps : goal.invariant-conditions::truth_of-steps
 invariant-conditions::truth_of-steps g l = record {
   value : (answers : Answers) → AnsweredBy answers (g.F.Facts.asked l.facts)
-      → (round_all (found_at l.room)
-      (here l.names.scopes.now l.names.locals.now (g.F.Facts.lists l.facts) l.run false answers) l.outer.items
-      (step_truth (found_at l.room)
+      → (walked (found_at l.room)
       (here l.names.scopes.now l.names.locals.now (g.F.Facts.lists l.facts) l.run false answers)
-      (at l.run (g.F.Facts.asked l.facts)) l.step)).answer
+      (at l.run (g.F.Facts.asked l.facts)) (step_walk l.step (behind_all l.outer.items done))).answer
       ≡ (truth_of (found_at l.room)
       (here l.names.scopes.now l.names.locals.now (g.F.Facts.lists l.initial.facts) l.initial.run false answers)
       (at l.initial.run (g.F.Facts.asked l.initial.facts)) (cond_view l.cond)).answer;

@@ -1,15 +1,13 @@
-//! The conditions round the one that is evaluated. They stand in a list and not on the stack, so that
-//! conditions in the names of `:?` inside conditions may each be as deep as the grammar allows.
+//! The order in which the parts of a condition are evaluated. The conditions round the one that is evaluated stand in
+//! a list and not on the stack, so that conditions in the names of `:?` inside conditions may each be as deep as the
+//! grammar allows.
 ghost use Rattle.std.specs.Prelude.{◌≡◌, ◌+◌, ◌<◌, IfOk};
 ghost use Rattle.mk_cond.specs.View.{cond_view, conds_view};
-ghost use Rattle.mk_expand.specs.Conditions as plain;
-ghost use Rattle.mk_expand.specs.Evaluators.{Finder, Progress, gives};
-ghost use Rattle.mk_expand.specs.Names.{Context};
-ghost use Rattle.mk_expand.specs.Outer as spec;
+ghost use Rattle.mk_cond.specs.Walk as spec;
 
+use crate::cond::{CmpOp, Cond, Fun, Side};
 use mk_ast::Tree;
 use mk_bytes::NoMemory;
-use mk_cond::{CmpOp, Cond, Fun, Side};
 
 /// What is left to do behind a condition for one that is round it.
 #[derive(Clone, Copy)]
@@ -44,9 +42,9 @@ pub enum Step<'c> {
 
 // The first of some conditions between which `||` stands.
 fn any_of<'c>(outer: &mut Vec<Outer<'c>>, conds: &'c [Cond]) -> Result<Step<'c>, NoMemory>
-    ensures same { IfOk result (λ step. (find : Finder) → (c : Context) → (p : Progress)
-        → spec.round_all find c outer.new.items (spec.step_truth find c p step)
-        ≡ spec.round_all find c outer.old.items (plain.any_truth find c p (conds_view conds.now))) }
+    ensures same { IfOk result (λ step. (ways : spec.Ways)
+        → spec.step_walk step (spec.behind_all outer.new.items ways)
+        ≡ spec.any_walk (conds_view conds.now) (spec.behind_all outer.old.items ways)) }
     ensures less { IfOk result (λ step. spec.weight outer.new.items + spec.step_size step
         < spec.weight outer.old.items + (1 + spec.conds_size (conds_view conds.now))) }
 {
@@ -59,9 +57,9 @@ fn any_of<'c>(outer: &mut Vec<Outer<'c>>, conds: &'c [Cond]) -> Result<Step<'c>,
 
 // The first of some conditions between which `&&` stands.
 fn all_of<'c>(outer: &mut Vec<Outer<'c>>, conds: &'c [Cond]) -> Result<Step<'c>, NoMemory>
-    ensures same { IfOk result (λ step. (find : Finder) → (c : Context) → (p : Progress)
-        → spec.round_all find c outer.new.items (spec.step_truth find c p step)
-        ≡ spec.round_all find c outer.old.items (plain.all_truth find c p (conds_view conds.now))) }
+    ensures same { IfOk result (λ step. (ways : spec.Ways)
+        → spec.step_walk step (spec.behind_all outer.new.items ways)
+        ≡ spec.all_walk (conds_view conds.now) (spec.behind_all outer.old.items ways)) }
     ensures less { IfOk result (λ step. spec.weight outer.new.items + spec.step_size step
         < spec.weight outer.old.items + (1 + spec.conds_size (conds_view conds.now))) }
 {
@@ -72,11 +70,12 @@ fn all_of<'c>(outer: &mut Vec<Outer<'c>>, conds: &'c [Cond]) -> Result<Step<'c>,
     Ok(Step::Inside(first))
 }
 
-/// What is evaluated first of a condition. What is left of it is kept behind the conditions round it.
+/// What is evaluated first of a condition. What is left of it is kept behind the conditions round it, in `outer`, the
+/// innermost last: the walk goes on with it as the condition's own does. `NoMemory` where the list cannot grow.
 pub fn entered<'c>(outer: &mut Vec<Outer<'c>>, cond: &'c Cond) -> Result<Step<'c>, NoMemory>
-    ensures same { IfOk result (λ step. (find : Finder) → (c : Context) → (p : Progress)
-        → spec.round_all find c outer.new.items (spec.step_truth find c p step)
-        ≡ spec.round_all find c outer.old.items (plain.truth_of find c p (cond_view cond.now))) }
+    ensures same { IfOk result (λ step. (ways : spec.Ways)
+        → spec.step_walk step (spec.behind_all outer.new.items ways)
+        ≡ spec.walk (cond_view cond.now) (spec.behind_all outer.old.items ways)) }
     ensures less { IfOk result (λ step. spec.weight outer.new.items + spec.step_size step
         < spec.weight outer.old.items + spec.cond_size (cond_view cond.now)) }
 {
@@ -93,15 +92,16 @@ pub fn entered<'c>(outer: &mut Vec<Outer<'c>>, cond: &'c Cond) -> Result<Step<'c
     }
 }
 
-/// What is evaluated next for the innermost condition round one, whose truth is known.
+/// What is evaluated next behind a condition whose truth is known, by the innermost one round it, `one`, which is taken
+/// from the list `outer`: nothing of it where that truth decides. `NoMemory` where the list cannot grow.
 pub fn left_behind<'c>(
     outer: &mut Vec<Outer<'c>>,
     one: Outer<'c>,
     truth: bool,
 ) -> Result<Step<'c>, NoMemory>
-    ensures same { IfOk result (λ step. (find : Finder) → (c : Context) → (p : Progress)
-        → spec.round_all find c outer.new.items (spec.step_truth find c p step)
-        ≡ spec.round_all find c outer.old.items (spec.round find c one.entry (gives truth p))) }
+    ensures same { IfOk result (λ step. (ways : spec.Ways)
+        → spec.step_walk step (spec.behind_all outer.new.items ways)
+        ≡ spec.way truth (spec.behind one.entry (spec.behind_all outer.old.items ways))) }
     ensures less { IfOk result (λ step. spec.weight outer.new.items + spec.step_size step
         < spec.weight outer.old.items + spec.outer_size one.entry) }
 {

@@ -2,14 +2,13 @@ use Rattle.std.proofs.Common.{◌≡◌, ◌+◌, rules, refl, ap, ◌∙◌, ar
 use Rattle.mk_cond.proofs.Views.{views, view-Any, view-All, view-Test, view-Alone, view-Both}
 use Rattle.mk_cond.specs.View.{cond_view}
 use Rattle.mk_cond.specs.declared.cond.Cond.{the_lemmas}
-use Rattle.mk_expand.specs.Conditions.{truth_of, turned_round}
-use Rattle.mk_expand.specs.Outer.{cond_size, round_all}
-use Rattle.mk_expand.specs.declared.outer.Outer.TheVariants.{Not}
-use Rattle.mk_expand.proofs.OuterLemmas.{round_all-push, weight-push}
-use Rattle.mk_expand.proofs.outer.entered.Goals as goal
+use Rattle.mk_cond.specs.Walk.{behind_all, cond_size, turned, walk}
+use Rattle.mk_cond.specs.declared.walk.Outer.TheVariants.{Not}
+use Rattle.mk_cond.proofs.WalkLemmas.{behind_all-push, weight-push}
+use Rattle.mk_cond.proofs.walk.entered.Goals as goal
 
 pub returns-in-Any-clause-same : goal.returns-in-Any-clause-same
-unfolding truth_of
+unfolding walk
 returns-in-Any-clause-same c =
     rw (c.in-Any.is, view-Any c.in-Any.conds) (rw c.as_slice.ensures.value at c.any_of.ensures.same)
 
@@ -19,7 +18,7 @@ returns-in-Any-clause-less c =
     rw (c.in-Any.is, view-Any c.in-Any.conds) (rw c.as_slice.ensures.value at c.any_of.ensures.less)
 
 pub returns-in-All-clause-same : goal.returns-in-All-clause-same
-unfolding truth_of
+unfolding walk
 returns-in-All-clause-same c =
     rw (c.in-All.is, view-All c.in-All.conds) (rw c.as_slice-in-All.ensures.value at c.all_of.ensures.same)
 
@@ -29,14 +28,14 @@ returns-in-All-clause-less c =
     rw (c.in-All.is, view-All c.in-All.conds) (rw c.as_slice-in-All.ensures.value at c.all_of.ensures.less)
 
 pub returns-in_ok-push-in-Not-clause-same : goal.returns-in_ok-push-in-Not-clause-same
-unfolding truth_of
-returns-in_ok-push-in-Not-clause-same c = λ find context p.
-    let inner = truth_of find context p (cond_view c.deref.result.now) in
-    let outer = c.args.outer.now.items in
-    let turned : turned_round inner ≡ truth_of find context p (cond_view c.args.cond.now) =
+unfolding walk
+returns-in_ok-push-in-Not-clause-same c = λ ways.
+    let around = behind_all c.args.outer.now.items ways in
+    let inner = cond_view c.deref.result.now in
+    let same : walk inner (turned around) ≡ walk (cond_view c.args.cond.now) around =
     search (rules, the_lemmas, views) in
     rw c.in_ok-push-in-Not.ensures.items
-    (round_all-push find context outer Not inner ∙ ap (round_all find context outer) turned)
+    (ap (walk inner) (behind_all-push c.args.outer.now.items Not ways) ∙ same)
 
 pub returns-in_ok-push-in-Not-clause-less : goal.returns-in_ok-push-in-Not-clause-less
 unfolding cond_size
@@ -47,24 +46,24 @@ returns-in_ok-push-in-Not-clause-less c =
     (omega arith)
 
 pub returns-in-Test-clause-same : goal.returns-in-Test-clause-same
-unfolding truth_of
-returns-in-Test-clause-same c = λ find context p. rw (c.in-Test.is, view-Test c.in-Test.fun c.in-Test.argument) refl
+unfolding walk
+returns-in-Test-clause-same c = λ ways. rw (c.in-Test.is, view-Test c.in-Test.fun c.in-Test.argument) refl
 
 pub returns-in-Test-clause-less : goal.returns-in-Test-clause-less
 unfolding cond_size
 returns-in-Test-clause-less c = rw (c.in-Test.is, view-Test c.in-Test.fun c.in-Test.argument) (omega arith)
 
 pub returns-in-Alone-clause-same : goal.returns-in-Alone-clause-same
-unfolding truth_of
-returns-in-Alone-clause-same c = λ find context p. rw (c.in-Alone.is, view-Alone c.in-Alone.side) refl
+unfolding walk
+returns-in-Alone-clause-same c = λ ways. rw (c.in-Alone.is, view-Alone c.in-Alone.side) refl
 
 pub returns-in-Alone-clause-less : goal.returns-in-Alone-clause-less
 unfolding cond_size
 returns-in-Alone-clause-less c = rw (c.in-Alone.is, view-Alone c.in-Alone.side) (omega arith)
 
 pub returns-in-Both-clause-same : goal.returns-in-Both-clause-same
-unfolding truth_of
-returns-in-Both-clause-same c = λ find context p. rw (c.in-Both.is, view-Both c.in-Both.left c.in-Both.op c.in-Both.right) refl
+unfolding walk
+returns-in-Both-clause-same c = λ ways. rw (c.in-Both.is, view-Both c.in-Both.left c.in-Both.op c.in-Both.right) refl
 
 pub returns-in-Both-clause-less : goal.returns-in-Both-clause-less
 unfolding cond_size
