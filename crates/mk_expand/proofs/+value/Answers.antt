@@ -10,7 +10,7 @@ use Rattle.mk_ast.specs.View.{mod_view, part_view, tree_view}
 use Rattle.mk_ast.specs.declared.tree.ModTree.{the_lemmas as mod_lemmas}
 use Rattle.mk_bytes.specs.declared.pair.Pair.{Pair}
 use Rattle.mk_cond.specs.View.{side_view}
-use Rattle.mk_mods.proofs.PieceLemmas.{Begins-refl, Begins-trans}
+use Rattle.mk_pieces.proofs.PieceLemmas.{Begins-refl, Begins-trans}
 use Rattle.mk_expand.specs.Calls.{at, here}
 use Rattle.mk_expand.specs.Value.{found_at}
 use Rattle.mk_expand.specs.View.{chain_view}
