@@ -8,7 +8,7 @@ use Rattle.mk_ast.specs.declared.tree.ModTree.{ModTree, IfUndefined, IfDefined, 
 use Rattle.mk_ast.specs.declared.tree.ModTree.{Each, the_lemmas}
 use Rattle.mk_ast.specs.declared.tree.Part.{Part}
 use Rattle.mk_ast.proofs.Views.{views}
-use Rattle.mk_mods.specs.Pieces.{bytes_of, texts_of}
+use Rattle.mk_pieces.specs.Pieces.{bytes_of, texts_of}
 use Rattle.mk_mods.specs.Results.{with_result}
 use Rattle.mk_mods.specs.State.{State, plain, text_of}
 use Rattle.mk_pool.specs.declared.region.Piece.{Piece}

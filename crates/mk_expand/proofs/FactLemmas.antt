@@ -4,7 +4,7 @@ use Rattle.std.proofs.Common.{Ok, Err, slice_get, refl, sym, ap, ◌∙◌, appe
 use Rattle.std.proofs.lemmas.List.{append-nil}
 use Rattle.mk_bytes.specs.Agrees.{Agrees, AgreesErr, AgreesBut}
 use Rattle.mk_expand.specs.Calls.{Asks, Extends, Gives, Keeps}
-use Rattle.mk_mods.proofs.PieceLemmas.{Begins-trans}
+use Rattle.mk_pieces.proofs.PieceLemmas.{Begins-trans}
 use Rattle.mk_expand.specs.declared.evaluation.Run.{Run}
 use Rattle.mk_expand.specs.Evaluators.{Answer, Counted, Progress, answer_then, behind, progress}
 use Rattle.mk_expand.specs.Value.{questions_of, with_asked}

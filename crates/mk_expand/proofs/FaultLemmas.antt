@@ -12,8 +12,8 @@ use Rattle.mk_mods.specs.State.{State, plain, text_of}
 use Rattle.mk_mods.specs.declared.modifier.Mod.{Mod}
 use Rattle.mk_cond.specs.declared.fault.CondFault.{CondFault}
 use Rattle.mk_cond.specs.declared.fault.CondFault.TheVariants as of_conds
-use Rattle.mk_mods.specs.declared.fault.ModFault.{ModFault}
-use Rattle.mk_mods.specs.declared.fault.ModFault.TheVariants as of_mods
+use Rattle.mk_pieces.specs.declared.fault.ModFault.{ModFault}
+use Rattle.mk_pieces.specs.declared.fault.ModFault.TheVariants as of_mods
 use Rattle.mk_expand.specs.Chains.{of_cond}
 use Rattle.mk_expand.specs.Limits.{MayNotOpen, appended, max_text}
 use Rattle.mk_expand.specs.ModFaults.{of_mod, with_fault}

@@ -9,7 +9,7 @@ use Rattle.mk_ast.specs.Text.{text_at}
 use Rattle.mk_ast.specs.Rows.{begins, is_word, is_left_out_word}
 use Rattle.mk_ast.specs.References.{mods_at, ref_at}
 use Rattle.mk_ast.specs.Spell.{spell}
-use Rattle.mk_mods.specs.Substitution.{replaced}
+use Rattle.mk_pieces.specs.Substitution.{replaced}
 use Rattle.mk_ast.specs.declared.fault.TreeFault.TheVariants.{Unclosed}
 use Rattle.mk_expand.specs.Chains.{all_modified, each_behind}
 use Rattle.mk_expand.specs.Locals.{no_locals}

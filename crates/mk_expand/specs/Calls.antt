@@ -1,6 +1,6 @@
 -- What one call of an evaluation is given, and what it leaves.
 use Rattle.std.specs.Prelude.{◌≡◌, ◌⊎◌, ℕ, Bool, false, List, [], Result, Ok, Err}
-use Rattle.mk_mods.specs.Pieces.{Begins}
+use Rattle.mk_pieces.specs.Pieces.{Begins}
 use Rattle.mk_scopes.specs.Scopes.{Variables}
 use Rattle.mk_world.specs.Causes.{HasCause}
 use Rattle.mk_expand.specs.Chains.{Chain}

@@ -1,8 +1,8 @@
 -- The faults of modifiers of words, as faults of an evaluation.
 use Rattle.std.specs.Prelude.{Result, Ok, Err}
 use Rattle.mk_mods.specs.State.{State}
-use Rattle.mk_mods.specs.declared.fault.ModFault.{ModFault}
-use Rattle.mk_mods.specs.declared.fault.ModFault.TheVariants as of_mods
+use Rattle.mk_pieces.specs.declared.fault.ModFault.{ModFault}
+use Rattle.mk_pieces.specs.declared.fault.ModFault.TheVariants as of_mods
 use Rattle.mk_expand.specs.declared.fault.ExpandFault.{ExpandFault}
 use Rattle.mk_expand.specs.declared.fault.ExpandFault.TheVariants.{TooLong, BadPlace, NoMemory}
 

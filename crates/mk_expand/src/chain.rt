@@ -7,7 +7,8 @@ ghost use Rattle.mk_expand.specs.Limits.{appended};
 ghost use Rattle.mk_expand.specs.Parts.{shown};
 ghost use Rattle.mk_expand.specs.Plain.{plain_found};
 ghost use Rattle.mk_expand.specs.View.{chain_view};
-ghost use Rattle.mk_mods.specs.Pieces.{end_of, Begins};
+ghost use Rattle.mk_pieces.specs.Pieces.{Begins};
+ghost use Rattle.mk_mods.specs.Pieces.{end_of};
 ghost use Rattle.mk_mods.specs.State.{items_of};
 ghost use Rattle.mk_expand.specs.declared.fault.ExpandFault.TheVariants.{NoMemory as no_memory};
 

@@ -8,7 +8,8 @@ ghost use Rattle.mk_expand.specs.Names.{while_bound};
 ghost use Rattle.mk_expand.specs.Parts.{tree_value};
 ghost use Rattle.mk_expand.specs.Value.{found_at};
 ghost use Rattle.mk_expand.specs.View.{chain_view};
-ghost use Rattle.mk_mods.specs.Pieces.{end_of, seen, texts_of};
+ghost use Rattle.mk_pieces.specs.Pieces.{texts_of};
+ghost use Rattle.mk_mods.specs.Pieces.{end_of, seen};
 ghost use Rattle.mk_mods.specs.Results.{no_results};
 ghost use Rattle.mk_mods.specs.State.{words_of};
 

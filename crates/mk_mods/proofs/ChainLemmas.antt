@@ -8,10 +8,11 @@ use Rattle.mk_bytes.specs.Agrees.{AgreesErr}
 use Rattle.mk_pool.specs.declared.region.Piece.{Piece}
 use Rattle.mk_mods.specs.Limits.{or_bad_place}
 use Rattle.mk_mods.specs.Steps.{is_whole}
-use Rattle.mk_mods.specs.Pieces.{texts_of, bytes_of, furthest, places_no_words, Shows}
+use Rattle.mk_pieces.specs.Pieces.{texts_of, bytes_of, furthest, Shows}
+use Rattle.mk_mods.specs.Pieces.{places_no_words}
 use Rattle.std.specs.Str.{bytes_eq}
 use Rattle.mk_mods.specs.Places.{from_to, ends, chosen}
-use Rattle.mk_mods.specs.declared.fault.ModFault.{ModFault}
+use Rattle.mk_pieces.specs.declared.fault.ModFault.{ModFault}
 use Rattle.mk_mods.specs.declared.modifier.Mod.{Mod}
 use Rattle.mk_mods.specs.declared.modifier.Mod.TheVariants.{Subst}
 use Rattle.mk_mods.proofs.OrderLemmas.{furthest-permutation}

@@ -1,10 +1,11 @@
 -- Words that are too long for a printed text.
 use Rattle.std.proofs.Common.{◌≡◌, ℕ, ◌+◌, ◌<◌, ◌≤◌, Bool, true, false, List, [], ◌∷◌, length, length-append, Option, Some, None, option_map, unwrap_or, Err, refl, ap, ◌∙◌, arith}
 use Rattle.std.proofs.lemmas.Bool.Decides.{nat_tests}
-use Rattle.mk_mods.specs.Limits.{max_text, total, fits, limited, AreTooLong}
+use Rattle.mk_pieces.specs.Limits.{max_text, total, AreTooLong}
+use Rattle.mk_mods.specs.Limits.{fits, limited}
 use Rattle.mk_mods.specs.Steps.{items_behind}
 use Rattle.mk_mods.specs.State.{State, joined, behind, filled, with_words, with_items}
-use Rattle.mk_mods.specs.declared.fault.ModFault.TheVariants.{TooLong}
+use Rattle.mk_pieces.specs.declared.fault.ModFault.TheVariants.{TooLong}
 use Rattle.mk_mods.specs.declared.modifier.Mod.{Mod}
 use Rattle.mk_mods.specs.declared.val.Separator.{Separator}
 

@@ -14,8 +14,8 @@ use Rattle.std.specs.declared.cmp.Ordering.TheVariants.{Less, Equal, Greater}
 use Rattle.std.specs.Str.{bytes_eq}
 use Rattle.mk_pool.specs.declared.region.Piece.{Piece}
 use Rattle.mk_mods.specs.Order.{is_before, put_in, sorted}
-use Rattle.mk_mods.specs.Pieces.{bytes_of, texts_of, furthest}
-use Rattle.mk_mods.proofs.PieceLemmas.{furthest-at}
+use Rattle.mk_pieces.specs.Pieces.{bytes_of, texts_of, furthest}
+use Rattle.mk_pieces.proofs.PieceLemmas.{furthest-at}
 
 cases : {P : Type 0} (test : Bool) → (test ≡ true → P) → (test ≡ false → P) → P
 cases true here there = here refl

@@ -4,9 +4,9 @@ use Rattle.std.specs.Prelude.{Result, Ok, Err, codes}
 use Rattle.mk_bytes.specs.Agrees.{◌>>=◌}
 use Rattle.mk_mods.specs.State.{State, plain, text_of}
 use Rattle.mk_mods.specs.Modifiers.{apply}
-use Rattle.mk_mods.specs.Substitution.{replaced}
-use Rattle.mk_mods.specs.declared.fault.ModFault.{ModFault}
-use Rattle.mk_mods.specs.declared.fault.ModFault.TheVariants.{BadPlace}
+use Rattle.mk_pieces.specs.Substitution.{replaced}
+use Rattle.mk_pieces.specs.declared.fault.ModFault.{ModFault}
+use Rattle.mk_pieces.specs.declared.fault.ModFault.TheVariants.{BadPlace}
 use Rattle.mk_mods.specs.declared.modifier.Mod.{Mod}
 use Rattle.mk_mods.specs.declared.modifier.Mod.TheVariants.{Keep, Subst, Suffix, Head, Tail, Root, Extension, Sort, SortBack, Unique, Lower, QuoteDollar, Separator, Select, Range}
 

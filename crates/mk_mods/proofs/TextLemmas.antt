@@ -1,10 +1,10 @@
 -- Texts of pieces that are chosen.
-use Rattle.std.proofs.Common.{◌≡◌, ℕ, zero, suc, ◌+◌, ◌<◌, ◌≤◌, Bool, true, false, List, [], ◌∷◌, length, drop, get_or, set, refl, sym, ap, ◌∙◌, arith}
-use Rattle.std.proofs.lemmas.List.{drop_more, drop-drop, drop-set-lt, get_or-drop}
+use Rattle.std.proofs.Common.{◌≡◌, ℕ, zero, suc, ◌+◌, ◌≤◌, Bool, true, false, List, [], ◌∷◌, length, drop, get_or, set, refl, sym, ap, ◌∙◌, arith}
+use Rattle.std.proofs.lemmas.List.{drop-drop, drop-set-lt, get_or-drop}
 use Rattle.std.specs.List.{filter, dedup_from}
 use Rattle.std.specs.Str.{bytes_eq}
 use Rattle.mk_pool.specs.declared.region.Piece.{Piece}
-use Rattle.mk_mods.specs.Pieces.{bytes_of, texts_of, furthest}
+use Rattle.mk_pieces.specs.Pieces.{bytes_of, texts_of, furthest}
 
 cases : {P : Type 0} (test : Bool) → (test ≡ true → P) → (test ≡ false → P) → P
 cases true here there = here refl
@@ -37,13 +37,6 @@ dedup_from-same word last words is = rw is refl
 pub dedup_from-other : (word last : List ℕ) (words : List (List ℕ)) → bytes_eq word last ≡ false
     → dedup_from bytes_eq last (word ∷ words) ≡ last ∷ dedup_from bytes_eq word words
 dedup_from-other word last words is = rw is refl
-
--- the texts of the pieces from a place on
-pub texts_of-more : (region : List ℕ) (pieces : List Piece) (i : ℕ) (default : Piece)
-    → i < length pieces
-    → texts_of region (drop i pieces)
-    ≡ bytes_of region (get_or pieces i default) ∷ texts_of region (drop (i + 1) pieces)
-texts_of-more region pieces i default within = ap (texts_of region) (drop_more pieces i default within)
 
 pub furthest-set : (len : ℕ) (pieces : List Piece) (i : ℕ) (piece : Piece) → furthest pieces ≤ len
     → piece.end ≤ len → furthest (set pieces i piece) ≤ len

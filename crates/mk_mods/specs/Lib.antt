@@ -1,4 +1,3 @@
-pub mod Change
 pub mod Limits
 pub mod Modifiers
 pub mod Order
@@ -9,4 +8,3 @@ pub mod Quotes
 pub mod Results
 pub mod State
 pub mod Steps
-pub mod Substitution

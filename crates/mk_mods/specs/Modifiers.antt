@@ -6,12 +6,13 @@ use Rattle.std.specs.Str.{bytes_eq}
 use Rattle.mk_glob.specs.Patterns.{matches}
 use Rattle.mk_mods.specs.State.{State, text_of, words_of, with_items, with_words}
 use Rattle.mk_mods.specs.Parts.{head, tail, root, extension}
-use Rattle.mk_mods.specs.Quotes.{recased, quoted, doubled}
+use Rattle.mk_pieces.specs.Letters.{recased}
+use Rattle.mk_mods.specs.Quotes.{quoted, doubled}
 use Rattle.mk_mods.specs.Places.{chosen, counted}
-use Rattle.mk_mods.specs.Substitution.{substituted, suffixed, words_changed}
+use Rattle.mk_pieces.specs.Substitution.{substituted, suffixed, words_changed}
 use Rattle.mk_mods.specs.Limits.{limited}
 use Rattle.mk_mods.specs.Order.{sorted}
-use Rattle.mk_mods.specs.declared.fault.ModFault.{ModFault}
+use Rattle.mk_pieces.specs.declared.fault.ModFault.{ModFault}
 use Rattle.mk_mods.specs.declared.val.Separator.{Separator as Sign}
 use Rattle.mk_mods.specs.declared.val.Separator.TheVariants.{Byte, Nothing}
 use Rattle.mk_mods.specs.declared.modifier.Mod.{Mod}

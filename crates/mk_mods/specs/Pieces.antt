@@ -1,25 +1,13 @@
 -- How a value is kept: its items are pieces of one region.
-use Rattle.std.specs.Prelude.{◌≡◌, ℕ, ◌≤◌, Bool, true, false, not, ◌||◌, ◌&&◌, nat_le, max}
-use Rattle.std.specs.Prelude.{List, [], ◌∷◌, length, take, map, slice_range, codes}
+use Rattle.std.specs.Prelude.{ℕ, Bool, true, false, not, ◌||◌, ◌&&◌, nat_le, List, length, codes}
 use Rattle.std.specs.Str.{bytes_eq}
-use Rattle.mk_pool.specs.declared.region.Piece.{Piece}
+use Rattle.mk_pieces.specs.Pieces.{texts_of, furthest}
 use Rattle.mk_mods.specs.State.{State}
 use Rattle.mk_mods.specs.declared.val.Val.{Val}
 use Rattle.mk_mods.specs.declared.modifier.Mod.{Mod}
 use Rattle.mk_mods.specs.declared.modifier.Mod.TheVariants.{Keep, Without, Head, Tail, Root, Extension, Sort, SortBack, Unique, Separator, ManyWords, Select}
 
--- the bytes of a piece, and those of each of some pieces
-abbrev pub bytes_of : List ℕ → Piece → List ℕ
-bytes_of region piece = slice_range region piece.start piece.end
-
-abbrev pub texts_of : List ℕ → List Piece → List (List ℕ)
-texts_of region pieces = map (bytes_of region) pieces
-
--- the greatest end of pieces
-abbrev pub furthest : List Piece → ℕ
-furthest [] = 0
-furthest (piece ∷ pieces) = max piece.end (furthest pieces)
-
+-- the greatest end of its items
 abbrev pub end_of : Val → ℕ
 end_of val = furthest val.pieces.items
 
@@ -30,15 +18,6 @@ seen region val = record {
   separator = val.separator;
   one_word = val.one_word;
 }
-
--- old bytes are the beginning of the new ones
-abbrev pub Begins : List ℕ → List ℕ → Type 0
-Begins old new = take (length old) new ≡ old
-
--- pieces that lie in a region and show texts
-pub record Shows (region : List ℕ) (pieces : List Piece) (texts : List (List ℕ)) : Type 0 where
-  pub within : furthest pieces ≤ length region
-  pub shown : texts_of region pieces ≡ texts
 
 -- whether the words of a value are pieces of the region already
 abbrev pub has_words : Val → Bool

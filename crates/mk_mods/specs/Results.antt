@@ -2,7 +2,7 @@
 use Rattle.std.specs.Prelude.{ℕ, Bool, List, [], ◌∷◌, ◌++◌, Result, if◌then◌else◌}
 use Rattle.mk_mods.specs.Limits.{within_limit}
 use Rattle.mk_mods.specs.State.{State, items_of, with_items}
-use Rattle.mk_mods.specs.declared.fault.ModFault.{ModFault}
+use Rattle.mk_pieces.specs.declared.fault.ModFault.{ModFault}
 use Rattle.mk_mods.specs.declared.val.Separator.{Separator}
 
 -- a state without items

@@ -9,9 +9,10 @@ use Rattle.mk_glob.specs.Patterns.{matches}
 use Rattle.mk_mods.specs.Modifiers.{sign_of, with_flag, with_sign, words_or_text}
 use Rattle.mk_mods.specs.State.{State, text_of, with_items, with_words}
 use Rattle.mk_mods.specs.Parts.{head, tail, root, extension}
-use Rattle.mk_mods.specs.Quotes.{recased, quoted, doubled}
+use Rattle.mk_pieces.specs.Letters.{recased}
+use Rattle.mk_mods.specs.Quotes.{quoted, doubled}
 use Rattle.mk_mods.specs.Places.{chosen, counted}
-use Rattle.mk_mods.specs.Substitution.{substituted, suffixed, words_changed}
+use Rattle.mk_pieces.specs.Substitution.{substituted, suffixed, words_changed}
 use Rattle.mk_mods.specs.Order.{sorted}
 use Rattle.mk_mods.specs.declared.modifier.Mod.{Mod}
 use Rattle.mk_mods.specs.declared.modifier.Mod.TheVariants.{Keep, Without, Subst, Suffix, Head, Tail, Root, Extension, Sort, SortBack, Unique, Lower, Upper, Quote, QuoteDollar, Separator, OneWord, ManyWords, Select, Range}

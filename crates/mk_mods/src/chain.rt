@@ -3,29 +3,29 @@ ghost use Rattle.std.specs.Prelude.{◌≡◌, ◌≤◌, [], ◌∷◌, length,
 ghost use Rattle.std.specs.Prelude.{IfOk, IfErr, Err};
 ghost use Rattle.std.specs.Str.{bytes_eq};
 ghost use Rattle.mk_bytes.specs.Agrees.{Agrees, AgreesBut};
-ghost use Rattle.mk_mods.specs.Limits.{or_bad_place, limited, IsEarly, AreTooLong};
+ghost use Rattle.mk_pieces.specs.Limits.{IsEarly, AreTooLong};
+ghost use Rattle.mk_pieces.specs.Pieces.{bytes_of, texts_of, furthest, Shows, Begins};
+ghost use Rattle.mk_pieces.specs.declared.fault.ModFault.TheVariants.{
+  NoMemory as no_memory,
+  TooLong as too_long,
+};
+ghost use Rattle.mk_mods.specs.Limits.{or_bad_place, limited};
 ghost use Rattle.mk_mods.specs.Modifiers as spec;
 ghost use Rattle.mk_mods.specs.Places as places;
 ghost use Rattle.mk_mods.specs.State as state;
 ghost use Rattle.mk_mods.specs.Steps as steps;
-ghost use Rattle.mk_mods.specs.Pieces.{seen, end_of, bytes_of, texts_of, furthest, has_words};
-ghost use Rattle.mk_mods.specs.Pieces.{places_no_words, places_nothing, Shows, Begins};
-ghost use Rattle.mk_mods.specs.declared.fault.ModFault.TheVariants.{
-  NoMemory as no_memory,
-  TooLong as too_long,
-};
+ghost use Rattle.mk_mods.specs.Pieces.{seen, end_of, has_words, places_no_words, places_nothing};
 
 use crate::choice::{keep_filled, matching};
-use crate::fault::ModFault;
 use crate::modifier::Mod;
 use crate::order::{sorted, sorted_back, without_repeats};
 use crate::part::{Part, parts};
-use crate::piece::{cut_words, place};
+use crate::piece::cut_words;
 use crate::places::{ends, from_to, how_many, only_number, place_numbers};
 use crate::quote::{doubled, quoted};
-use crate::replace::{Change, change_words};
 use crate::val::{Separator, Val, has_fitting_text, text};
 use mk_bytes::NoMemory;
+use mk_pieces::{Change, ModFault, change_words, place};
 use mk_pool::{Piece, Region};
 use std::alloc::Global;
 

@@ -2,11 +2,11 @@
 ghost use Rattle.std.specs.Prelude.{◌≡◌, ◌≤◌, length};
 ghost use Rattle.std.specs.List.{filter};
 ghost use Rattle.mk_mods.specs.State.{filled};
-ghost use Rattle.mk_mods.specs.Pieces.{texts_of, furthest, Shows};
+ghost use Rattle.mk_pieces.specs.Pieces.{texts_of, furthest, Shows};
 ghost use Rattle.mk_mods.specs.Steps as steps;
 
-use crate::piece::shown;
 use mk_glob::matches;
+use mk_pieces::shown;
 use mk_pool::{Piece, Region};
 
 /// Keeps the words that are not empty.

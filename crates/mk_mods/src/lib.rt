@@ -8,21 +8,17 @@
 
 mod chain;
 mod choice;
-mod fault;
-mod fresh;
 mod modifier;
 mod order;
 mod part;
 mod piece;
 mod places;
 mod quote;
-mod replace;
 mod results;
 mod val;
 
 pub use chain::{apply, word_pieces};
-pub use fault::ModFault;
+pub use mk_pieces::{ModFault, shown};
 pub use modifier::Mod;
-pub use piece::shown;
 pub use results::{Results, with_results};
 pub use val::{Separator, Val, placed_anew, text, with_items, words_of};

@@ -3,10 +3,10 @@ ghost use Rattle.std.specs.Prelude.{◌≡◌, ◌≤◌, length, reverse, IfOk}
 ghost use Rattle.std.specs.List.{dedup, dedup_from};
 ghost use Rattle.std.specs.Str.{bytes_eq};
 ghost use Rattle.mk_mods.specs.Order as spec;
-ghost use Rattle.mk_mods.specs.Pieces.{bytes_of, texts_of, furthest, Shows};
+ghost use Rattle.mk_pieces.specs.Pieces.{bytes_of, texts_of, furthest, Shows};
 
-use crate::piece::shown;
 use mk_bytes::NoMemory;
+use mk_pieces::shown;
 use mk_pool::{Piece, Region};
 use std::alloc::Global;
 

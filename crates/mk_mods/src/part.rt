@@ -1,10 +1,10 @@
 //! The parts of words as paths.
 ghost use Rattle.std.specs.Prelude.{◌≡◌, ◌≤◌, ◌<◌, ◌+◌, length, take, drop, map, IfSome};
 ghost use Rattle.mk_mods.specs.Parts as spec;
-ghost use Rattle.mk_mods.specs.Pieces.{bytes_of, texts_of, furthest, Shows};
+ghost use Rattle.mk_pieces.specs.Pieces.{bytes_of, texts_of, furthest, Shows};
 
-use crate::piece::shown;
 use memchr::memrchr;
+use mk_pieces::shown;
 use mk_pool::{Piece, Region};
 
 /// A part of a word.

@@ -1,36 +1,13 @@
-//! Pieces of a region.
-ghost use Rattle.std.specs.Prelude.{◌≡◌, ◌≤◌, ◌<◌, ◌^◌, ◌++◌, length, take, codes};
-ghost use Rattle.std.specs.Prelude.{IfOk, OnOk, OnErr};
+//! Pieces of a region, and the words and texts of several.
+ghost use Rattle.std.specs.Prelude.{◌≡◌, ◌≤◌, ◌++◌, length, IfOk, OnOk};
 ghost use Rattle.std.specs.List.{flat_map};
-ghost use Rattle.mk_mods.specs.Pieces.{bytes_of, texts_of, furthest, Shows, Begins};
+ghost use Rattle.mk_pieces.specs.Pieces.{bytes_of, texts_of, furthest, Shows, Begins};
 ghost use Rattle.mk_mods.specs.State as spec;
 
 use mk_bytes::{Items, NoMemory, Text, Texts, next_word};
+use mk_pieces::{place, shown};
 use mk_pool::{Piece, Region};
 use std::alloc::Global;
-
-/// The bytes of a piece, cut where the region ends.
-pub fn shown(region: &Region, piece: Piece) -> &[u8]
-    ensures value { result.now ≡ bytes_of region.now.bytes piece }
-    ensures begins { take 2 region.now.bytes ≡ codes "./" }
-    ensures short { length region.now.bytes < 2 ^ 32 }
-{
-    let end = piece.end.min(region.len());
-    let start = piece.start.min(end);
-    region.bytes(Piece { start, end })
-}
-
-/// Appends bytes to a region, and gives their piece.
-pub fn place(region: &mut Region, bytes: &[u8]) -> Result<Piece, NoMemory>
-    ensures ok { OnOk result (region.new.bytes ≡ region.old.bytes ++ bytes.now) }
-    ensures shown { IfOk result (λ piece. bytes_of region.new.bytes piece ≡ bytes.now) }
-    ensures within { IfOk result (λ piece. piece.end ≤ length region.new.bytes) }
-    ensures begins { Begins region.old.bytes region.new.bytes }
-    ensures err { OnErr result (region.new.bytes ≡ region.old.bytes) }
-{
-    region.reserve(bytes.len())?;
-    Ok(region.place(bytes))
-}
 
 /// The texts of pieces.
 pub fn texts(alloc: Global, region: &Region, pieces: &[Piece]) -> Result<Texts, NoMemory>

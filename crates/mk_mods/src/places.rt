@@ -2,11 +2,11 @@
 ghost use Rattle.std.specs.Prelude.{◌≡◌, ◌≤◌, ◌<◌, ◌-◌, ◌^◌, [], ◌∷◌, length, take, drop};
 ghost use Rattle.std.specs.Prelude.{decimal, position, IfOk, IfSome};
 ghost use Rattle.mk_mods.specs.Places as spec;
-ghost use Rattle.mk_mods.specs.Pieces.{bytes_of, texts_of, furthest, Shows, Begins};
+ghost use Rattle.mk_pieces.specs.Pieces.{bytes_of, texts_of, furthest, Shows, Begins};
 
-use crate::piece::place;
 use itoa::Buffer;
 use mk_bytes::{NoMemory, number_up_to};
+use mk_pieces::place;
 use mk_pool::{Piece, Region};
 use std::alloc::Global;
 

@@ -1,17 +1,17 @@
 //! Results that become the items of a state one by one.
 ghost use Rattle.std.specs.Prelude.{◌≡◌, ◌≤◌, ◌-◌, length, IfOk, SomeIff};
 ghost use Rattle.mk_bytes.specs.Agrees.{Agrees};
-ghost use Rattle.mk_mods.specs.Limits.{max_text};
-ghost use Rattle.mk_mods.specs.Pieces.{seen, end_of, Begins};
+ghost use Rattle.mk_pieces.specs.Limits.{max_text};
+ghost use Rattle.mk_pieces.specs.Pieces.{Begins};
+ghost use Rattle.mk_mods.specs.Pieces.{seen, end_of};
 ghost use Rattle.mk_mods.specs.Results as spec;
 ghost use Rattle.mk_mods.specs.State.{text_of};
-ghost use Rattle.mk_mods.specs.declared.fault.ModFault.TheVariants.{NoMemory as no_memory};
+ghost use Rattle.mk_pieces.specs.declared.fault.ModFault.TheVariants.{NoMemory as no_memory};
 
-use crate::fault::ModFault;
-use crate::fresh::MAX_TEXT;
 use crate::piece::place_all;
 use crate::val::{Separator, Val, room_behind};
 use mk_bytes::{Items, NoMemory, Text, Texts};
+use mk_pieces::{MAX_TEXT, ModFault};
 use mk_pool::Region;
 use std::alloc::Global;
 use std::marker::Model;
@@ -28,7 +28,7 @@ pub struct Results {
 
 impl Model for Results {
     ghost use Rattle.std.specs.Prelude.{◌≡◌, ◌+◌, length};
-    ghost use Rattle.mk_mods.specs.Limits.{max_text};
+    ghost use Rattle.mk_pieces.specs.Limits.{max_text};
     ghost use Rattle.mk_mods.specs.State.{State, joined};
 
     ghost Value = { State };

@@ -2,11 +2,12 @@ ghost use Rattle.std.specs.Prelude.{◌≡◌, ◌≤◌, ◌-◌, ◌++◌, len
 ghost use Rattle.std.specs.Prelude.{IfOk, OnOk};
 ghost use Rattle.mk_mods.specs.State as spec;
 ghost use Rattle.mk_mods.specs.Limits.{fits};
-ghost use Rattle.mk_mods.specs.Pieces.{seen, end_of, Begins};
+ghost use Rattle.mk_pieces.specs.Pieces.{Begins};
+ghost use Rattle.mk_mods.specs.Pieces.{seen, end_of};
 
-use crate::fresh::MAX_TEXT;
-use crate::piece::{cut_words, place, place_all, shown, texts};
+use crate::piece::{cut_words, place_all, texts};
 use mk_bytes::{Items, NoMemory, Text, Texts};
+use mk_pieces::{MAX_TEXT, place, shown};
 use mk_pool::{Piece, Region};
 use std::alloc::Global;
 

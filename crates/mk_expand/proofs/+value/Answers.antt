@@ -12,7 +12,7 @@ use Rattle.mk_bytes.specs.declared.pair.Pair.{Pair}
 use Rattle.mk_cond.proofs.WalkLemmas.{behind_all-push, weight-push}
 use Rattle.mk_cond.specs.View.{cond_view, side_view}
 use Rattle.mk_cond.specs.Walk.{behind_all, step_size, way, weight}
-use Rattle.mk_mods.proofs.PieceLemmas.{Begins-refl, Begins-trans}
+use Rattle.mk_pieces.proofs.PieceLemmas.{Begins-refl, Begins-trans}
 use Rattle.mk_expand.specs.Calls.{at, here}
 use Rattle.mk_expand.specs.Value.{found_at}
 use Rattle.mk_expand.specs.View.{chain_view}

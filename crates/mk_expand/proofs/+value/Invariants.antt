@@ -2,7 +2,8 @@ use Rattle.std.proofs.Common.{◌≡◌, ◌+◌, ◌*◌, ◌≤◌, drop, leng
 use Rattle.mk_ast.specs.View.{mods_view, tree_view}
 use Rattle.mk_cond.specs.View.{cond_view}
 use Rattle.mk_cond.specs.Walk.{behind_all, step_size, step_walk, weight}
-use Rattle.mk_mods.specs.Pieces.{end_of, texts_of}
+use Rattle.mk_pieces.specs.Pieces.{texts_of}
+use Rattle.mk_mods.specs.Pieces.{end_of}
 use Rattle.mk_expand.specs.Calls.{Asks, Extends, Keeps, at, here}
 use Rattle.mk_expand.specs.Chains.{all_modified, each_behind}
 use Rattle.mk_expand.specs.Conditions.{truth_of}

@@ -1,8 +1,8 @@
 use Rattle.std.proofs.Common.{Ok, sym, ap, ◌∙◌}
 use Rattle.mk_mods.specs.Limits.{or_bad_place}
-use Rattle.mk_mods.specs.Pieces.{texts_of}
+use Rattle.mk_pieces.specs.Pieces.{texts_of}
 use Rattle.mk_mods.proofs.ChainLemmas.{Shows-from_to, chosen-places}
-use Rattle.mk_mods.proofs.PieceLemmas.{Begins-refl}
+use Rattle.mk_pieces.proofs.PieceLemmas.{Begins-refl}
 use Rattle.mk_mods.proofs.chain.select.Goals as goal
 
 pub returns-clause-shown : goal.returns-clause-shown

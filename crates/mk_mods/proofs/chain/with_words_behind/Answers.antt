@@ -3,8 +3,8 @@ use Rattle.std.proofs.lemmas.Result.{err_from_is_err_and}
 use Rattle.mk_mods.specs.Modifiers.{words_or_text}
 use Rattle.mk_mods.specs.Steps.{words_behind, is_whole}
 use Rattle.mk_mods.specs.Pieces.{seen}
-use Rattle.mk_mods.specs.declared.fault.ModFault.TheVariants.{TooLong as too_long}
-use Rattle.mk_mods.proofs.LimitLemmas.{fault_is}
+use Rattle.mk_pieces.specs.declared.fault.ModFault.TheVariants.{TooLong as too_long}
+use Rattle.mk_pieces.proofs.LimitLemmas.{fault_is}
 use Rattle.mk_mods.proofs.LongLemmas.{worked_long}
 use Rattle.mk_mods.proofs.chain.with_words_behind.Goals as goal
 

@@ -1,7 +1,7 @@
 use Rattle.std.proofs.Common.{ap, ◌∙◌, rules}
 use Rattle.std.proofs.lemmas.Fn.{filter_same}
 use Rattle.mk_mods.specs.State.{is_filled}
-use Rattle.mk_mods.specs.Pieces.{bytes_of, texts_of}
+use Rattle.mk_pieces.specs.Pieces.{bytes_of, texts_of}
 use Rattle.mk_mods.proofs.TextLemmas.{texts_of-filter, furthest-filter}
 use Rattle.mk_mods.proofs.choice.keep_filled.Goals as goal
 

@@ -1,7 +1,7 @@
 use Rattle.std.proofs.Common.{ap, ◌∙◌, arith, rules}
 use Rattle.std.proofs.lemmas.Fn.{filter_same}
 use Rattle.mk_mods.specs.Steps.{is_wanted}
-use Rattle.mk_mods.specs.Pieces.{bytes_of, texts_of}
+use Rattle.mk_pieces.specs.Pieces.{bytes_of, texts_of}
 use Rattle.mk_mods.proofs.TextLemmas.{texts_of-filter, furthest-filter}
 use Rattle.mk_mods.proofs.choice.matching.Goals as goal
 

@@ -4,9 +4,10 @@ use Rattle.std.proofs.lemmas.Grind.{common_steps}
 use Rattle.std.specs.List.{dedup_from}
 use Rattle.std.specs.Str.{bytes_eq}
 use Rattle.mk_pool.specs.declared.region.Piece.{Piece}
-use Rattle.mk_mods.specs.Pieces.{bytes_of, texts_of}
-use Rattle.mk_mods.proofs.PieceLemmas.{texts_of-push, furthest-push, furthest-at}
-use Rattle.mk_mods.proofs.TextLemmas.{dedup_from-same, dedup_from-other, texts_of-more}
+use Rattle.mk_pieces.specs.Pieces.{bytes_of, texts_of}
+use Rattle.mk_pieces.proofs.PieceLemmas.{texts_of-push, furthest-push, furthest-at}
+use Rattle.mk_pieces.proofs.PieceLemmas.{texts_of-more}
+use Rattle.mk_mods.proofs.TextLemmas.{dedup_from-same, dedup_from-other}
 use Rattle.mk_mods.proofs.order.distinct_from.Goals as goal
 
 pub loop-word-preserved-then-eq : goal.loop-word-preserved-then-eq

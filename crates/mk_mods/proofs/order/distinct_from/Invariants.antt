@@ -1,7 +1,7 @@
 use Rattle.std.proofs.Common.{◌≡◌, ◌≤◌, ◌++◌, length, drop}
 use Rattle.std.specs.List.{dedup_from}
 use Rattle.std.specs.Str.{bytes_eq}
-use Rattle.mk_mods.specs.Pieces.{bytes_of, texts_of, furthest}
+use Rattle.mk_pieces.specs.Pieces.{bytes_of, texts_of, furthest}
 use Rattle.mk_mods.proofs.order.distinct_from.Given as goal
 
 -- the words so far, and those that are left beside the last one

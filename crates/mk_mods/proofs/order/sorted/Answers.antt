@@ -3,7 +3,7 @@ use Rattle.std.proofs.lemmas.List.Sorted.{IsPermutation-map, ranks_by}
 use Rattle.std.proofs.lemmas.Fn.{always_returns_same}
 use Rattle.std.specs.Cmp.Lexicographic.{nat_list_cmp_total}
 use Rattle.mk_mods.specs.Order.{is_before}
-use Rattle.mk_mods.specs.Pieces.{bytes_of, texts_of}
+use Rattle.mk_pieces.specs.Pieces.{bytes_of, texts_of}
 use Rattle.mk_mods.proofs.OrderLemmas.{sorted-permutation, sorted-pieces, furthest-permutation}
 use Rattle.mk_mods.proofs.order.sorted.Goals as goal
 

@@ -2,8 +2,8 @@ use Rattle.std.proofs.Common.{◌≡◌, ◌<◌, length, take, get_or, refl, ap
 use Rattle.std.proofs.lemmas.List.{take_more, take_more_set, map-append, length-set}
 use Rattle.mk_pool.specs.declared.region.Piece.{Piece}
 use Rattle.mk_mods.specs.Parts.{part_of}
-use Rattle.mk_mods.specs.Pieces.{bytes_of}
-use Rattle.mk_mods.proofs.PieceLemmas.{texts_of-push, furthest-at}
+use Rattle.mk_pieces.specs.Pieces.{bytes_of}
+use Rattle.mk_pieces.proofs.PieceLemmas.{texts_of-push, furthest-at}
 use Rattle.mk_mods.proofs.TextLemmas.{furthest-set, same_item, same_left}
 use Rattle.mk_mods.proofs.part.parts.Goals as goal
 

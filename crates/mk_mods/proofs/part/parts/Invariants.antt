@@ -1,6 +1,6 @@
 use Rattle.std.proofs.Common.{◌≡◌, ◌≤◌, length, take, drop, map}
 use Rattle.mk_mods.specs.Parts.{part_of}
-use Rattle.mk_mods.specs.Pieces.{texts_of, furthest}
+use Rattle.mk_pieces.specs.Pieces.{texts_of, furthest}
 use Rattle.mk_mods.proofs.part.parts.Given as goal
 
 -- the words so far are cut, and those that are left are as they were

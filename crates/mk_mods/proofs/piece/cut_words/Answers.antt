@@ -1,5 +1,5 @@
 use Rattle.std.proofs.Common.{arith}
-use Rattle.mk_mods.proofs.PieceLemmas.{furthest-at}
+use Rattle.mk_pieces.proofs.PieceLemmas.{furthest-at}
 use Rattle.mk_mods.proofs.piece.cut_words.Goals as goal
 
 pub push_words-requires-clause-item : goal.push_words-requires-clause-item

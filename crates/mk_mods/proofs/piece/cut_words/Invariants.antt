@@ -1,7 +1,7 @@
 use Rattle.std.proofs.Common.{◌≡◌, ◌≤◌, ◌++◌, length, drop}
 use Rattle.std.specs.List.{flat_map}
 use Rattle.mk_mods.specs.State.{words_in}
-use Rattle.mk_mods.specs.Pieces.{texts_of, furthest}
+use Rattle.mk_pieces.specs.Pieces.{texts_of, furthest}
 use Rattle.mk_mods.proofs.piece.cut_words.Given as goal
 
 -- the words so far, and those of the items that are left

@@ -1,6 +1,7 @@
 use Rattle.std.proofs.Common.{◌≡◌, ◌+◌, ◌++◌, ◌∷◌, [], ◌∙◌, take, get_or, arith}
 use Rattle.std.proofs.lemmas.List.{take_more}
-use Rattle.mk_mods.proofs.PieceLemmas.{Begins-trans, Shows-begins, Shows-push}
+use Rattle.mk_pieces.proofs.PieceLemmas.{Begins-trans}
+use Rattle.mk_mods.proofs.PieceLemmas.{Shows-begins, Shows-push}
 use Rattle.mk_mods.proofs.piece.place_all.Goals as goal
 
 pub loop-text-preserved : goal.loop-text-preserved

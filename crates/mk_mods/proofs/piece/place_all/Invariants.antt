@@ -1,5 +1,5 @@
 use Rattle.std.proofs.Common.{take}
-use Rattle.mk_mods.specs.Pieces.{Shows, Begins}
+use Rattle.mk_pieces.specs.Pieces.{Shows, Begins}
 use Rattle.mk_mods.proofs.piece.place_all.Given as goal
 
 -- the pieces so far show the texts so far, and the old bytes are the beginning

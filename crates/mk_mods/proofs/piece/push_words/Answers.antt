@@ -2,8 +2,9 @@ use Rattle.std.proofs.Common.{◌+◌, ◌≤◌, length, sym, ◌∙◌, arith}
 use Rattle.std.proofs.lemmas.List.{append_assoc}
 use Rattle.std.proofs.lemmas.Grind.{common_steps}
 use Rattle.mk_pool.specs.declared.region.Piece.{Piece}
-use Rattle.mk_mods.specs.Pieces.{bytes_of}
-use Rattle.mk_mods.proofs.PieceLemmas.{bytes_of-inner, inner-within, texts_of-push, furthest-push}
+use Rattle.mk_pieces.specs.Pieces.{bytes_of}
+use Rattle.mk_pieces.proofs.PieceLemmas.{texts_of-push, furthest-push}
+use Rattle.mk_mods.proofs.PieceLemmas.{bytes_of-inner, inner-within}
 use Rattle.mk_bytes.proofs.WordLemmas.{next_word-is, words_of-none}
 use Rattle.mk_mods.proofs.piece.push_words.Goals as goal
 

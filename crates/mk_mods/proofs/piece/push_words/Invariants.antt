@@ -1,6 +1,6 @@
 use Rattle.std.proofs.Common.{◌≡◌, ◌≤◌, ◌-◌, ◌++◌, length, drop}
 use Rattle.mk_mods.specs.State.{words_in}
-use Rattle.mk_mods.specs.Pieces.{texts_of, furthest}
+use Rattle.mk_pieces.specs.Pieces.{texts_of, furthest}
 use Rattle.mk_mods.proofs.piece.push_words.Given as goal
 
 -- the words so far, and those of what is left of the item

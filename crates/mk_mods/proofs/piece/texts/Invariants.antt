@@ -1,5 +1,5 @@
 use Rattle.std.proofs.Common.{◌≡◌, ◌++◌, drop}
-use Rattle.mk_mods.specs.Pieces.{texts_of}
+use Rattle.mk_pieces.specs.Pieces.{texts_of}
 use Rattle.mk_mods.proofs.piece.texts.Given as goal
 
 -- the texts so far, and those of the pieces that are left

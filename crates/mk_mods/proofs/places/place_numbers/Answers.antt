@@ -1,7 +1,8 @@
 use Rattle.std.proofs.Common.{◌≡◌, ◌+◌, ◌++◌, ◌∷◌, [], decimal, arith}
 use Rattle.std.proofs.lemmas.List.FromFn.{map-range_with_len_more}
 use Rattle.mk_mods.specs.Places.{numbers}
-use Rattle.mk_mods.proofs.PieceLemmas.{Begins-trans, Shows-begins, Shows-push}
+use Rattle.mk_pieces.proofs.PieceLemmas.{Begins-trans}
+use Rattle.mk_mods.proofs.PieceLemmas.{Shows-begins, Shows-push}
 use Rattle.mk_mods.proofs.places.place_numbers.Goals as goal
 
 pub loop-before-preserved : goal.loop-before-preserved

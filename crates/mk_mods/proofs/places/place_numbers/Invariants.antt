@@ -1,5 +1,5 @@
 use Rattle.mk_mods.specs.Places.{numbers}
-use Rattle.mk_mods.specs.Pieces.{Shows, Begins}
+use Rattle.mk_pieces.specs.Pieces.{Shows, Begins}
 use Rattle.mk_mods.proofs.places.place_numbers.Given as goal
 
 -- the numbers so far are shown

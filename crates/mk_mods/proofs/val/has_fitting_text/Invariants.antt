@@ -1,7 +1,8 @@
 use Rattle.std.proofs.Common.{◌≡◌, length, drop, nat_le}
 use Rattle.mk_mods.specs.Limits.{fits}
 use Rattle.mk_mods.specs.State.{behind}
-use Rattle.mk_mods.specs.Pieces.{texts_of, seen}
+use Rattle.mk_pieces.specs.Pieces.{texts_of}
+use Rattle.mk_mods.specs.Pieces.{seen}
 use Rattle.mk_mods.proofs.val.has_fitting_text.Given as goal
 
 -- the whole text fits where what is left fits into the room

@@ -1,6 +1,7 @@
 use Rattle.std.proofs.Common.{◌≡◌, ◌++◌, drop}
 use Rattle.mk_mods.specs.State.{behind, text_of}
-use Rattle.mk_mods.specs.Pieces.{texts_of, seen}
+use Rattle.mk_pieces.specs.Pieces.{texts_of}
+use Rattle.mk_mods.specs.Pieces.{seen}
 use Rattle.mk_mods.proofs.val.text.Given as goal
 
 -- the text so far, and what stands behind its last item

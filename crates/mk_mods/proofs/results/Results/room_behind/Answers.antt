@@ -1,6 +1,6 @@
 use Rattle.std.proofs.Common.{sym, ◌∙◌}
 use Rattle.mk_mods.proofs.ResultLemmas.{room_behind-item}
-use Rattle.mk_mods.specs.Limits.{max_text}
+use Rattle.mk_pieces.specs.Limits.{max_text}
 use Rattle.mk_mods.proofs.results.Results.room_behind.Goals as goal
 
 pub returns-in-Some : goal.returns-in-Some

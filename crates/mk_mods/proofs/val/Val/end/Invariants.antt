@@ -1,5 +1,6 @@
 use Rattle.std.proofs.Common.{◌≡◌, drop, max}
-use Rattle.mk_mods.specs.Pieces.{furthest, end_of}
+use Rattle.mk_pieces.specs.Pieces.{furthest}
+use Rattle.mk_mods.specs.Pieces.{end_of}
 use Rattle.mk_mods.proofs.val.Val.end.Given as goal
 
 -- the greatest end so far, and those of the pieces that are left

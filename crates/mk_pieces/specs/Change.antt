@@ -1,9 +1,9 @@
 -- How the code changes words.
 use Rattle.std.specs.Prelude.{ℕ, List, Option}
-use Rattle.mk_mods.specs.Quotes.{recased}
-use Rattle.mk_mods.specs.Substitution.{substituted, suffixed}
-use Rattle.mk_mods.specs.declared.replace.Change.{Change}
-use Rattle.mk_mods.specs.declared.replace.Change.TheVariants.{Subst, Suffix, Case}
+use Rattle.mk_pieces.specs.Letters.{recased}
+use Rattle.mk_pieces.specs.Substitution.{substituted, suffixed}
+use Rattle.mk_pieces.specs.declared.replace.Change.{Change}
+use Rattle.mk_pieces.specs.declared.replace.Change.TheVariants.{Subst, Suffix, Case}
 
 -- what a word becomes, and nothing where it stays
 abbrev pub changed_word : Change → List ℕ → Option (List ℕ)

@@ -1,27 +1,30 @@
-//! Texts in words replaced by others.
+//! Words in which texts are replaced by others, or letters by those of the other case.
 ghost use Rattle.std.specs.Prelude.{◌≡◌, ◌<◌, ◌≤◌, ◌+◌, ◌++◌, ◌&&◌, not, is_some, length, drop};
 ghost use Rattle.std.specs.Prelude.{position, IfOk, IfErr, IfSome, OnOk, Err};
 ghost use Rattle.mk_bytes.specs.Agrees.{Agrees};
-ghost use Rattle.mk_mods.specs.Change.{changed_word};
-ghost use Rattle.mk_mods.specs.Limits.{max_text, pushed, pushed_if, IsEarly, AreTooLong};
-ghost use Rattle.mk_mods.specs.Substitution as spec;
-ghost use Rattle.mk_mods.specs.Pieces.{bytes_of, texts_of, furthest, Shows, Begins};
-ghost use Rattle.mk_mods.specs.declared.fault.ModFault.TheVariants.{
+ghost use Rattle.mk_pieces.specs.Change.{changed_word};
+ghost use Rattle.mk_pieces.specs.Limits.{max_text, pushed, pushed_if, IsEarly, AreTooLong};
+ghost use Rattle.mk_pieces.specs.Substitution as spec;
+ghost use Rattle.mk_pieces.specs.Pieces.{bytes_of, texts_of, furthest, Shows, Begins};
+ghost use Rattle.mk_pieces.specs.declared.fault.ModFault.TheVariants.{
   NoMemory as no_memory,
   TooLong as too_long,
 };
 
 use crate::fault::ModFault;
 use crate::fresh::{push, push_both, push_three};
+use crate::letters::recased;
 use crate::piece::{place, shown};
-use crate::quote::recased;
 use memchr::{memchr, memmem};
 use mk_pool::{Piece, Region};
 use std::alloc::Global;
 
-/// How a word is changed.
+/// How a word is changed. A word that does not match stays.
 #[derive(Clone, Copy)]
 pub enum Change<'m> {
+    /// `from` becomes `to`: at its first place, or with `all` at each from the left; with `at_start`
+    /// only at the start of the word, with `at_end` only at its end. An empty `from` is at no place
+    /// within a word.
     Subst {
         from: &'m [u8],
         to: &'m [u8],
@@ -29,10 +32,13 @@ pub enum Change<'m> {
         at_end: bool,
         all: bool,
     },
+    /// The end of a word that is `from` becomes `to`, or where `from` has a `%`, what stands around
+    /// the middle that the first `%` is.
     Suffix {
         from: &'m [u8],
         to: &'m [u8],
     },
+    /// ASCII letters become small ones, or capitals. A word that has none to change stays.
     Case {
         small: bool,
     },
@@ -254,8 +260,10 @@ fn is_ready_for_more(ready: bool, once: bool, is_changed: bool) -> bool
     ready && !(once && is_changed)
 }
 
-/// Changes each word that matches, or with `once` the first one. Words that stay keep their pieces.
-/// `TooLong` only where the words have too many bytes for a printed text.
+/// Changes each word that matches, or with `once` the first one, and gives the pieces of all words in
+/// order. Words that stay keep their pieces; the others are placed in the region behind its old bytes,
+/// which stay its beginning, after refusals too. `TooLong` comes only where the words that it would give
+/// have more than 4,194,304 bytes together, `NoMemory` where memory runs out, and `BadPlace` never.
 pub fn change_words(
     alloc: Global,
     region: &mut Region,

@@ -1,6 +1,6 @@
 use Rattle.std.proofs.Common.{◌≡◌, ◌++◌, drop}
-use Rattle.mk_mods.specs.Quotes.{in_case}
-use Rattle.mk_mods.proofs.quote.push_recased.Given as goal
+use Rattle.mk_pieces.specs.Letters.{in_case}
+use Rattle.mk_pieces.proofs.letters.push_recased.Given as goal
 
 -- the bytes so far, and those of the text that is left
 abbrev pub invariant-loop-byte : goal.invariant-loop-byte

@@ -1,8 +1,8 @@
 //! Bytes that a modifier makes. They grow no longer than a printed text may be.
 ghost use Rattle.std.specs.Prelude.{◌≡◌, ◌++◌};
 ghost use Rattle.mk_bytes.specs.Agrees.{Agrees};
-ghost use Rattle.mk_mods.specs.Limits as spec;
-ghost use Rattle.mk_mods.specs.declared.fault.ModFault.TheVariants.{NoMemory as no_memory};
+ghost use Rattle.mk_pieces.specs.Limits as spec;
+ghost use Rattle.mk_pieces.specs.declared.fault.ModFault.TheVariants.{NoMemory as no_memory};
 
 use crate::fault::ModFault;
 

@@ -1,5 +1,5 @@
-use Rattle.mk_mods.proofs.SearchLemmas.{first_place-is, first_place-one}
-use Rattle.mk_mods.proofs.replace.first_place.Goals as goal
+use Rattle.mk_pieces.proofs.SearchLemmas.{first_place-is, first_place-one}
+use Rattle.mk_pieces.proofs.replace.first_place.Goals as goal
 
 pub returns-in-len1-clause-value : goal.returns-in-len1-clause-value
 returns-in-len1-clause-value c =

@@ -3,9 +3,9 @@ use Rattle.std.proofs.Common.{◌≡◌, ℕ, ◌+◌, Bool, true, false, cond, 
 use Rattle.std.proofs.lemmas.Bool.{true≢false}
 use Rattle.std.proofs.lemmas.Bool.Decides.{nat_tests}
 use Rattle.mk_bytes.specs.Agrees.{AgreesErr, ◌>>=◌}
-use Rattle.mk_mods.specs.Limits.{max_text, pushed, pushed_if}
-use Rattle.mk_mods.specs.declared.fault.ModFault.{ModFault}
-use Rattle.mk_mods.specs.declared.fault.ModFault.TheVariants.{NoMemory, TooLong}
+use Rattle.mk_pieces.specs.Limits.{max_text, pushed, pushed_if}
+use Rattle.mk_pieces.specs.declared.fault.ModFault.{ModFault}
+use Rattle.mk_pieces.specs.declared.fault.ModFault.TheVariants.{NoMemory, TooLong}
 
 ok_cond : {X : Type 0} (test : Bool) (given answer : X) (fault : ModFault)
     → cond test (Ok given) (Err fault) ≡ Ok answer → (test ≡ true) × (given ≡ answer)

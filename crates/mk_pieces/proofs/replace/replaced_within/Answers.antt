@@ -1,12 +1,12 @@
 use Rattle.std.proofs.Common.{◌≡◌, ◌+◌, ◌++◌, length, take, drop, Ok, sym, ◌∙◌}
 use Rattle.std.proofs.lemmas.Result.{err_from_is_err_and}
 use Rattle.mk_bytes.specs.Agrees.{AgreesErr}
-use Rattle.mk_mods.specs.Limits.{pushed}
-use Rattle.mk_mods.specs.Substitution.{replaced}
-use Rattle.mk_mods.specs.declared.fault.ModFault.TheVariants.{NoMemory}
-use Rattle.mk_mods.proofs.LimitLemmas.{pushed-behind, pushed-fault, pushed_if-fault, pushed_if-done}
-use Rattle.mk_mods.proofs.ReplaceLemmas.{replaced_within-all, replaced_within-first, not_empty, some_bytes}
-use Rattle.mk_mods.proofs.replace.replaced_within.Goals as goal
+use Rattle.mk_pieces.specs.Limits.{pushed}
+use Rattle.mk_pieces.specs.Substitution.{replaced}
+use Rattle.mk_pieces.specs.declared.fault.ModFault.TheVariants.{NoMemory}
+use Rattle.mk_pieces.proofs.LimitLemmas.{pushed-behind, pushed-fault, pushed_if-fault, pushed_if-done}
+use Rattle.mk_pieces.proofs.ReplaceLemmas.{replaced_within-all, replaced_within-first, not_empty, some_bytes}
+use Rattle.mk_pieces.proofs.replace.replaced_within.Goals as goal
 
 pub returns-in_err-push_both : goal.returns-in_err-push_both
 returns-in_err-push_both c =

@@ -14,7 +14,7 @@ pub enum ModFault {
 
 impl From<NoMemory> for ModFault {
     ghost use Rattle.std.specs.Prelude.{◌≡◌};
-    ghost use Rattle.mk_mods.specs.declared.fault.ModFault.TheVariants.{NoMemory as no_memory};
+    ghost use Rattle.mk_pieces.specs.declared.fault.ModFault.TheVariants.{NoMemory as no_memory};
 
     ghost from_gives = { λ _ fault. fault ≡ no_memory };
 
@@ -25,7 +25,7 @@ impl From<NoMemory> for ModFault {
 
 impl From<AllocError> for ModFault {
     ghost use Rattle.std.specs.Prelude.{◌≡◌};
-    ghost use Rattle.mk_mods.specs.declared.fault.ModFault.TheVariants.{NoMemory as no_memory};
+    ghost use Rattle.mk_pieces.specs.declared.fault.ModFault.TheVariants.{NoMemory as no_memory};
 
     ghost from_gives = { λ _ fault. fault ≡ no_memory };
 
@@ -36,7 +36,7 @@ impl From<AllocError> for ModFault {
 
 impl<T: Drop> From<AllocFailed<T>> for ModFault {
     ghost use Rattle.std.specs.Prelude.{◌≡◌};
-    ghost use Rattle.mk_mods.specs.declared.fault.ModFault.TheVariants.{NoMemory as no_memory};
+    ghost use Rattle.mk_pieces.specs.declared.fault.ModFault.TheVariants.{NoMemory as no_memory};
 
     ghost from_gives = { λ _ fault. fault ≡ no_memory };
 

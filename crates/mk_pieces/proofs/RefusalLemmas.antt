@@ -1,7 +1,7 @@
 -- What is known of an answer that is a refusal.
 use Rattle.std.proofs.Common.{◌≡◌, Result, Ok, Err, IsErrAnd, IfOk, IfErr}
-use Rattle.mk_mods.specs.Limits.{IsEarly}
-use Rattle.mk_mods.specs.declared.fault.ModFault.{ModFault}
+use Rattle.mk_pieces.specs.Limits.{IsEarly}
+use Rattle.mk_pieces.specs.declared.fault.ModFault.{ModFault}
 
 module _ {A E : Type 0} where
   -- what is said of what is given

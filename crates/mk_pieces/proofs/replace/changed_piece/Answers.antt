@@ -1,12 +1,12 @@
 use Rattle.std.proofs.Common.{◌≡◌, ◌+◌, ◌++◌, Ok, length, sym, ◌∙◌, arith}
 use Rattle.std.proofs.lemmas.Grind.{common_steps}
-use Rattle.mk_mods.specs.Change.{changed_word}
-use Rattle.mk_mods.specs.Limits.{pushed_if}
-use Rattle.mk_mods.specs.Pieces.{bytes_of}
-use Rattle.mk_mods.proofs.LimitLemmas.{pushed_if-none, pushed_if-some}
-use Rattle.mk_mods.proofs.PieceLemmas.{Begins-append, bytes_of-begins, bytes_of-new}
-use Rattle.mk_mods.proofs.ReplaceLemmas.{word_changed-none, word_changed-some}
-use Rattle.mk_mods.proofs.replace.changed_piece.Goals as goal
+use Rattle.mk_pieces.specs.Change.{changed_word}
+use Rattle.mk_pieces.specs.Limits.{pushed_if}
+use Rattle.mk_pieces.specs.Pieces.{bytes_of}
+use Rattle.mk_pieces.proofs.LimitLemmas.{pushed_if-none, pushed_if-some}
+use Rattle.mk_pieces.proofs.PieceLemmas.{Begins-append, bytes_of-begins, bytes_of-new}
+use Rattle.mk_pieces.proofs.ReplaceLemmas.{word_changed-none, word_changed-some}
+use Rattle.mk_pieces.proofs.replace.changed_piece.Goals as goal
 
 pub returns-then-not-branch-clause-shown : goal.returns-then-not-branch-clause-shown
 returns-then-not-branch-clause-shown c =

@@ -2,9 +2,9 @@
 use Rattle.std.proofs.Common.{◌≡◌, ℕ, zero, suc, ◌+◌, ◌<◌, ◌≤◌, Bool, true, false, not, ◌&&◌, ◌==◌, if◌then◌else◌, unwrap_or, is_some, List, [], ◌∷◌, ◌++◌, Option, Some, None, length, drop, take, refl, sym, ap, ◌∙◌, inl, inr, ⊎_elim, ◌⊎◌, arith}
 use Rattle.std.proofs.lemmas.Grind.{common_steps}
 use Rattle.std.proofs.lemmas.List.{drop_all}
-use Rattle.mk_mods.specs.Substitution.{first_place, replaced, replaced_within, word_changed, words_changed, first_changed}
+use Rattle.mk_pieces.specs.Substitution.{first_place, replaced, replaced_within, word_changed, words_changed, first_changed}
 use Rattle.std.specs.Str.{bytes_eq}
-use Rattle.mk_mods.proofs.SearchLemmas.{first_place-fits}
+use Rattle.mk_pieces.proofs.SearchLemmas.{first_place-fits}
 
 first_place-nil : (text : List ℕ) → 0 < length text → first_place text [] ≡ None
 first_place-nil [] some = absurd (omega arith)

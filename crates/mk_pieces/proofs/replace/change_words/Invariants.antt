@@ -1,10 +1,10 @@
 use Rattle.std.proofs.Common.{◌≡◌, ◌+◌, ◌≤◌, ◌++◌, length, drop}
-use Rattle.mk_mods.specs.Change.{changed_word}
-use Rattle.mk_mods.specs.Limits.{total}
-use Rattle.mk_mods.specs.Substitution.{words_changed}
-use Rattle.mk_mods.specs.Pieces.{texts_of, furthest}
-use Rattle.mk_mods.proofs.ReplaceLemmas.{rest_changed}
-use Rattle.mk_mods.proofs.replace.change_words.Given as goal
+use Rattle.mk_pieces.specs.Change.{changed_word}
+use Rattle.mk_pieces.specs.Limits.{total}
+use Rattle.mk_pieces.specs.Substitution.{words_changed}
+use Rattle.mk_pieces.specs.Pieces.{texts_of, furthest}
+use Rattle.mk_pieces.proofs.ReplaceLemmas.{rest_changed}
+use Rattle.mk_pieces.proofs.replace.change_words.Given as goal
 
 -- the words so far, and what becomes of those that are left
 abbrev pub invariant-loop-word : goal.invariant-loop-word

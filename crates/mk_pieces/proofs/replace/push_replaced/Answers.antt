@@ -1,10 +1,10 @@
 use Rattle.std.proofs.Common.{◌+◌, ◌++◌, length, take, drop, sym, ap, ◌∙◌}
 use Rattle.std.proofs.lemmas.Result.{err_from_is_err_and}
-use Rattle.mk_mods.specs.Limits.{pushed}
-use Rattle.mk_mods.specs.Substitution.{replaced}
-use Rattle.mk_mods.proofs.LimitLemmas.{pushed-behind, pushed-fault}
-use Rattle.mk_mods.proofs.ReplaceLemmas.{replaced-more, replaced-none}
-use Rattle.mk_mods.proofs.replace.push_replaced.Goals as goal
+use Rattle.mk_pieces.specs.Limits.{pushed}
+use Rattle.mk_pieces.specs.Substitution.{replaced}
+use Rattle.mk_pieces.proofs.LimitLemmas.{pushed-behind, pushed-fault}
+use Rattle.mk_pieces.proofs.ReplaceLemmas.{replaced-more, replaced-none}
+use Rattle.mk_pieces.proofs.replace.push_replaced.Goals as goal
 
 pub returns-in_err-push_both : goal.returns-in_err-push_both
 returns-in_err-push_both c =

@@ -1,7 +1,7 @@
 use Rattle.std.proofs.Common.{◌≡◌, length}
-use Rattle.mk_mods.specs.Limits.{pushed}
-use Rattle.mk_mods.specs.Substitution.{replaced}
-use Rattle.mk_mods.proofs.replace.push_replaced.Given as goal
+use Rattle.mk_pieces.specs.Limits.{pushed}
+use Rattle.mk_pieces.specs.Substitution.{replaced}
+use Rattle.mk_pieces.proofs.replace.push_replaced.Given as goal
 
 -- what becomes of the rest comes behind the bytes so far
 abbrev pub invariant-places : goal.invariant-places

@@ -2,17 +2,17 @@ use Rattle.std.proofs.Common.{◌≡◌, ◌+◌, ◌≤◌, ◌++◌, ◌∷◌
 use Rattle.std.proofs.lemmas.List.{append_assoc, append-nil, drop_all}
 use Rattle.std.proofs.lemmas.Result.{err_from_is_err_and}
 use Rattle.mk_pool.specs.declared.region.Piece.{Piece}
-use Rattle.mk_mods.specs.Change.{changed_word}
-use Rattle.mk_mods.specs.Limits.{total}
-use Rattle.mk_mods.specs.Pieces.{bytes_of, texts_of}
-use Rattle.mk_mods.specs.Substitution.{word_changed, words_changed}
-use Rattle.mk_mods.specs.declared.fault.ModFault.TheVariants.{TooLong as too_long}
-use Rattle.mk_mods.proofs.LimitLemmas.{fault_is}
-use Rattle.mk_mods.proofs.PieceLemmas.{Begins-under, length-begins, texts_of-begins, texts_of-push, furthest-push, furthest-at, Begins-refl}
-use Rattle.mk_mods.proofs.TextLemmas.{texts_of-more}
-use Rattle.mk_mods.proofs.ReplaceLemmas.{rest_changed, rest_changed-more, rest_changed-none, still_ready}
-use Rattle.mk_mods.proofs.RefusalLemmas.{early_as, refused_if}
-use Rattle.mk_mods.proofs.replace.change_words.Goals as goal
+use Rattle.mk_pieces.specs.Change.{changed_word}
+use Rattle.mk_pieces.specs.Limits.{total}
+use Rattle.mk_pieces.specs.Pieces.{bytes_of, texts_of}
+use Rattle.mk_pieces.specs.Substitution.{word_changed, words_changed}
+use Rattle.mk_pieces.specs.declared.fault.ModFault.TheVariants.{TooLong as too_long}
+use Rattle.mk_pieces.proofs.LimitLemmas.{fault_is}
+use Rattle.mk_pieces.proofs.PieceLemmas.{Begins-under, length-begins, texts_of-begins, texts_of-push, furthest-push, furthest-at, Begins-refl}
+use Rattle.mk_pieces.proofs.PieceLemmas.{texts_of-more}
+use Rattle.mk_pieces.proofs.ReplaceLemmas.{rest_changed, rest_changed-more, rest_changed-none, still_ready}
+use Rattle.mk_pieces.proofs.RefusalLemmas.{early_as, refused_if}
+use Rattle.mk_pieces.proofs.replace.change_words.Goals as goal
 
 pub changed_piece-requires : goal.changed_piece-requires
 changed_piece-requires c =

@@ -1,0 +1,5 @@
+pub mod LimitLemmas
+pub mod PieceLemmas
+pub mod RefusalLemmas
+pub mod ReplaceLemmas
+pub mod SearchLemmas
