@@ -13,9 +13,9 @@ use Rattle.mk_expand.specs.declared.fault.ExpandFault.{ExpandFault}
 -- A walk, evaluated: each condition without conditions inside as it is met.
 unfoldable pub walked : Finder → Context → Progress → Walk → Counted Bool
 walked find c p (ends truth) = gives truth p
-walked find c p (asks leaf yes no) =
+walked find c p (asks leaf first second) =
     truth_of find c p leaf
-    >>= λ t. either t.0 (walked find c t.1 yes) (walked find c t.1 no)
+    >>= λ t. either t.0 (walked find c t.1 first) (walked find c t.1 second)
 
 -- the walk goes on by a truth
 abbrev pub on : Finder → Context → Ways → Bool × Progress → Counted Bool

@@ -725,27 +725,40 @@ conditions::truth_of-steps-smaller g t c =
     (omega (arith, next.ensures.less)) in
     less
 
+pub conditions::truth_of-steps-init : goal.conditions::truth_of-steps-init
+conditions::truth_of-steps-init g t c =
+    record {
+      value = λ answers by. rw c.new-outer.ensures.items (walked-whole _ _ _ (cond_view c.args.cond.now));
+      run = Keeps-same c.args.run.now;
+      facts = Asks-none (g.met.F.Facts.stays _) _ _ _ (Ok tt) (ok_never tt);
+    }
+
 pub conditions::truth_of-steps-preserved : goal.conditions::truth_of-steps-preserved
 conditions::truth_of-steps-preserved g t c =
     let l = c.steps in
     let leaf = c.in_ok-truth-in-AtLeaf.ensures in
+    let truth = c.in_ok-truth-in-AtLeaf.truth in
     let outer = c.pop.new.self.items in
+    let ways = behind_all (outer ++ c.in-Some.one ∷ []) done in
+    let find = found_at c.args.room in
     record {
       value = λ answers by.
           let before = earlier _ _ answers leaf.facts.asked by in
+          let old = here c.args.names.now.scopes.now c.args.names.now.locals.now
+          (g.F.Facts.lists l.facts) l.run false answers in
           let next = here c.args.names.now.scopes.now c.args.names.now.locals.now
           (g.F.Facts.lists c.leaf_truth.new.facts) c.leaf_truth.new.run false answers in
           let p = at c.leaf_truth.new.run (g.F.Facts.asked c.leaf_truth.new.facts) in
-          ap (λ one. (walked (found_at c.args.room) next p one).answer)
-          (c.in_ok-step-in-Some.ensures.same done ∙ ap (way c.in_ok-truth-in-AtLeaf.truth) (sym (behind_all-push outer c.in-Some.one done)))
-          ∙ rw (leaf.run.open_names, leaf.run.bound, leaf.facts.lists)
-          (sym (walked-on _ _ _ p c.in-AtLeaf.leaf (behind_all (outer ++ c.in-Some.one ∷ []) done) c.in_ok-truth-in-AtLeaf.truth
-          (leaf.value answers by)))
-          ∙ rw (
-            ← l.invariant.value answers before,
-            c.in-AtLeaf.is,
-            c.in-Some.ensures.items,
-          ) refl;
+          let same : next ≡ old = rw (leaf.run.open_names, leaf.run.bound, leaf.facts.lists) refl in
+          let on = walked-on find old (at l.run (g.F.Facts.asked l.facts)) p c.in-AtLeaf.leaf ways truth
+          (leaf.value answers by) in
+          let met = rw (c.in-AtLeaf.is, c.in-Some.ensures.items) at (l.invariant.value answers before) in
+          ap (λ one. (walked find next p one).answer)
+          (c.in_ok-step-in-Some.ensures.same done
+          ∙ ap (way truth) (sym (behind_all-push outer c.in-Some.one done)))
+          ∙ ap (λ one. (walked find one p (way truth ways)).answer) same
+          ∙ sym on
+          ∙ met;
       run = Keeps-then _ _ _ l.invariant.run leaf.run;
       facts = Asks-then (g.met.F.Facts.goes_on _ _ _) l.invariant.facts (Asks-ok tt leaf.facts);
     }
