@@ -1,4 +1,4 @@
-use Rattle.std.proofs.Common.{◌∙◌}
+use Rattle.std.proofs.Common.{◌∙◌, refl}
 use Rattle.std.proofs.lemmas.Result.{IfOk-weaker}
 use Rattle.mk_filemon.specs.Outer.{all_touches, ops_of}
 use Rattle.mk_filemon.specs.declared.trace.Asked.TheVariants.{Found}
@@ -7,7 +7,6 @@ use Rattle.mk_filemon.proofs.outer.outer_found.Goals as goal
 
 pub returns : goal.returns
 returns c =
-    IfOk-weaker c.paths_that-2.result _ _
-    (λ paths is. is ∙ paths_that-noted Found (all_touches (ops_of c.args.records.now))
-    c.in_ok-traces_of.field-0 c.in_ok-traces_of.ensures)
-    c.paths_that-2.ensures
+    IfOk-weaker c.paths_by.result _ _
+    (λ paths is. is ∙ paths_that-noted Found (all_touches (ops_of c.args.records.now)) _ refl)
+    c.paths_by.ensures
