@@ -7,7 +7,7 @@ use Rattle.std.proofs.Common.{Bor, subst, length-append}
 use Rattle.std.proofs.lemmas.List.{append-nil}
 use Rattle.std.specs.List.{AllByRecursion}
 use Rattle.std.specs.Option.{option_map}
-use Rattle.mk_meta.specs.Reading.{Read, Many, first_of, many, all_of}
+use Rattle.mk_meta.specs.Reading.{IsTaken, Read, Many, first_of, many, all_of}
 
 abbrev with_items : {A : Type 0} → List A → Many A → Many A
 with_items front (items, rest) = (front ++ items, rest)
@@ -72,22 +72,36 @@ going-ends one text items rest going none =
 abbrev pub seen : {A : Type 0} → Option (A × Bor (List ℕ)) → Read A
 seen found = option_map (λ read. (read.0, read.1.now)) found
 
-pub going-read : {A : Type 0} (one : List ℕ → Read A) (text : List ℕ) (items new : List A)
-    (rest : List ℕ) (found : Option (A × Bor (List ℕ))) (item : A) (after : Bor (List ℕ))
+-- an item that was taken in
+pub going-taken : {A : Type 0} (one : List ℕ → Read A) (text : List ℕ) (items new : List A)
+    (rest : List ℕ) (found : Option (A × Bor (List ℕ))) (after : Bor (List ℕ))
     → IsGoing one text items rest → seen found ≡ one rest
-    → IfSome found (λ read. length read.1.now < length rest) → found ≡ Some (item, after)
-    → new ≡ items ++ item ∷ [] → IsGoing one text new after.now
-going-read one text items new rest found item after going read shorter is new_is =
-    let less : length after.now < length rest =
-    subst (λ f. IfSome f (λ read. length read.1.now < length rest)) is shorter in
-    subst (λ all. IsGoing one text all after.now) (sym new_is)
-    (going-on one text items rest item after.now going (ap seen (sym is) ∙ read) less)
+    → IfSome found (λ read. length read.1.now < length rest) → IsTaken found items new (Some after)
+    → IsGoing one text new after.now
+going-taken one text items new rest None after going read shorter taken = absurd cc
+going-taken one text items new rest (Some (item, next)) after going read shorter taken =
+    let same : next ≡ after = cc in
+    subst (λ (left : Bor (List ℕ)). IsGoing one text new left.now) same
+    (subst (λ all. IsGoing one text all next.now) (sym taken.0)
+    (going-on one text items rest item next.now going read shorter))
 
-pub going-over : {A : Type 0} (one : List ℕ → Read A) (text : List ℕ) (items : List A)
+pub taken-shorter : {A : Type 0} (items new : List A) (rest : List ℕ)
+    (found : Option (A × Bor (List ℕ))) (after : Bor (List ℕ))
+    → IfSome found (λ read. length read.1.now < length rest) → IsTaken found items new (Some after)
+    → length after.now < length rest
+taken-shorter items new rest None after shorter taken = absurd cc
+taken-shorter items new rest (Some (item, next)) after shorter taken =
+    let same : next ≡ after = cc in
+    subst (λ (left : Bor (List ℕ)). length left.now < length rest) same shorter
+
+-- there was none
+pub going-over : {A : Type 0} (one : List ℕ → Read A) (text : List ℕ) (items new : List A)
     (rest : List ℕ) (found : Option (A × Bor (List ℕ))) → IsGoing one text items rest
-    → seen found ≡ one rest → found ≡ None → (items, rest) ≡ all_of one text
-going-over one text items rest found going read is =
-    going-ends one text items rest going (ap seen (sym is) ∙ read)
+    → seen found ≡ one rest → IsTaken found items new None → (new, rest) ≡ all_of one text
+going-over one text items new rest None going read taken =
+    subst (λ all. (all, rest) ≡ all_of one text) (sym taken.0)
+    (going-ends one text items rest going read)
+going-over one text items new rest (Some (item, next)) going read taken = absurd cc
 
 -- What is written line by line is read so, where what follows is no further line.
 many-again : {A : Type 0} (one : List ℕ → Read A) (spell : A → List ℕ) (P : A → Type 0)

@@ -1,6 +1,7 @@
 -- How the text of a meta file is read, line by line from its beginning.
 use Rattle.std.specs.Prelude.{ℕ, zero, suc, ◌==◌, Bool, true, false, nat_eq, nat_le, nat_lt}
-use Rattle.std.specs.Prelude.{List}
+use Rattle.std.specs.Prelude.{◌≡◌, ◌++◌, List}
+use Rattle.std.specs.Borrow.{Bor}
 use Rattle.std.specs.Prelude.{[], ◌∷◌, length, take, drop, codes, Option, Some, None, if◌then◌else◌}
 use Rattle.std.specs.Prelude.{option_and_then}
 use Rattle.std.specs.List.{starts_with}
@@ -90,6 +91,11 @@ many one (suc most) text = first_of text (many one most) (one text)
 -- as many as there are
 abbrev pub all_of : {A : Type 0} → (List ℕ → Read A) → List ℕ → Many A
 all_of one text = many one (length text) text
+
+-- an item that was read stands behind those before it, and what follows it is left; or there was none
+abbrev pub IsTaken : {A : Type 0} → Option (A × Bor (List ℕ)) → List A → List A → Option (Bor (List ℕ)) → Type 0
+IsTaken None old new rest = (new ≡ old) × (rest ≡ None)
+IsTaken (Some (item, after)) old new rest = (new ≡ old ++ item ∷ []) × (rest ≡ Some after)
 
 -- the stamp, the commands and their directory
 pub record Front : Type 0 where

@@ -21,10 +21,7 @@ pub fn text_line<'t>(
     let Some((line, rest)) = cut_at(b'\n', text) else {
         return Ok(None);
     };
-    match text_in(alloc, label, line)? {
-        Some(value) => Ok(Some((value, rest))),
-        None => Ok(None),
-    }
+    Ok(text_in(alloc, label, line)?.zip(Some(rest)))
 }
 
 /// The number that the first line of a text holds behind a label, and what follows the line.
@@ -33,8 +30,7 @@ pub fn number_line<'t>(label: &[u8], text: &'t [u8]) -> Option<(u64, &'t [u8])>
         ≡ spec.line_read (spec.number_behind label.now) text.now }
 {
     let (line, rest) = cut_at(b'\n', text)?;
-    let number = number_behind(label, line)?;
-    Some((number, rest))
+    number_behind(label, line).zip(Some(rest))
 }
 
 fn command_line<'t>(alloc: Global, text: &'t [u8]) -> Result<Option<(TaskLine, &'t [u8])>, NoMemory>
@@ -46,8 +42,18 @@ fn command_line<'t>(alloc: Global, text: &'t [u8]) -> Result<Option<(TaskLine, &
     let Some((line, rest)) = cut_at(b'\n', text) else {
         return Ok(None);
     };
-    match command_in(alloc, line)? {
-        Some(command) => Ok(Some((command, rest))),
+    Ok(command_in(alloc, line)?.zip(Some(rest)))
+}
+
+// Adds an item that was read, and gives what follows it.
+fn take_in<'t, T: Drop>(
+    items: &mut Items<T>,
+    found: Option<(T, &'t [u8])>,
+) -> Result<Option<&'t [u8]>, NoMemory>
+    ensures { IfOk result (λ rest. spec.IsTaken found.entry items.old items.new rest) }
+{
+    match found {
+        Some((item, rest)) => items.push(item).and(Ok(Some(rest))),
         None => Ok(None),
     }
 }
@@ -59,8 +65,7 @@ pub fn command_lines<'t>(alloc: Global, text: &'t [u8]) -> Result<(Lines, &'t [u
 {
     let mut lines = Items::new(alloc, 0)?;
     let mut rest = text;
-    'lines: while let Some((line, after)) = command_line(alloc, rest)? {
-        lines.push(line)?;
+    'lines: while let Some(after) = take_in(&mut lines, command_line(alloc, rest)?)? {
         rest = after;
     }
     Ok((lines, rest))
@@ -75,10 +80,7 @@ fn export_line<'t>(alloc: Global, text: &'t [u8]) -> Result<Option<(Pair, &'t [u
     let Some((line, rest)) = cut_at(b'\n', text) else {
         return Ok(None);
     };
-    match export_in(alloc, line)? {
-        Some(pair) => Ok(Some((pair, rest))),
-        None => Ok(None),
-    }
+    Ok(export_in(alloc, line)?.zip(Some(rest)))
 }
 
 /// As many exported variables as follow one another, and what follows them.
@@ -88,8 +90,7 @@ pub fn export_lines<'t>(alloc: Global, text: &'t [u8]) -> Result<(Pairs, &'t [u8
 {
     let mut exports = Items::new(alloc, 0)?;
     let mut rest = text;
-    'lines: while let Some((pair, after)) = export_line(alloc, rest)? {
-        exports.push(pair)?;
+    'lines: while let Some(after) = take_in(&mut exports, export_line(alloc, rest)?)? {
         rest = after;
     }
     Ok((exports, rest))
@@ -108,10 +109,7 @@ fn record_line<'t>(
     let Some((line, rest)) = cut_at(b'\n', text) else {
         return Ok(None);
     };
-    match record_of(alloc, count, line)? {
-        Some(one) => Ok(Some((one, rest))),
-        None => Ok(None),
-    }
+    Ok(record_of(alloc, count, line)?.zip(Some(rest)))
 }
 
 /// As many records of so many command lines as follow one another, and what follows them.
@@ -125,8 +123,7 @@ pub fn record_lines<'t>(
 {
     let mut records = Items::new(alloc, 0)?;
     let mut rest = text;
-    'lines: while let Some((one, after)) = record_line(alloc, count, rest)? {
-        records.push(one)?;
+    'lines: while let Some(after) = take_in(&mut records, record_line(alloc, count, rest)?)? {
         rest = after;
     }
     Ok((records, rest))

@@ -1,16 +1,15 @@
 use Rattle.mk_meta.specs.Reading.{line_read, export_in}
-use Rattle.mk_meta.proofs.ManyLemmas.{going-read, going-over}
+use Rattle.mk_meta.proofs.ManyLemmas.{going-taken, going-over}
 use Rattle.mk_meta.proofs.lines.export_lines.Goals as goal
 
 pub lines-preserved : goal.lines-preserved
 lines-preserved c =
-    going-read (line_read export_in) c.args.text.now c.lines.exports c.push.new.self
-    c.lines.rest.now
-    c.in_ok-pair.field-0 c.in-Some.pair c.in-Some.after c.lines.invariant c.in_ok-pair.ensures.read
-    c.in_ok-pair.ensures.shorter c.in-Some.is c.in_ok-push.ensures.ok
+    going-taken (line_read export_in) c.args.text.now c.lines.exports c.take_in.new.items c.lines.rest.now
+    c.in_ok-export_line.field-0 c.in-Some.after c.lines.invariant c.in_ok-export_line.ensures.read
+    c.in_ok-export_line.ensures.shorter (rw c.in-Some.is at c.in_ok-after.ensures)
 
 pub returns : goal.returns
 returns c =
-    going-over (line_read export_in) c.args.text.now c.lines.exports c.lines.rest.now
-    c.in_ok-pair.field-0
-    c.lines.invariant c.in_ok-pair.ensures.read c.in_default.is
+    going-over (line_read export_in) c.args.text.now c.lines.exports c.take_in.new.items c.lines.rest.now
+    c.in_ok-export_line.field-0 c.lines.invariant c.in_ok-export_line.ensures.read
+    (rw c.in_default.is at c.in_ok-after.ensures)
