@@ -1,6 +1,5 @@
 -- A job of one command, from its stamp to its meta file, as its history tells of it.
 use Rattle.std.proofs.Common.{◌≡◌, inl, inr, ℕ, false, true, List, [], ◌∷◌, None, Some, refl, codes}
-use Rattle.mk_filemon.specs.declared.record.Rec.{Rec}
 use Rattle.mk_meta.specs.Jobs.{meta_of_job}
 use Rattle.mk_meta.specs.Texts.{head, meta_text}
 use Rattle.mk_meta.specs.TrueHistory.{IsTrue, meta_path}
@@ -10,9 +9,7 @@ use Rattle.mk_world.specs.declared.command.Cmd.{Cmd}
 use Rattle.mk_world.specs.declared.command.Task.{Task}
 use Rattle.mk_world.specs.declared.history.Happening.{Happening}
 use Rattle.mk_world.specs.declared.history.Happening.TheVariants.{Stamp, Put, Start, Step, End}
-use Rattle.mk_world.specs.declared.step.Answer.{Answer}
 use Rattle.mk_world.specs.declared.step.Deed.TheVariants.{Write}
-use Rattle.mk_world.specs.declared.step.Next.{Next}
 use Rattle.mk_world.specs.declared.step.Next.TheVariants.{More, Over}
 use Rattle.mk_world.specs.declared.step.Op.TheVariants as op
 use Rattle.mk_world.specs.declared.step.Request.TheVariants as ask

@@ -1,14 +1,13 @@
 -- That meta files tell what happened.
 use Rattle.std.specs.Prelude.{◌≡◌, ◌⊎◌, ℕ, ◌==◌, Bool, true, false, List, [], ◌∷◌, ◌++◌}
-use Rattle.std.specs.Prelude.{map, flat_map, codes, Option, Some, IfSome}
+use Rattle.std.specs.Prelude.{map, flat_map, codes, Some, IfSome}
 use Rattle.std.specs.List.{AllByRecursion, AllZip, Contains}
-use Rattle.mk_filemon.specs.declared.record.Rec.{Rec}
 use Rattle.mk_meta.specs.Jobs.{command_in, commands_of, records_of_job, working}
 use Rattle.mk_meta.specs.Lawful.{IsLawful}
 use Rattle.mk_meta.specs.Texts.{meta_text}
 use Rattle.mk_meta.specs.declared.meta.Meta.{Meta}
 use Rattle.mk_world.specs.Calls.{op_of}
-use Rattle.mk_world.specs.Deeds.{Spot, changes}
+use Rattle.mk_world.specs.Deeds.{changes}
 use Rattle.mk_world.specs.History.{Effect, effects, files_of}
 use Rattle.mk_world.specs.Talks.{Doing, NextOf, Talks}
 use Rattle.mk_world.specs.declared.command.Cmd.{Cmd}

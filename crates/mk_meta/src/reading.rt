@@ -1,5 +1,5 @@
 //! Meta files as they are read.
-ghost use Rattle.std.specs.Prelude.{◌≡◌, Some, IfOk, IfSome, length, option_and_then};
+ghost use Rattle.std.specs.Prelude.{◌≡◌, ℕ, List, Some, IfOk, IfSome, length, option_and_then};
 ghost use Rattle.std.specs.Option.{option_map};
 ghost use Rattle.std.specs.Cmp.Lexicographic.{slice_cmp};
 ghost use Rattle.std.specs.Ordering.{is_lt, nat_cmp};
@@ -35,6 +35,23 @@ struct Middle {
     output: Text,
 }
 
+// The front with the directory that was found, and what follows it.
+fn front_in<'t>(
+    stamp: u64,
+    lines: Lines,
+    found: Option<(Text, &'t [u8])>,
+) -> Option<(Front, &'t [u8])>
+    ensures { option_map (λ read. (front_view read.0, read.1.now)) result
+        ≡ option_map {U = spec.Front × List ℕ}
+        (λ cwd. (record { stamp = stamp; lines = lines; cwd = cwd.0 }, cwd.1.now)) found.entry }
+{
+    let Some((cwd, rest)) = found else {
+        drop(lines);
+        return None;
+    };
+    Some((Front { stamp, lines, cwd }, rest))
+}
+
 fn read_front<'t>(alloc: Global, text: &'t [u8]) -> Result<Option<(Front, &'t [u8])>, NoMemory>
     ensures { IfOk result (λ found.
         option_map (λ read. (front_view read.0, read.1.now)) found ≡ spec.front_at text.now) }
@@ -43,9 +60,12 @@ fn read_front<'t>(alloc: Global, text: &'t [u8]) -> Result<Option<(Front, &'t [u
         return Ok(None);
     };
     let (lines, rest) = command_lines(alloc, rest)?;
-    match text_line(alloc, b"CWD ", rest)? {
-        Some((cwd, rest)) => Ok(Some((Front { stamp, lines, cwd }, rest))),
-        None => Ok(None),
+    match text_line(alloc, b"CWD ", rest) {
+        Ok(found) => Ok(front_in(stamp, lines, found)),
+        Err(fault) => {
+            drop(lines);
+            Err(fault)
+        }
     }
 }
 
@@ -153,10 +173,7 @@ fn read_records<'t>(
         }
         None => (None, text),
     };
-    match stripped(b"# end 3\n", rest) {
-        Some(rest) => Ok(Some((records, rest))),
-        None => Ok(None),
-    }
+    Ok(Some(records).zip(stripped(b"# end 3\n", rest)))
 }
 
 // Whether the first line names this target.
@@ -167,7 +184,7 @@ fn is_head(alloc: Global, target: &Text, first: &[u8]) -> Result<bool, NoMemory>
     Ok(head.bytes() == first)
 }
 
-// Reads what stands behind the middle, where the first line names the target.
+// Reads what stands behind the middle, where the first line names the target: else this is no meta file.
 fn read_end<'t>(
     alloc: Global,
     first: &[u8],
@@ -181,13 +198,10 @@ fn read_end<'t>(
         (spec.value_of (front_view front.now) (middle_view middle.now) records.0) records.1)
         (spec.records_at (length front.now.lines) text.now)) }
 {
-    let Some((records, rest)) = read_records(alloc, front.lines.len(), text)? else {
-        return Ok(None);
-    };
     if !is_head(alloc, &middle.target, first)? {
         return Ok(None);
     }
-    Ok(Some((records, rest)))
+    read_records(alloc, front.lines.len(), text)
 }
 
 // Reads the parts behind the first line and the front.
@@ -196,25 +210,37 @@ fn read_parts<'t>(
     first: &[u8],
     front: &Front,
     text: &'t [u8],
-) -> Result<Option<(Middle, Option<Recs>, &'t [u8])>, NoMemory>
+) -> Result<Option<(Middle, (Option<Recs>, &'t [u8]))>, NoMemory>
     ensures { IfOk result (λ found. option_map (λ read.
-        (spec.value_of (front_view front.now) (middle_view read.0) read.1, read.2.now)) found
+        (spec.value_of (front_view front.now) (middle_view read.0) read.1.0, read.1.1.now)) found
         ≡ spec.meta_behind first.now (front_view front.now, text.now)) }
 {
     let Some((middle, rest)) = read_middle(alloc, text)? else {
         return Ok(None);
     };
     match read_end(alloc, first, front, &middle, rest) {
-        Ok(Some((records, rest))) => Ok(Some((middle, records, rest))),
-        Ok(None) => {
-            drop(middle);
-            Ok(None)
-        }
+        Ok(found) => Ok(Some(middle).zip(found)),
         Err(fault) => {
             drop(middle);
             Err(fault)
         }
     }
+}
+
+// The value with the parts that were found, and what follows it.
+fn meta_in<'t>(
+    front: Front,
+    found: Option<(Middle, (Option<Recs>, &'t [u8]))>,
+) -> Option<(Meta, &'t [u8])>
+    ensures { option_map (λ read. (read.0, read.1.now)) result
+        ≡ option_map {U = Meta' × List ℕ} (λ read.
+        (spec.value_of (front_view front) (middle_view read.0) read.1.0, read.1.1.now)) found.entry }
+{
+    let Some((middle, (records, rest))) = found else {
+        drop(front);
+        return None;
+    };
+    Some((value_of(front, middle, records), rest))
 }
 
 // Reads what stands behind the first line and the front.
@@ -228,11 +254,7 @@ fn read_behind<'t>(
         ≡ spec.meta_behind first.now (front_view front, text.now)) }
 {
     match read_parts(alloc, first, &front, text) {
-        Ok(Some((middle, records, rest))) => Ok(Some((value_of(front, middle, records), rest))),
-        Ok(None) => {
-            drop(front);
-            Ok(None)
-        }
+        Ok(found) => Ok(meta_in(front, found)),
         Err(fault) => {
             drop(front);
             Err(fault)
