@@ -9,6 +9,7 @@ pub mod LevelLemmas
 pub mod LookLemmas
 pub mod MadeLemmas
 pub mod NameLemmas
+pub mod RefusalLemmas
 pub mod Rows
 pub mod SearchLemmas
 pub mod WayLemmas
