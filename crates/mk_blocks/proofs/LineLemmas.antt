@@ -100,44 +100,24 @@ module _ {X W F : Type 0} (ties : Ties X W F) (file : OpenFile) (loops : List Op
         rw is (place.decided-false (ties.meaning answers) (files_in ties file answers) file.name.now
         (turns_in loops) depth q (run_at (ties.state y) more))
 
-    pub if-full : runs.max_lines ≤ count → (answers : ties.Answers)
+    pub if-asked : (answers : ties.Answers)
         → calls.left_at ties file loops depth (put kind.If l q) x count answers
-        ≡ refused TooManyLines
-    if-full full answers =
+        ≡ (m.condition_step (ties.meaning answers) file.name.now (turns_in loops) l
+        (run_at (ties.state x) count) >>= if_next answers)
+    if-asked answers =
         place.left-if (ties.meaning answers) (files_in ties file answers) file.name.now
         (turns_in loops) depth
         l q (run_at (ties.state x) count)
-        ∙ counted-not (ties.state x) count _ full
 
-    pub if-counted : (more : ℕ) → IsCounted count more → (answers : ties.Answers)
-        → calls.left_at ties file loops depth (put kind.If l q) x count answers
-        ≡ (m.asked (ties.meaning answers).condition file.name.now (turns_in loops) l
-        (run_at (ties.state x) more) >>= if_next answers)
-    if-counted more counts answers =
-        place.left-if (ties.meaning answers) (files_in ties file answers) file.name.now
-        (turns_in loops) depth
-        l q (run_at (ties.state x) count)
-        ∙ counted-then (ties.state x) count more _ counts
-
-    pub branch-full : (endings : List Ending) → next_branch endings ≡ (Some (false, l), q)
-        → runs.max_lines ≤ count → (answers : ties.Answers)
-        → calls.unchosen_at ties file loops depth endings x count answers ≡ refused TooManyLines
-    branch-full endings is full answers =
-        place.unchosen-next (ties.meaning answers) (files_in ties file answers) file.name.now
-        (turns_in loops)
-        depth endings l q (run_at (ties.state x) count) is
-        ∙ counted-not (ties.state x) count _ full
-
-    pub branch-counted : (endings : List Ending) → next_branch endings ≡ (Some (false, l), q)
-        → (more : ℕ) → IsCounted count more → (answers : ties.Answers)
+    pub branch-asked : (endings : List Ending) → next_branch endings ≡ (Some (false, l), q)
+        → (answers : ties.Answers)
         → calls.unchosen_at ties file loops depth endings x count answers
-        ≡ (m.asked (ties.meaning answers).condition file.name.now (turns_in loops) l
-        (run_at (ties.state x) more) >>= if_next answers)
-    branch-counted endings is more counts answers =
+        ≡ (m.condition_step (ties.meaning answers) file.name.now (turns_in loops) l
+        (run_at (ties.state x) count) >>= if_next answers)
+    branch-asked endings is answers =
         place.unchosen-next (ties.meaning answers) (files_in ties file answers) file.name.now
         (turns_in loops)
         depth endings l q (run_at (ties.state x) count) is
-        ∙ counted-then (ties.state x) count more _ counts
 
     -- behind the line of a loop
     abbrev pub for_next : ties.Answers → List Turn × Run ties.State → Reads W F (Run ties.State)

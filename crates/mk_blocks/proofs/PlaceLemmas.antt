@@ -84,13 +84,12 @@ module _ {S W F : Type 0} (M : LineMeaning S W) (files : Files S W F) (name : Li
 
   pub left-if : (turns : List Turn) (depth : ℕ) (l : LogLine) (q : Parsed) (r : Run S)
       → left turns depth (put kind.If l q) r
-      ≡ (runs.counted r >>= λ s. m.asked M.condition name turns l s >>= decided turns depth q)
+      ≡ (m.condition_step M name turns l r >>= decided turns depth q)
   unfolding m.meaning decided
   left-if turns depth l q r =
       next-next (m.branch_step M false name turns l (meaning q.block turns)
       (branches_of turns q.endings) r) _ _
       ∙ bind-bind (m.condition_step M name turns l r) _ _
-      ∙ bind-bind (runs.counted r) _ _
 
   -- the branches that may still be chosen
   abbrev unchosen : List Turn → ℕ → List Ending → Run S → Reads W F (After S)
@@ -123,7 +122,7 @@ module _ {S W F : Type 0} (M : LineMeaning S W) (files : Files S W F) (name : Li
       (q : Parsed) (r : Run S)
       → next_branch endings ≡ (Some (false, l), q)
       → unchosen turns depth endings r
-      ≡ (runs.counted r >>= λ s. m.asked M.condition name turns l s >>= decided turns depth q)
+      ≡ (m.condition_step M name turns l r >>= decided turns depth q)
   unfolding m.meaning closed branches decided
   unchosen-next turns depth [] l q r is = absurd (nowhere is)
   unchosen-next turns depth (e ∷ endings) l q r is =
@@ -132,7 +131,7 @@ module _ {S W F : Type 0} (M : LineMeaning S W) (files : Files S W F) (name : Li
       let other : is_else e.kind ≡ false = ap (λ z. z.0) i.1 in
       let at : e.at ≡ l = ap (λ z. z.1) i.1 in
       rw (i.0, other, at, ← i.2)
-      (bind-bind (m.condition_step M name turns l r) _ _ ∙ bind-bind (runs.counted r) _ _)
+      (bind-bind (m.condition_step M name turns l r) _ _)
 
   module _ (kinds : List ℕ → LineKind) where
     abbrev outside : List OpenLoop → After S → Reads W F (Run S)

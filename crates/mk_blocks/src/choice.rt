@@ -2,7 +2,10 @@
 ghost use Rattle.std.specs.Prelude.{◌≡◌, ◌+◌, ◌^◌, ◌<◌, ◌≤◌, length, IfOk, OnOk};
 ghost use Rattle.mk_blocks.specs.Blocks.{parse, put};
 ghost use Rattle.mk_blocks.specs.Calls as spec;
-ghost use Rattle.mk_blocks.specs.Places.{Falls, IsReached, work};
+ghost use Rattle.mk_blocks.specs.Meaning.{condition_step};
+ghost use Rattle.mk_blocks.specs.Outcomes.{done};
+ghost use Rattle.mk_blocks.specs.Places.{Falls, IsReached, turns_in, work};
+ghost use Rattle.mk_blocks.specs.Runs.{run_at};
 ghost use Rattle.mk_blocks.specs.Skips.{outside_of};
 ghost use Rattle.mk_blocks.specs.Ties.{Does, sorted};
 ghost use Rattle.mk_blocks.specs.declared.kind.LineKind.TheVariants.{If};
@@ -48,6 +51,24 @@ pub fn begin_if<L: Language>(
     Ok(Step::On)
 }
 
+// Counts the line of a branch, and gives whether its condition holds.
+fn holds<L: Language>(
+    file: &OpenFile<'_>,
+    language: &mut L,
+    count: &mut u32,
+    loops: &Stack<OpenLoop<'_>>,
+    line: &LineRef<'_>,
+) -> Result<bool, FileFault<L::What, L::Failure>>
+    ensures does { Does L.ties sorted language.old language.new
+        (λ answers holds. done (holds, run_at (L.ties.state language.new) count.new)) result
+        (λ answers. condition_step (L.ties.meaning answers) file.now.name.now (turns_in loops.now)
+        line.now (run_at (L.ties.state language.old) count.old)) }
+    ensures later { OnOk result (count.old ≤ count.new) }
+{
+    count_line(count)?;
+    condition(file, language, loops, line)
+}
+
 // Goes to the branch of an if-block that is to be read, and gives how many if-blocks are open
 // there.
 fn choose<L: Language>(
@@ -71,8 +92,7 @@ fn choose<L: Language>(
     ensures shorter { OnOk result (length cursor.new ≤ length cursor.old) }
     ensures later { OnOk result (count.old ≤ count.new) }
 {
-    count_line(count)?;
-    if condition(file, language, loops, line)? {
+    if holds(file, language, count, loops, line)? {
         return Ok(depth + 1);
     }
     'branches: loop {
@@ -82,8 +102,9 @@ fn choose<L: Language>(
         if branch.is_else {
             return Ok(depth + 1);
         }
-        count_line(count)?;
-        if condition(file, language, loops, &branch.line)? {
+        let held = holds(file, language, count, loops, &branch.line);
+        drop(branch);
+        if held? {
             return Ok(depth + 1);
         }
     }

@@ -64,10 +64,14 @@ fn enter_loop<L: Language>(
     ensures later { OnOk result (count.old ≤ count.new) }
 {
     if turn_count(&header) == 0 {
+        drop(header);
         skip_block(file.alloc, language, &mut place.cursor, 0)?;
         return Ok(());
     }
-    count_line(count)?;
+    if let Err(_) = count_line(count) {
+        drop(header);
+        return Err(FileFault::TooManyLines);
+    }
     let entered = OpenLoop {
         body: place.cursor.copy(),
         header,

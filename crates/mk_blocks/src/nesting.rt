@@ -159,8 +159,10 @@ pub fn block_fault<L: Language>(
             return Ok(unclosed(&blocks));
         };
         let kind = language.kind(line.bytes());
-        if let Some(fault) = take_line(&mut blocks, kind, line.first())? {
-            return Ok(Some((line.first(), fault)));
+        let number = line.first();
+        drop(line);
+        if let Some(fault) = take_line(&mut blocks, kind, number)? {
+            return Ok(Some((number, fault)));
         }
     }
 }

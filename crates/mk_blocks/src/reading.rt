@@ -257,15 +257,18 @@ fn include_line<L: Language>(
         return Ok(Step::On);
     };
     if file.room == 0 {
+        drop(wanted);
         return Err(FileFault::TooManyFiles);
     }
-    read_file_in(
+    let read = read_file_in(
         file.alloc,
         language,
         wanted.name.bytes(),
         wanted.text.bytes(),
         count,
         file.room - 1,
-    )?;
+    );
+    drop(wanted);
+    read?;
     Ok(Step::On)
 }

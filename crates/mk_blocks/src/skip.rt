@@ -135,6 +135,7 @@ pub fn next_branch<'t, L: Language>(
                 line,
             }));
         }
+        drop(line);
         depth = depth_behind(kind, depth);
     }
 }

@@ -50,23 +50,23 @@ returns-then-turn_count-eq0-clause-place g c =
           (arith, c.in_ok-skip_block.ensures.shorter));
     }
 
-pub returns-in_err-count_line : goal.returns-in_err-count_line
-returns-in_err-count_line g c =
+pub returns-in-Err : goal.returns-in-Err
+returns-in-Err g c =
     let ties = g.L.Language.ties in
     let place = c.args.place.now in
-    let p = err_from_is_err_and c.from_residual-in_err-count_line.result
-    c.from_residual-in_err-count_line.ensures.1 in
     let some : 0 < turn_count c.args.header.names c.args.header.words =
     omega (arith, c.turn_count.ensures, c.if-turn_count-eq0.false) in
-    rw (p.1, p.2) (record {
+    record {
       does = Does-refuse ties sorted c.args.language.now TooManyLines TooManyLines _ refl
-          (turn-full ties c.args.file.now place.loops place.depth (parse ties.kind place.cursor) _ _ _
-          c.args.language.now c.args.count.now (turns-first c.args.header.names c.args.header.words some)
-          c.in_err-count_line.ensures.err);
+          (turn-full ties c.args.file.now place.loops place.depth (parse ties.kind place.cursor) _ _
+          _
+          c.args.language.now c.args.count.now
+          (turns-first c.args.header.names c.args.header.words some)
+          (rw c.in-Err.is at c.count_line.ensures.err));
       place = tt;
       falls = tt;
       later = tt;
-    })
+    }
 
 pub returns-in_err-begin_turn : goal.returns-in_err-begin_turn
 returns-in_err-begin_turn g c =
@@ -88,7 +88,8 @@ returns-clause-does g c =
     Does-here ties sorted c.args.language.now _ _
     (turn-left ties c.args.file.now place.loops place.depth place.cursor _ c.args.language.now
     c.args.count.now c.count_line.new.count c.in_ok-begin_turn.ensures refl c.copy.ensures refl
-    (turns-first c.args.header.names c.args.header.words some) c.in_ok-count_line.ensures.ok)
+    (turns-first c.args.header.names c.args.header.words some)
+    (rw c.in_default.is at c.count_line.ensures.ok))
 
 pub returns-clause-place : goal.returns-clause-place
 returns-clause-place g c =

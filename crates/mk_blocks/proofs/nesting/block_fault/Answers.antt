@@ -16,25 +16,16 @@ returns-in-Some-2 g c =
     let l = c.in-Some.line in
     sym c.lines.invariant
     ∙ checked-fault kind c.lines.blocks c.take_line.new.blocks l c.kind-kind.result
-    c.first-in-Some-2.result _
+    c.first-number.result _
     c.lines.cursor c.in-Some-2.fault (sym c.in-Some.is ∙ c.in_ok-line.ensures.first)
-    (c.kind-kind.ensures ∙ ap kind c.bytes.ensures) c.first-in-Some-2.ensures
-    (rw (c.first-in-Some-2.ensures, ← c.first.ensures) c.in_ok-fault.ensures) c.in-Some-2.is
-
-pub lines-preserved-in_default-2 : goal.lines-preserved-in_default-2
-lines-preserved-in_default-2 g c =
-    let kind = g.L.Language.ties.kind in
-    let on = checked-on kind c.lines.blocks c.take_line.new.blocks c.in-Some.line c.kind-kind.result
-    c.first.result _ c.lines.cursor (sym c.in-Some.is ∙ c.in_ok-line.ensures.first)
-    (c.kind-kind.ensures ∙ ap kind c.bytes.ensures) c.first.ensures c.in_ok-fault.ensures
-    c.in_default-2.is in
-    rw (c.in_ok-line.ensures.rest, on) c.lines.invariant
+    (c.kind-kind.ensures ∙ ap kind c.bytes.ensures) c.first-number.ensures
+    c.in_ok-fault.ensures c.in-Some-2.is
 
 pub lines-preserved : goal.lines-preserved
 lines-preserved g c =
     let kind = g.L.Language.ties.kind in
     let on = checked-on kind c.lines.blocks c.take_line.new.blocks c.in-Some.line c.kind-kind.result
-    c.first.result _ c.lines.cursor (sym c.in-Some.is ∙ c.in_ok-line.ensures.first)
-    (c.kind-kind.ensures ∙ ap kind c.bytes.ensures) c.first.ensures c.in_ok-fault.ensures
+    c.first-number.result _ c.lines.cursor (sym c.in-Some.is ∙ c.in_ok-line.ensures.first)
+    (c.kind-kind.ensures ∙ ap kind c.bytes.ensures) c.first-number.ensures c.in_ok-fault.ensures
     c.in_default-2.is in
     rw (c.in_ok-line.ensures.rest, on) c.lines.invariant

@@ -108,18 +108,18 @@ include_line-returns-then-file-eq0-clause-does g t c =
     (file-refused ties c.args.file.now place.loops place.depth c.args.line.now q c.args.language.now
     c.args.count.now y more _ w c.in-Some.is c.if-file-eq0.true))
 
-pub include_line-returns-in_err-read_file_in : goal.include_line-returns-in_err-read_file_in
-include_line-returns-in_err-read_file_in g t c =
+pub include_line-returns-in_err-read : goal.include_line-returns-in_err-read
+include_line-returns-in_err-read g t c =
     let ties = g.L.Language.ties in
     let place = c.args.place.now in
     let q = parse ties.kind place.cursor in
     let w = c.in-Some.wanted in
     let y = c.included.new.language in
     let more = c.count_line.new.count in
-    let p = err_from_is_err_and c.from_residual-in_err-read_file_in.result
-    c.from_residual-in_err-read_file_in.ensures.1 in
+    let p = err_from_is_err_and c.from_residual-in_err-read.result
+    c.from_residual-in_err-read.ensures.1 in
     let read = rw (c.bytes.ensures.value, c.bytes-2.ensures.value) at
-    c.in_err-read_file_in.ensures.does in
+    c.in_err-read.ensures.does in
     rw (p.1, p.2) (record {
       does = first-then ties sorted (file_next ties c.args.file.now place.loops place.depth c.args.line.now
           q c.args.language.now c.args.count.now)
@@ -144,7 +144,7 @@ include_line-returns-clause-does g t c =
     let y = c.included.new.language in
     let more = c.count_line.new.count in
     let read = rw (c.bytes.ensures.value, c.bytes-2.ensures.value) at
-    c.in_ok-read_file_in.ensures.does in
+    c.in_ok-read.ensures.does in
     first-then ties sorted (file_next ties c.args.file.now place.loops place.depth c.args.line.now q
     c.args.language.now c.args.count.now)
     (file-counted ties c.args.file.now place.loops place.depth c.args.line.now q c.args.language.now
@@ -452,3 +452,51 @@ read_on-returns-in-Breaks-clause-does g t c =
     let read = rw c.in-Breaks.is at c.in_ok-read_line.ensures.does in
     Does-then ties sorted read
     (c.leave_body-in-Breaks.ensures.does c.args.file.now c.read_line.new.language)
+
+pub process-returns-in-Plain-clause-place : goal.process-returns-in-Plain-clause-place
+process-returns-in-Plain-clause-place g t c = c.plain_line.ensures.place
+
+pub process-returns-in-Plain-clause-falls : goal.process-returns-in-Plain-clause-falls
+process-returns-in-Plain-clause-falls g t c = c.plain_line.ensures.falls
+
+pub process-returns-in-Plain-clause-later : goal.process-returns-in-Plain-clause-later
+process-returns-in-Plain-clause-later g t c = c.plain_line.ensures.later
+
+pub process-returns-in-Uncounted-clause-place : goal.process-returns-in-Uncounted-clause-place
+process-returns-in-Uncounted-clause-place g t c = c.uncounted_line.ensures.place
+
+pub process-returns-in-If-clause-place : goal.process-returns-in-If-clause-place
+process-returns-in-If-clause-place g t c = c.begin_if.ensures.place
+
+pub process-returns-in-If-clause-falls : goal.process-returns-in-If-clause-falls
+process-returns-in-If-clause-falls g t c = c.begin_if.ensures.falls
+
+pub process-returns-in-If-clause-later : goal.process-returns-in-If-clause-later
+process-returns-in-If-clause-later g t c = c.begin_if.ensures.later
+
+pub process-returns-in-For-clause-place : goal.process-returns-in-For-clause-place
+process-returns-in-For-clause-place g t c = c.begin_loop.ensures.place
+
+pub process-returns-in-For-clause-falls : goal.process-returns-in-For-clause-falls
+process-returns-in-For-clause-falls g t c = c.begin_loop.ensures.falls
+
+pub process-returns-in-For-clause-later : goal.process-returns-in-For-clause-later
+process-returns-in-For-clause-later g t c = c.begin_loop.ensures.later
+
+pub process-returns-in-Break-clause-place : goal.process-returns-in-Break-clause-place
+process-returns-in-Break-clause-place g t c = c.stop.ensures.place
+
+pub process-returns-in-Break-clause-falls : goal.process-returns-in-Break-clause-falls
+process-returns-in-Break-clause-falls g t c = c.stop.ensures.falls
+
+pub process-returns-in-Break-clause-later : goal.process-returns-in-Break-clause-later
+process-returns-in-Break-clause-later g t c = c.stop.ensures.later
+
+pub process-returns-in-Include-clause-place : goal.process-returns-in-Include-clause-place
+process-returns-in-Include-clause-place g t c = c.include_line.ensures.place
+
+pub process-returns-in-Include-clause-falls : goal.process-returns-in-Include-clause-falls
+process-returns-in-Include-clause-falls g t c = c.include_line.ensures.falls
+
+pub process-returns-in-Include-clause-later : goal.process-returns-in-Include-clause-later
+process-returns-in-Include-clause-later g t c = c.include_line.ensures.later
