@@ -7,6 +7,7 @@ use crate::file;
 use crate::refusal::Refusal;
 use crate::request::Act;
 use mk_bytes::{Items, NoMemory, Text};
+use std::alloc::Global;
 use std::env::{Env, VarError};
 use std::fs::Files;
 use std::{env, str};
@@ -48,23 +49,35 @@ fn look_at_all<R: Files + AllocGlobal>(rt: &R, act: &Act, looks: &[Text]) -> Res
     Ok(Seen { sights, text })
 }
 
+// What a single look found, with these contents.
+fn one_sight(alloc: Global, sight: Sight, contents: &[u8]) -> Result<Seen, NoMemory> {
+    let text = Text::from_bytes(alloc, contents)?;
+    match sights_of(alloc, sight) {
+        Ok(sights) => Ok(Seen { sights, text }),
+        Err(fault) => {
+            drop(text);
+            Err(fault)
+        }
+    }
+}
+
+fn sights_of(alloc: Global, sight: Sight) -> Result<Sights, NoMemory> {
+    let mut sights = Items::new(alloc, 1)?;
+    sights.push(sight)?;
+    Ok(sights)
+}
+
 // The value of a variable of the environment.
 fn value_of<R: Env + AllocGlobal>(rt: &R, name: &[u8]) -> Result<Seen, Refusal> {
-    let mut sights = Items::new(rt.alloc(), 1)?;
-    let mut text = Text::new(rt.alloc());
     let Ok(variable) = str::from_utf8(name) else {
         return Err(Refusal::of(rt.alloc(), name));
     };
     match env::var(rt, variable) {
-        Ok(value) => {
-            text.push(value.as_bytes())?;
-            sights.push(Sight::Found)?;
-        }
-        Err(VarError::NotPresent) => sights.push(Sight::Missing)?,
-        Err(VarError::NotUnicode) => return Err(Refusal::of(rt.alloc(), name)),
-        Err(VarError::OutOfMemory) => return Err(Refusal::NoMemory),
+        Ok(value) => Ok(one_sight(rt.alloc(), Sight::Found, value.as_bytes())?),
+        Err(VarError::NotPresent) => Ok(one_sight(rt.alloc(), Sight::Missing, b"")?),
+        Err(VarError::NotUnicode) => Err(Refusal::of(rt.alloc(), name)),
+        Err(VarError::OutOfMemory) => Err(Refusal::NoMemory),
     }
-    Ok(Seen { sights, text })
 }
 
 /// The path at which a look is refused.

@@ -15,8 +15,8 @@ use crate::deed::{Change, Deed, Sight, deed_of};
 use crate::log::{log_of, ops_of};
 use crate::look::{Seen, refused_at, see};
 use crate::refusal::Refusal;
-use crate::request::{Request, asked, is_recorded};
-use mk_bytes::{Items, Text, Texts};
+use crate::request::{Act, Request, asked, is_recorded};
+use mk_bytes::{Items, NoMemory, Text, Texts};
 use std::env;
 use std::env::VarError;
 use std::io::{ErrorKind, Print, Stdout};
@@ -100,8 +100,17 @@ struct Place {
 // Does what the words ask for, and gives its status.
 fn obey(rt: &HostRuntime, words: &[Text]) -> Result<u8, Refusal> {
     let request = asked(rt.alloc(), words)?;
-    let place = place_of_run(rt, words)?;
-    answered(rt, &place, request)
+    match place_of_run(rt, words) {
+        Ok(place) => {
+            let went = answered(rt, &place, request);
+            drop(place);
+            went
+        }
+        Err(refusal) => {
+            drop(request);
+            Err(refusal)
+        }
+    }
 }
 
 // Where a command line of these words is run.
@@ -114,9 +123,44 @@ fn place_of_run(rt: &HostRuntime, words: &[Text]) -> Result<Place, Refusal> {
 // Looks at what a request asks for, and does what it comes to.
 fn answered(rt: &HostRuntime, place: &Place, request: Request) -> Result<u8, Refusal> {
     let Request { looks, act } = request;
-    let Seen { sights, text } = see(rt, &act, looks.as_slice())?;
-    let deed = deed_of(rt.alloc(), act, sights.as_slice(), text)?;
-    done(rt, place, looks.as_slice(), sights.as_slice(), &deed)
+    let went = looked(rt, place, looks.as_slice(), act);
+    drop(looks);
+    went
+}
+
+// Looks at these files, and does what the act comes to by what stands there.
+fn looked(rt: &HostRuntime, place: &Place, looks: &[Text], act: Act) -> Result<u8, Refusal> {
+    match see(rt, &act, looks) {
+        Ok(Seen { sights, text }) => {
+            let went = acted(
+                rt,
+                place,
+                looks,
+                sights.as_slice(),
+                deed_of(rt.alloc(), act, sights.as_slice(), text),
+            );
+            drop(sights);
+            went
+        }
+        Err(refusal) => {
+            drop(act);
+            Err(refusal)
+        }
+    }
+}
+
+// Does what a request came to, where memory held it.
+fn acted(
+    rt: &HostRuntime,
+    place: &Place,
+    looks: &[Text],
+    sights: &[Sight],
+    deed: Result<Deed, NoMemory>,
+) -> Result<u8, Refusal> {
+    let deed = deed?;
+    let went = done(rt, place, looks, sights, &deed);
+    drop(deed);
+    went
 }
 
 // Records what a request comes to, does it, and gives its status.
