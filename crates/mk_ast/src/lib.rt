@@ -24,4 +24,4 @@ pub use piece::{bare_reference_at, piece_at};
 pub use place::Piece;
 pub use spelling::{print, print_part};
 pub use tree::{ModTree, ModTrees, Part, Tree};
-pub use whole::{parse, reference_end};
+pub use whole::{form_at, parse};

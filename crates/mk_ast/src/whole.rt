@@ -1,21 +1,18 @@
 //! Whole texts, and single forms in them.
-ghost use Rattle.std.specs.Prelude.{◌≡◌, ◌≢◌, ◌<◌, ◌≤◌, length, slice_index, IfOk, IfErr};
+ghost use Rattle.std.specs.Prelude.{◌≡◌, ◌≢◌, ◌<◌, ◌≤◌, length, IfOk, IfErr};
 ghost use Rattle.mk_bytes.specs.Agrees.{Agrees};
-ghost use Rattle.mk_bytes.specs.Bytes as byte;
 ghost use Rattle.mk_ast.specs.FaultPlaces.{StandsIn};
-ghost use Rattle.mk_ast.specs.Forms.{IsForm};
 ghost use Rattle.mk_ast.specs.References as spec;
 ghost use Rattle.mk_ast.specs.Spell.{spell};
 ghost use Rattle.mk_ast.specs.Tree.{Tree as PlainTree};
-ghost use Rattle.mk_ast.specs.View.{tree_view};
+ghost use Rattle.mk_ast.specs.View.{part_view, tree_view};
 ghost use Rattle.mk_ast.specs.WellFormed.{IsWellFormed};
 ghost use Rattle.mk_ast.specs.declared.fault.AstFault.TheVariants.{NoMemory as no_memory};
 
 use crate::fault::AstFault;
 use crate::place::Place;
 use crate::read::{Level, dollar_at, text_at};
-use crate::tree::Tree;
-use mk_bytes::skip;
+use crate::tree::{Part, Tree};
 use std::alloc::Global;
 
 /// How many references may be open at once.
@@ -44,20 +41,22 @@ pub fn parse(alloc: Global, text: &[u8]) -> Result<Tree, AstFault>
     Ok(tree)
 }
 
-/// The place directly after the form that begins with the `$` at the place `at`, or the first fault
-/// inside that form. Places are counted from the beginning of the text.
-pub fn reference_end(alloc: Global, text: &[u8], at: usize) -> Result<usize, AstFault>
-    requires inside { at < length text.now }
-    requires form { slice_index text.now at ≡ byte.dollar }
-    ensures exact { Agrees no_memory (λ end. end) result (spec.end_of_form text.now at) }
-    ensures within { IfOk result (λ end. (at < end) × (end ≤ length text.now)) }
-    ensures spelled { IfOk result (λ end. IsForm text.now at end) }
-    ensures placed { IfErr result (λ fault. fault ≢ no_memory → StandsIn text.now fault) }
+/// The form that `text` begins with behind its `$`, and what is left behind it, or the first fault inside it. The
+/// text is the end of a whole of `total` bytes, from the beginning of which places are counted.
+pub fn form_at<'t>(
+    alloc: Global,
+    total: usize,
+    text: &'t [u8],
+) -> Result<(Part, &'t [u8]), AstFault>
+    requires { length text.now < total }
+    ensures exact { Agrees no_memory (λ x. (part_view x.0, x.1.now)) result
+        (spec.form_at total text.now) }
+    ensures shorter { IfOk result (λ x. length x.1.now ≤ length text.now) }
 {
     let level = Level {
-        total: text.len(),
+        total,
         depth: MAX_OPEN,
     };
-    let (_part, rest) = dollar_at(alloc, level, Place::Whole, skip(text, at + 1))?;
-    Ok(text.len() - rest.len())
+    let (part, rest) = dollar_at(alloc, level, Place::Whole, text)?;
+    Ok((part, rest))
 }

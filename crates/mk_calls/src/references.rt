@@ -2,7 +2,8 @@
 use crate::refused::Refused;
 use crate::rows::{Row, check};
 use mk_ast::AstFault::{Unclosed, UnknownModifier};
-use mk_ast::{AstFault, Tree, parse, print, reference_end};
+use mk_ast::{AstFault, Tree, parse, print};
+use mk_form::reference_end;
 use std::alloc::Global;
 
 // What a row shows, and a text that prints back.

@@ -8,9 +8,10 @@ ghost use Rattle.mk_reader.specs.Dependencies as spec;
 ghost use Rattle.mk_reader.specs.DependencyView.{IsRefusedLine, parts_seen};
 
 use crate::fault::Refusal;
-use mk_ast::{AstFault, reference_end};
+use mk_ast::AstFault;
 use mk_bytes::without_blanks_before;
 use mk_depline::parse_dep;
+use mk_form::reference_end;
 use mk_rules::Rules;
 use std::alloc::Global;
 
