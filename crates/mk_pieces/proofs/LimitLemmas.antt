@@ -1,9 +1,9 @@
 -- Bytes that are put behind others.
-use Rattle.std.proofs.Common.{◌≡◌, ℕ, ◌+◌, Bool, true, false, cond, nat_le, List, [], ◌++◌, length, length-append, append_assoc, Option, Some, None, Result, Ok, Err, refl, sym, ap, ◌∙◌, inl, inr, arith}
+use Rattle.std.proofs.Common.{◌≡◌, ℕ, ◌+◌, ◌<◌, ◌≤◌, Bool, true, false, cond, nat_le, List, [], ◌++◌, length, length-append, append_assoc, Option, Some, None, unwrap_or, Result, Ok, Err, refl, sym, ap, ◌∙◌, inl, inr, arith}
 use Rattle.std.proofs.lemmas.Bool.{true≢false}
 use Rattle.std.proofs.lemmas.Bool.Decides.{nat_tests}
 use Rattle.mk_bytes.specs.Agrees.{AgreesErr, ◌>>=◌}
-use Rattle.mk_pieces.specs.Limits.{max_text, pushed, pushed_if}
+use Rattle.mk_pieces.specs.Limits.{max_text, pushed, pushed_if, IsEarly}
 use Rattle.mk_pieces.specs.declared.fault.ModFault.{ModFault}
 use Rattle.mk_pieces.specs.declared.fault.ModFault.TheVariants.{NoMemory, TooLong}
 
@@ -35,6 +35,19 @@ not_put : (result : Result (List ℕ) ModFault) (all : List ℕ) (is : Bool) →
 not_put (Ok given) all is isnt done =
     let same : true ≡ is = ap flag_of done in absurd (true≢false (same ∙ isnt))
 not_put (Err fault) all is isnt done = cc
+
+-- whether there is room for what is put behind bytes
+pub pushed-fits : (bytes more : List ℕ) → length bytes + length more ≤ max_text
+    → pushed bytes more ≡ Ok (bytes ++ more)
+pushed-fits bytes more fits =
+    let is : nat_le (length bytes + length more) max_text ≡ true = grind (arith, nat_tests, fits) in
+    rw is refl
+
+pub pushed-long : (bytes more : List ℕ) → max_text < length bytes + length more
+    → pushed bytes more ≡ Err TooLong
+pushed-long bytes more long =
+    let is : nat_le (length bytes + length more) max_text ≡ false = grind (arith, nat_tests, long) in
+    rw is refl
 
 -- what is put behind bytes that were just put there comes behind both
 pub pushed-behind : (bytes first second both : List ℕ) → pushed bytes first ≡ Ok both
@@ -83,6 +96,34 @@ pushed_if-some bytes all None is was done =
     let same : false ≡ is = ap flag_of done in absurd (true≢false (sym was ∙ sym same))
 pushed_if-some bytes all (Some text) is was done =
     (text, refl, (ok_cond _ (bytes ++ text) all TooLong (put (pushed bytes text) all is done)).1)
+
+-- bytes behind which nothing is put stay
+pub pushed_if-same : (bytes all : List ℕ) (found : Option (List ℕ)) (is : Bool) → is ≡ false
+    → pushed_if bytes found ≡ Ok (is, all) → bytes ≡ all
+pushed_if-same bytes all None is isnt done = ap bytes_in done
+pushed_if-same bytes all (Some text) is isnt done =
+    absurd (not_put (pushed bytes text) all is isnt done)
+
+refused_test : (test : Bool) (given : List ℕ) (fault : ModFault)
+    → ◌>>=◌ {B = Bool × List ℕ} (cond test (Ok given) (Err TooLong)) (λ new. Ok (true, new)) ≡ Err fault
+    → (test ≡ false) × (fault ≡ TooLong)
+refused_test true given fault is = cc
+refused_test false given fault is = (refl, cc)
+
+-- what is refused has too many bytes, or memory ran out
+pub pushed_if-long : (bytes word : List ℕ) (found : Option (List ℕ)) (fault : ModFault)
+    → fault ≡ TooLong → AgreesErr NoMemory fault (pushed_if bytes found)
+    → max_text < length bytes + length (unwrap_or found word)
+pushed_if-long bytes word found fault long (inl free) = cc
+pushed_if-long bytes word None fault long (inr is) = cc
+pushed_if-long bytes word (Some text) fault long (inr is) =
+    let test = (refused_test _ (bytes ++ text) fault is).0 in grind (arith, nat_tests, test)
+
+pub pushed_if-early : (bytes : List ℕ) (found : Option (List ℕ)) (fault : ModFault)
+    → AgreesErr NoMemory fault (pushed_if bytes found) → IsEarly fault
+pushed_if-early bytes found fault (inl free) = inl free
+pushed_if-early bytes None fault (inr is) = cc
+pushed_if-early bytes (Some text) fault (inr is) = inr (refused_test _ (bytes ++ text) fault is).1
 
 -- a fault that is passed on
 pub fault_is : {X : Type 0} (result : Result X ModFault) (first second third : ModFault)

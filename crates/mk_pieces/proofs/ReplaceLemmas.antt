@@ -2,8 +2,11 @@
 use Rattle.std.proofs.Common.{◌≡◌, ℕ, zero, suc, ◌+◌, ◌<◌, ◌≤◌, Bool, true, false, not, ◌&&◌, ◌==◌, if◌then◌else◌, unwrap_or, is_some, List, [], ◌∷◌, ◌++◌, Option, Some, None, length, drop, take, refl, sym, ap, ◌∙◌, inl, inr, ⊎_elim, ◌⊎◌, arith}
 use Rattle.std.proofs.lemmas.Grind.{common_steps}
 use Rattle.std.proofs.lemmas.List.{drop_all}
-use Rattle.mk_pieces.specs.Substitution.{first_place, replaced, replaced_within, word_changed, words_changed, first_changed}
+use Rattle.mk_pieces.specs.Substitution.{around_replaced, is_percent, middle_of, with_middle, first_place, replaced, replaced_within, word_changed, words_changed, first_changed}
+use Rattle.std.specs.List.{starts_with, ends_with}
+use Rattle.std.specs.Prelude.{nat_eq, nat_le, position}
 use Rattle.std.specs.Str.{bytes_eq}
+use Rattle.std.proofs.lemmas.Bool.Decides.{nat_tests}
 use Rattle.mk_pieces.proofs.SearchLemmas.{first_place-fits}
 
 first_place-nil : (text : List ℕ) → 0 < length text → first_place text [] ≡ None
@@ -102,6 +105,17 @@ not_empty (byte ∷ bytes) is = refl
 pub some_bytes : (bytes : List ℕ) → (length bytes == 0) ≡ false → 0 < length bytes
 some_bytes [] is = cc
 some_bytes (byte ∷ bytes) is = omega arith
+
+-- a word that begins and ends with two texts
+pub around_replaced-some : (before after to word : List ℕ)
+    → length before + length after ≤ length word → starts_with nat_eq word before ≡ true
+    → ends_with nat_eq word after ≡ true
+    → around_replaced before after to word
+    ≡ Some (with_middle (position is_percent to) to (middle_of before after word))
+around_replaced-some before after to word fits starts ends =
+    let is : nat_le (length before + length after) (length word) ≡ true =
+    grind (arith, nat_tests, fits) in
+    rw (is, starts, ends) refl
 
 pub word_changed-none : (ready : Bool) (change : List ℕ → Option (List ℕ)) (word : List ℕ)
     → change word ≡ None → word_changed ready change word ≡ word
