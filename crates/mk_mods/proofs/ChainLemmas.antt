@@ -1,20 +1,14 @@
 -- What is chosen, and what a modifier leaves as it is.
-use Rattle.std.proofs.Common.{◌≡◌, ℕ, zero, suc, ◌+◌, ◌-◌, ◌≤◌, Bool, true, false, cond, List, [], ◌∷◌, Option, Some, None, IsTrue, option_map, length, codes, take, drop, map, reverse, nat_le, refl, sym, ap, ◌∙◌, inl, inr, arith}
+use Rattle.std.proofs.Common.{◌≡◌, ℕ, zero, suc, ◌-◌, ◌≤◌, Bool, true, false, cond, List, [], ◌∷◌, Option, Some, None, Ok, Err, option_map, length, codes, take, drop, map, reverse, nat_le, refl, sym, ap, ◌∙◌, inl, inr, ◌⊎◌, arith}
 use mathlib.Core.List.{reverse_aux}
-use Rattle.std.proofs.lemmas.Bool.Decides.{nat_tests}
 use Rattle.std.proofs.lemmas.List.{take-map, drop-map, length-map}
 use Rattle.std.proofs.lemmas.List.Sorted.{IsPermutation-reverse}
-use Rattle.mk_bytes.specs.Agrees.{AgreesErr}
 use Rattle.mk_pool.specs.declared.region.Piece.{Piece}
 use Rattle.mk_mods.specs.Limits.{or_bad_place}
-use Rattle.mk_mods.specs.Steps.{is_whole}
 use Rattle.mk_pieces.specs.Pieces.{texts_of, bytes_of, furthest, Shows}
-use Rattle.mk_mods.specs.Pieces.{places_no_words}
 use Rattle.std.specs.Str.{bytes_eq}
 use Rattle.mk_mods.specs.Places.{from_to, ends, chosen}
 use Rattle.mk_pieces.specs.declared.fault.ModFault.{ModFault}
-use Rattle.mk_mods.specs.declared.modifier.Mod.{Mod}
-use Rattle.mk_mods.specs.declared.modifier.Mod.TheVariants.{Subst}
 use Rattle.mk_mods.proofs.OrderLemmas.{furthest-permutation}
 
 map-reverse_aux : {A B : Type 0} (f : A → B) (items others : List A)
@@ -74,24 +68,19 @@ pub Shows-from_to : (region : List ℕ) (pieces : List Piece) (ends : ℕ × ℕ
 Shows-from_to region pieces ends within =
     upwards_or_back region pieces ends.0 ends.1 (nat_le ends.0 ends.1) within
 
+-- what is made of words that are found
+pub found-map : {A B : Type 0} (f : A → B) (found : Option A) (given : A)
+    → or_bad_place found ≡ Ok given → or_bad_place (option_map f found) ≡ Ok (f given)
+found-map f None given is = cc
+found-map f (Some words) given is = cc
+
 -- a fault is the same whatever is made of the words
-pub AgreesErr-map : {A B : Type 0} (want fault : ModFault) (f : A → B) (found : Option A)
-    → AgreesErr want fault (or_bad_place found)
-    → AgreesErr want fault (or_bad_place (option_map f found))
-AgreesErr-map want fault f found (inl free) = inl free
-AgreesErr-map want fault f None (inr is) = inr cc
-AgreesErr-map want fault f (Some words) (inr is) = cc
-
--- a modifier that places no words does not take the text as a whole
-pub is_whole-places_no_words : (modifier : Mod) → IsTrue (places_no_words modifier)
-    → is_whole modifier ≡ false
-is_whole-places_no_words (Subst _ _ _ _ _ _ _) none = cc
-is_whole-places_no_words _ none = refl
-
--- the room that is left behind an item
-pub fits-more : (first rest room : ℕ) → first ≤ room
-    → nat_le (first + rest) room ≡ nat_le rest (room - first)
-fits-more first rest room fits = grind (arith, nat_tests)
+pub AgreesBut-map : {A B : Type 0} (Free : ModFault → Type 0) (fault : ModFault) (f : A → B)
+    (found : Option A) → Free fault ⊎ (or_bad_place found ≡ Err fault)
+    → Free fault ⊎ (or_bad_place (option_map f found) ≡ Err fault)
+AgreesBut-map Free fault f found (inl free) = inl free
+AgreesBut-map Free fault f None (inr is) = inr cc
+AgreesBut-map Free fault f (Some words) (inr is) = cc
 
 -- the words at places that a text names
 pub chosen-places : (region text : List ℕ) (pieces : List Piece) (places : ℕ × ℕ)

@@ -3,7 +3,7 @@ use Rattle.std.proofs.Common.{◌≡◌, ℕ, ◌+◌, ◌-◌, ◌≤◌, ◌<�
 use Rattle.std.proofs.lemmas.Grind.{common_steps}
 use Rattle.std.proofs.lemmas.List.{drop-take, take-take, drop-drop}
 use Rattle.mk_pool.specs.declared.region.Piece.{Piece}
-use Rattle.mk_pieces.specs.Pieces.{bytes_of, texts_of, furthest, Shows, Begins}
+use Rattle.mk_pieces.specs.Pieces.{bytes_of, Shows, Begins}
 use Rattle.mk_pieces.proofs.PieceLemmas.{length-begins, texts_of-begins, furthest-append, texts_of-append}
 
 pub Shows-none : (region : List ℕ) → Shows region [] []

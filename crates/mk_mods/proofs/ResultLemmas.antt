@@ -1,7 +1,8 @@
 -- One more item behind the printed text.
-use Rattle.std.proofs.Common.{◌≡◌, ℕ, ◌+◌, ◌-◌, ◌≤◌, List, [], ◌∷◌, ◌++◌, length, Option, Some, None}
+use Rattle.std.proofs.Common.{◌≡◌, ℕ, ◌+◌, ◌-◌, ◌≤◌, false, nat_le, List, [], ◌∷◌, ◌++◌, length, Option, Some, None}
 use Rattle.std.proofs.Common.{SomeIff, append_assoc, length-append, arith}
 use Rattle.std.proofs.lemmas.List.{append-nil}
+use Rattle.std.proofs.lemmas.Bool.Decides.{nat_tests}
 use Rattle.mk_mods.specs.State.{between, behind, joined}
 use Rattle.mk_mods.specs.declared.val.Separator.{Separator}
 
@@ -39,3 +40,24 @@ room_behind-item most room sep items before left item found are full left_room =
     ≡ length (joined sep items) + length (between sep left item ++ item) =
     rw (are, joined-item sep before left item) (length-append _ _) in
     room_left most room (length (joined sep items)) found _ _ full whole left_room
+
+-- the items that are left fit into the room that the first of them leaves
+pub fits-less : (sep : Separator) (left item : List ℕ) (items : List (List ℕ)) (room less : ℕ)
+    → length (between sep left item ++ item) ≤ room
+    → less ≡ room - length (between sep left item ++ item)
+    → nat_le (length (behind sep item items)) less ≡ nat_le (length (behind sep left (item ∷ items))) room
+fits-less sep left item items room less fits is =
+    let whole : length (behind sep left (item ∷ items))
+    ≡ length (between sep left item ++ item) + length (behind sep item items) =
+    length-append (between sep left item ++ item) (behind sep item items) in
+    grind (arith, nat_tests, fits, is, whole)
+
+-- they do not fit where the first does not
+pub none_fits : (sep : Separator) (left item : List ℕ) (items : List (List ℕ)) (room : ℕ)
+    → (length (between sep left item ++ item) ≤ room → ⊥)
+    → nat_le (length (behind sep left (item ∷ items))) room ≡ false
+none_fits sep left item items room long =
+    let whole : length (behind sep left (item ∷ items))
+    ≡ length (between sep left item ++ item) + length (behind sep item items) =
+    length-append (between sep left item ++ item) (behind sep item items) in
+    grind (arith, nat_tests, long, whole)

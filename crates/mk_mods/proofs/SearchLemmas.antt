@@ -1,8 +1,7 @@
 -- Places that a search from the end finds.
-use Rattle.std.proofs.Common.{◌≡◌, ℕ, zero, suc, ◌+◌, ◌<◌, Bool, true, false, cond, List, [], ◌∷◌, Option, Some, None, length, get_or, refl, sym, ap, subst, ◌∙◌, inl, inr, ⊎_elim, ◌⊎◌, arith}
+use Rattle.std.proofs.Common.{◌≡◌, ℕ, zero, suc, ◌<◌, Bool, true, false, cond, List, [], ◌∷◌, Option, Some, None, length, get_or, refl, sym, ap, subst, ◌∙◌, inl, inr, ⊎_elim, ◌⊎◌, arith}
 use Rattle.std.proofs.lemmas.Bool.{true≢false, cases_order}
 use Rattle.memchr.specs.Find.{IsLastByte}
-use Rattle.mk_pieces.proofs.SearchLemmas.{passes_here}
 use Rattle.mk_mods.specs.Parts.{last_place, found_after}
 
 -- a later byte that passes a test is the last one

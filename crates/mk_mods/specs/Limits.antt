@@ -1,5 +1,5 @@
 -- The limit of the printed text.
-use Rattle.std.specs.Prelude.{ℕ, Bool, nat_le, length, Option, Result, Ok, Err, ok_or}
+use Rattle.std.specs.Prelude.{Bool, nat_le, length, Option, Result, Ok, Err, ok_or}
 use Rattle.std.specs.Prelude.{if◌then◌else◌}
 use Rattle.mk_bytes.specs.Agrees.{◌>>=◌}
 use Rattle.mk_pieces.specs.Limits.{max_text}

@@ -10,7 +10,7 @@ use mk_pieces::place;
 use mk_pool::{Piece, Region};
 use std::alloc::Global;
 
-fn unsigned(text: &[u8]) -> Option<u64>
+fn unsigned(text: &[u8]) -> Option<usize>
     ensures value { result ≡ spec.unsigned text.now }
     ensures most { IfSome result (λ number. number ≤ 999999999) }
 {
@@ -19,7 +19,7 @@ fn unsigned(text: &[u8]) -> Option<u64>
     }
     match number_up_to(999_999_999, text) {
         None | Some(0) => None,
-        some => some,
+        Some(number) => Some(number as usize),
     }
 }
 
@@ -28,14 +28,14 @@ fn place_of(count: usize, text: &[u8]) -> Option<usize>
     requires { count < 2 ^ 63 }
     ensures { result ≡ spec.place count text.now }
 {
-    match text {
-        [] => None,
-        [b'-', rest @ ..] => {
+    let (sign, rest) = text.split_first()?;
+    match *sign {
+        b'-' => {
             let back = unsigned(rest)?;
-            Some((count + 1).saturating_sub(back as usize))
+            Some((count + 1).saturating_sub(back))
         }
-        [b'+', rest @ ..] => Some(unsigned(rest)? as usize),
-        _ => Some(unsigned(text)? as usize),
+        b'+' => unsigned(rest),
+        _ => unsigned(text),
     }
 }
 
