@@ -3,12 +3,10 @@ use Rattle.std.proofs.Common.{◌≡◌, ◌∙◌, ℕ, ◌+◌, ◌<◌, Bool,
 use Rattle.std.proofs.Common.{false, List, [], ◌∷◌, ◌++◌, length, refl, sym, ap}
 use Rattle.std.proofs.Common.{subst, arith, Option, Some, None, unwrap_or}
 use Rattle.std.proofs.Common.{cond}
-use Rattle.std.proofs.lemmas.List.{length-map}
 use Rattle.mk_graph.specs.Nodes.{Node, number_of}
 use Rattle.mk_suffix.specs.Chains.{Suffixes, first_of, rule_between}
 use Rattle.mk_suffix.specs.Chains.{rules_of, chain_of}
 use Rattle.mk_suffix.specs.Extends.{IsMade, IsWay, AreWays}
-use Rattle.mk_suffix.specs.Made.{IsFor}
 use Rattle.mk_suffix.specs.Search.{Way, way_at, way_by}
 use Rattle.mk_suffix.specs.Search.{own_way}
 use Rattle.mk_suffix.specs.SearchView.{made_by}
@@ -53,10 +51,3 @@ pub made_by-chain_of : (nodes : List Node) (base : List ℕ) (way : Way) → IsM
     → made_by base way ≡ chain_of nodes base way.suffixes
 made_by-chain_of nodes base way made =
     ap (λ rules. record { names = (made_by base way).names; rules = rules }) made.rules
-
-pub IsFor-made : (nodes : List Node) (base : List ℕ) (way : Way) → IsMade nodes way
-    → IsFor nodes (made_by base way)
-IsFor-made nodes base way made = record {
-  rules = made.below;
-  as_many = length-map way.suffixes (λ (suffix : List ℕ). base ++ suffix) ∙ made.as_many;
-}

@@ -1,21 +1,16 @@
-use Rattle.std.proofs.Common.{◌≡◌, ◌∙◌, [], ◌∷◌, false, Some, None, sym, arith}
+use Rattle.std.proofs.Common.{◌≡◌, ◌∙◌, [], ◌∷◌, false, Some, None, arith}
 use Rattle.std.proofs.lemmas.Grind.{common_steps}
 use Rattle.std.specs.List.{list_any}
 use Rattle.std.specs.Option.{option_map}
 use Rattle.mk_suffix.proofs.FirstLemmas.{Leads-first, Leads-went}
 use Rattle.mk_suffix.proofs.FoundLemmas.{own_none}
-use Rattle.mk_suffix.proofs.MadeLemmas.{AreWays-first, IsFor-made}
+use Rattle.mk_suffix.proofs.MadeLemmas.{AreWays-first}
 use Rattle.mk_suffix.proofs.FirstLemmas.{answer-hit, answer-none}
 use Rattle.mk_suffix.proofs.LookLemmas.{OnErr-looked, OnLooks-map, OnLooks-none, OnLooks-then}
 use Rattle.mk_suffix.specs.Chains.{chain_of, first_found}
 use Rattle.mk_suffix.specs.Extends.{Found}
 use Rattle.mk_suffix.specs.Found.{is_found}
-use Rattle.mk_suffix.specs.SearchView.{way_of}
 use Rattle.mk_suffix.specs.Search.{own_way, reached, is_source}
-use Rattle.mk_suffix.specs.declared.fault.SuffixFault.TheVariants.{Failed as failed}
-use Rattle.mk_suffix.proofs.RefusalLemmas.{refused, HasCause-of_memory, HasCause-stays}
-use Rattle.mk_suffix.proofs.RefusalLemmas.{HasCause-passed_on, HasCause-behind}
-use Rattle.mk_world.proofs.CauseLemmas.{HasCause-behind_ok}
 use Rattle.mk_suffix.proofs.search.first_found.Goals as goal
 
 pub suffixes-init : goal.suffixes-init
@@ -112,83 +107,3 @@ returns-clause-told g c =
     (λ files none. answer-none nodes known own (is_found files nodes) base c.suffixes.search
     c.suffixes.at (omega (arith, c.suffixes-test.false, c.len.ensures, c.suffixes.invariant.place))
     c.suffixes.invariant.leads none)
-
-pub returns-in_err-search-clause-told : goal.returns-in_err-search-clause-told
-returns-in_err-search-clause-told g c =
-    refused _ _ c.from_residual.result c.from_residual.ensures.1
-
-pub returns-in_err-search-clause-made : goal.returns-in_err-search-clause-made
-returns-in_err-search-clause-made g c =
-    refused _ _ c.from_residual.result c.from_residual.ensures.1
-
-pub returns-in_err-search-clause-refused : goal.returns-in_err-search-clause-refused
-returns-in_err-search-clause-refused g c =
-    OnErr-looked _ _ _ (OnLooks-none _ (λ files. Unit {0}) (λ files. tt))
-
-pub returns-in_err-search-clause-cause : goal.returns-in_err-search-clause-cause
-returns-in_err-search-clause-cause g c =
-    HasCause-of_memory _ c.from_residual.result c.from_residual.ensures.1
-
-pub returns-in_err-search-clause-idle : goal.returns-in_err-search-clause-idle
-returns-in_err-search-clause-idle g c = c.requires.idle
-
-pub returns-in_err-step-clause-told : goal.returns-in_err-step-clause-told
-returns-in_err-step-clause-told g c =
-    refused _ _ c.from_residual-in_err-step.result c.from_residual-in_err-step.ensures.1
-
-pub returns-in_err-step-clause-made : goal.returns-in_err-step-clause-made
-returns-in_err-step-clause-made g c =
-    refused _ _ c.from_residual-in_err-step.result c.from_residual-in_err-step.ensures.1
-
-pub returns-in_err-step-clause-cause : goal.returns-in_err-step-clause-cause
-returns-in_err-step-clause-cause g c =
-    rw (sym c.suffixes.invariant.faults) (HasCause-passed_on _ _ c.from_residual-in_err-step.result
-    c.from_residual-in_err-step.ensures.1 c.in_err-step.ensures.cause)
-
-pub returns-in_err-step-clause-idle : goal.returns-in_err-step-clause-idle
-returns-in_err-step-clause-idle g c = c.in_err-step.ensures.idle
-
-pub returns-in_err-chain-clause-told : goal.returns-in_err-chain-clause-told
-returns-in_err-chain-clause-told g c =
-    refused _ _ c.from_residual-in_err-chain.result c.from_residual-in_err-chain.ensures.1
-
-pub returns-in_err-chain-clause-made : goal.returns-in_err-chain-clause-made
-returns-in_err-chain-clause-made g c =
-    refused _ _ c.from_residual-in_err-chain.result c.from_residual-in_err-chain.ensures.1
-
-pub returns-in_err-chain-clause-cause : goal.returns-in_err-chain-clause-cause
-returns-in_err-chain-clause-cause g c =
-    rw (sym c.suffixes.invariant.faults) (HasCause-behind _ _ c.from_residual-in_err-chain.result
-    c.from_residual-in_err-chain.ensures.1 c.in_ok-step.ensures.cause)
-
-pub returns-in_err-chain-clause-idle : goal.returns-in_err-chain-clause-idle
-returns-in_err-chain-clause-idle g c = c.in_ok-step.ensures.idle
-
-pub returns-in-Some-clause-made : goal.returns-in-Some-clause-made
-returns-in-Some-clause-made g c =
-    let hit = rw c.in-Some.is at c.in_ok-step.ensures.went in
-    rw (c.in_ok-chain.ensures) (IsFor-made c.args.graph.now c.args.base.now
-    (way_of c.extend.new.search c.in-Some.step) hit.made)
-
-pub returns-in-Some-clause-refused : goal.returns-in-Some-clause-refused
-returns-in-Some-clause-refused g c = tt
-
-pub returns-in-Some-clause-cause : goal.returns-in-Some-clause-cause
-returns-in-Some-clause-cause g c =
-    rw (sym c.suffixes.invariant.faults) (HasCause-behind_ok failed failed _ _ _ _
-    c.in_ok-step.ensures.cause (λ is. cc))
-
-pub returns-in-Some-clause-idle : goal.returns-in-Some-clause-idle
-returns-in-Some-clause-idle g c = c.in_ok-step.ensures.idle
-
-pub returns-clause-made : goal.returns-clause-made
-returns-clause-made g c = tt
-
-pub returns-clause-refused : goal.returns-clause-refused
-returns-clause-refused g c = tt
-
-pub returns-clause-cause : goal.returns-clause-cause
-returns-clause-cause g c = rw (c.suffixes.invariant.faults) (HasCause-stays _ _)
-
-pub returns-clause-idle : goal.returns-clause-idle
-returns-clause-idle g c = c.suffixes.invariant.idle

@@ -1,4 +1,4 @@
-use Rattle.std.proofs.Common.{◌≡◌, ◌∙◌, [], ◌∷◌, ◌++◌, Some, None, refl, sym, ap}
+use Rattle.std.proofs.Common.{◌≡◌, ◌∙◌, [], ◌∷◌, ◌++◌, Some, None, false, rules, refl, sym, ap}
 use Rattle.mk_suffix.proofs.FoundLemmas.{NoneFound-push}
 use Rattle.mk_suffix.specs.SearchView.{way_of}
 use Rattle.mk_world.proofs.CauseLemmas.{HasCause-behind_ok}
@@ -106,13 +106,13 @@ pub returns-then-branch-clause-told : goal.returns-then-branch-clause-told
 returns-then-branch-clause-told g c =
     let nodes = c.args.graph.now in
     let base = c.args.base.now in
-    let search = c.args.search.now in
+    let ways = c.args.search.now in
     let new = rw c.in-Some.is at c.in_ok-step.ensures in
     let name : c.bytes.result.now ≡ base ++ c.in-Some.step.suffix.now =
     c.bytes.ensures.value ∙ (c.in_ok-name.ensures ∙ ap (λ x. base ++ x) (sym new.suffix_is)) in
     OnLooks-map _ _
     (λ files. c.in_ok-is_found.field-0 ≡ is_found files nodes c.bytes.result.now)
-    (λ files. Found (is_found files nodes) base search search (Some c.in-Some.step))
+    (λ files. Found (is_found files nodes) base ways ways (Some c.in-Some.step))
     c.in_ok-is_found.ensures.told
     (λ files told. (
       λ own. refl,
@@ -155,18 +155,19 @@ pub returns-clause-told : goal.returns-clause-told
 returns-clause-told g c =
     let nodes = c.args.graph.now in
     let base = c.args.base.now in
-    let search = c.args.search.now in
+    let ways = c.args.search.now in
     let step = c.in-Some.step in
     let new = rw c.in-Some.is at c.in_ok-step.ensures in
     let name : c.bytes.result.now ≡ base ++ step.suffix.now =
     c.bytes.ensures.value ∙ (c.in_ok-name.ensures ∙ ap (λ x. base ++ x) (sym new.suffix_is)) in
+    let passed : c.in_ok-is_found.field-0 ≡ false = search rules in
     rw (c.in_ok-push.ensures.ok) (OnLooks-map _ _
     (λ files. c.in_ok-is_found.field-0 ≡ is_found files nodes c.bytes.result.now)
-    (λ files. Found (is_found files nodes) base search (search ++ way_of search step ∷ []) None)
+    (λ files. Found (is_found files nodes) base ways (ways ++ way_of ways step ∷ []) None)
     c.in_ok-is_found.ensures.told
-    (λ files told. NoneFound-push (is_found files nodes) base search search (way_of search step)
+    (λ files told. NoneFound-push (is_found files nodes) base ways ways (way_of ways step)
     step.suffix.now refl
-    (ap (is_found files nodes) (sym name) ∙ (sym told ∙ c.if-branch.false)) (λ own. refl)))
+    (ap (is_found files nodes) (sym name) ∙ (sym told ∙ passed)) (λ own. refl)))
 
 pub returns-clause-refused : goal.returns-clause-refused
 returns-clause-refused g c = tt
