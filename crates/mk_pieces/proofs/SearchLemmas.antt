@@ -12,8 +12,7 @@ use Rattle.memchr.specs.Find.{IsFirstByte, FindsNeedle, OccursAt, is_byte}
 use Rattle.memchr.proofs.lemmas.MatchLemmas.{OccursAt-part, OccursAt-from_part}
 use Rattle.mk_pieces.specs.Substitution.{first_place}
 
--- a test that is passed here finds this place
-pub passes_here : (test : Bool) (at : ℕ) → cond test (Some zero) None ≡ Some at
+passes_here : (test : Bool) (at : ℕ) → cond test (Some zero) None ≡ Some at
     → (test ≡ true) × (zero ≡ at)
 passes_here true at is = (refl, cc)
 passes_here false at is = cc
