@@ -40,16 +40,16 @@ use Rattle.mk_reader.specs.Results.{Gave, ReadBy}
 use Rattle.mk_reader.specs.declared.fault.ReadFault.TheVariants as read
 use Rattle.mk_reader.specs.declared.fault.ReadFault.{ReadFault}
 use Rattle.mk_run.proofs.CleanRunLemmas.{done-before, done-build}
-use Rattle.mk_run.specs.Building.{IsBuilt, unbuilt, Point, point}
+use Rattle.mk_modes.specs.Building.{IsBuilt, unbuilt, Point, point}
 use Rattle.mk_run.specs.CleanRuns.{ArePlansAlike, IsReadyRun, LeavesCleanFiles, bare, clean_files_of, clean_jobs_of, HasSameTask, LeavesThem, task_on}
-use Rattle.mk_run.specs.Ends.{IsOutside, of_plan, of_read}
-use Rattle.mk_run.specs.Meaning.{Outcome, asked, by_reading, ended}
-use Rattle.mk_run.specs.Runs.{Followed, Printed, Stands, Goes, Held}
+use Rattle.mk_modes.specs.Ends.{IsOutside, of_plan, of_read}
+use Rattle.mk_modes.specs.Meaning.{Outcome, asked, by_reading, ended}
+use Rattle.mk_modes.specs.Modes.{Followed, Printed, Stands, Goes, Held}
 use Rattle.mk_run.specs.TrueRuns.{IsTrueOrderRun, LeavesClean, built_in}
-use Rattle.mk_run.specs.declared.building.Went.{Went}
-use Rattle.mk_run.specs.declared.report.End.TheVariants.{Done, NoMemory, SinkFault}
-use Rattle.mk_run.specs.declared.report.End.{End}
-use Rattle.mk_run.specs.declared.report.Report.{Report}
+use Rattle.mk_modes.specs.declared.building.Went.{Went}
+use Rattle.mk_modes.specs.declared.report.End.TheVariants.{Done, NoMemory, SinkFault}
+use Rattle.mk_modes.specs.declared.report.End.{End}
+use Rattle.mk_modes.specs.declared.report.Report.{Report}
 use Rattle.mk_top.specs.Runs.{Does, Follows}
 use Rattle.mk_trace.specs.Builds.{build_after_all, first_build}
 use Rattle.mk_trace.specs.Ends.{IsOver, StandsBy}

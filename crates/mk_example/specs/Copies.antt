@@ -2,10 +2,10 @@
 use Rattle.std.specs.Prelude.{◌≡◌, ℕ, List, [], ◌∷◌, Option, Some, codes}
 use Rattle.mk_memworld.specs.Meaning.{language}
 use Rattle.mk_meta.specs.TrueHistory.{IsTrueHistory}
-use Rattle.mk_run.specs.Building.{point}
-use Rattle.mk_run.specs.Runs.{Held}
-use Rattle.mk_run.specs.declared.report.End.TheVariants.{Done}
-use Rattle.mk_run.specs.declared.report.Report.{Report}
+use Rattle.mk_modes.specs.Building.{point}
+use Rattle.mk_modes.specs.Modes.{Held}
+use Rattle.mk_modes.specs.declared.report.End.TheVariants.{Done}
+use Rattle.mk_modes.specs.declared.report.Report.{Report}
 use Rattle.mk_scopes.specs.declared.scopes.Env.{Env}
 use Rattle.mk_top.specs.Runs.{IsRun}
 use Rattle.mk_trace.specs.TrueBuilds.{longer}

@@ -51,11 +51,12 @@ use Rattle.mk_world.specs.declared.command.TaskLine.{TaskLine}
 use Rattle.mk_world.specs.declared.history.Happening.TheVariants as world
 use Rattle.mk_world.specs.declared.history.Happening.{Happening}
 use Rattle.mk_world.specs.declared.history.History.{History}
-use Rattle.mk_run.specs.Building.{IsEndOf}
+use Rattle.mk_modes.specs.Building.{IsEndOf}
 use Rattle.mk_run.specs.CleanRuns.{ArePlansAlike, HasSameTask, IsReadyRun, LeavesCleanFiles, bare, clean_files_of, clean_jobs_of, files_behind, job_on, jobs_on, left_by, lines_of_task, lines_on, task_on}
-use Rattle.mk_run.specs.Runs.{Closed, Held}
-use Rattle.mk_run.specs.declared.report.End.TheVariants.{Done, NoMemory, SinkFault}
-use Rattle.mk_run.specs.declared.report.End.{End}
+use Rattle.mk_modes.specs.Modes.{Held}
+use Rattle.mk_run.specs.Runs.{Closed}
+use Rattle.mk_modes.specs.declared.report.End.TheVariants.{Done, NoMemory, SinkFault}
+use Rattle.mk_modes.specs.declared.report.End.{End}
 
 -- files behind questions
 

@@ -22,18 +22,19 @@ use Rattle.mk_trace.specs.declared.event.Event.{Event}
 use Rattle.mk_trace.specs.declared.result.BuildResult.{BuildResult}
 use Rattle.mk_trace.specs.declared.result.BuildResult.TheVariants as build
 use Rattle.mk_world.specs.Talks.{Meaning}
-use Rattle.mk_run.specs.Building as building
-use Rattle.mk_run.specs.Building.{Point, point, unbuilt}
+use Rattle.mk_modes.specs.Building as building
+use Rattle.mk_modes.specs.Building.{Point, point, unbuilt}
 use Rattle.mk_run.specs.Completeness.{Completes, EndsWell, IsAnswerable, IsExplainable, IsFaultless, IsHindered, IsUnrefused}
-use Rattle.mk_run.specs.Ends.{IsOutside, of_explain, of_plan}
-use Rattle.mk_run.specs.Explaining as explaining
-use Rattle.mk_run.specs.Meaning.{Meant, Outcome, only, prints, explains, queries, shows, builds, by_reading}
-use Rattle.mk_run.specs.Querying as querying
-use Rattle.mk_run.specs.Runs.{Closed, Goes, Held, IsOrderRun, Printed, Stands}
-use Rattle.mk_run.specs.declared.building.Went.{Went}
-use Rattle.mk_run.specs.declared.report.End.{End}
-use Rattle.mk_run.specs.declared.report.End.TheVariants.{Done, NotUpToDate, NoMemory}
-use Rattle.mk_run.specs.declared.report.Report.{Report}
+use Rattle.mk_modes.specs.Ends.{IsOutside, of_explain, of_plan}
+use Rattle.mk_modes.specs.Explaining as explaining
+use Rattle.mk_modes.specs.Meaning.{Meant, Outcome, only, prints, explains, queries, shows, builds, by_reading}
+use Rattle.mk_modes.specs.Querying as querying
+use Rattle.mk_modes.specs.Modes.{Goes, Held, Printed, Stands}
+use Rattle.mk_run.specs.Runs.{Closed, IsOrderRun}
+use Rattle.mk_modes.specs.declared.building.Went.{Went}
+use Rattle.mk_modes.specs.declared.report.End.{End}
+use Rattle.mk_modes.specs.declared.report.End.TheVariants.{Done, NotUpToDate, NoMemory}
+use Rattle.mk_modes.specs.declared.report.Report.{Report}
 
 outside-hinders : (end : End) → IsOutside end → IsHindered end
 outside-hinders end (inl failed) = inl failed

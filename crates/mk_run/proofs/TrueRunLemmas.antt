@@ -24,16 +24,17 @@ use Rattle.mk_world.specs.declared.history.Happening.TheVariants.{Look, Ask}
 use Rattle.mk_world.specs.declared.history.History.{History}
 use Rattle.mk_run.proofs.CleanRunLemmas.{clean-run, done-before, done-build}
 use Rattle.mk_run.proofs.CompletenessLemmas.{completes}
-use Rattle.mk_run.specs.Building.{Point, point}
-use Rattle.mk_run.specs.Explaining.{Explanation}
-use Rattle.mk_run.specs.Meaning.{Meant, only, prints, explains, queries, shows, builds, by_reading}
-use Rattle.mk_run.specs.Querying.{Queries}
-use Rattle.mk_run.specs.Runs.{Followed, Goes, Held, IsOrderRun}
+use Rattle.mk_modes.specs.Building.{Point, point}
+use Rattle.mk_modes.specs.Explaining.{Explanation}
+use Rattle.mk_modes.specs.Meaning.{Meant, only, prints, explains, queries, shows, builds, by_reading}
+use Rattle.mk_modes.specs.Querying.{Queries}
+use Rattle.mk_modes.specs.Modes.{Followed, Goes, Held}
+use Rattle.mk_run.specs.Runs.{IsOrderRun}
 use Rattle.mk_run.specs.TrueRuns.{Built, IsTrueOrderRun, LeavesClean, StaysTrue, build, build_of, built_in, dry}
-use Rattle.mk_run.specs.declared.building.Went.{Went}
-use Rattle.mk_run.specs.declared.report.End.{End}
-use Rattle.mk_run.specs.declared.report.End.TheVariants.{Done}
-use Rattle.mk_run.specs.declared.report.Report.{Report}
+use Rattle.mk_modes.specs.declared.building.Went.{Went}
+use Rattle.mk_modes.specs.declared.report.End.{End}
+use Rattle.mk_modes.specs.declared.report.End.TheVariants.{Done}
+use Rattle.mk_modes.specs.declared.report.Report.{Report}
 
 -- what only asks
 

@@ -17,13 +17,14 @@ use Rattle.mk_query.specs.declared.result.QueryResult.TheVariants as query
 use Rattle.mk_scopes.specs.declared.scopes.Env.{Env}
 use Rattle.mk_trace.specs.Runs.{first_failure}
 use Rattle.mk_world.specs.Talks.{Meaning}
-use Rattle.mk_run.specs.Building.{Point, point}
-use Rattle.mk_run.specs.Meaning.{Meant, only, prints, explains, queries, shows, builds, printed, by_reading}
-use Rattle.mk_run.specs.Runs.{Goes, Held, IsOrderRun}
-use Rattle.mk_run.specs.declared.building.Went.{Went}
-use Rattle.mk_run.specs.declared.report.End.{End}
-use Rattle.mk_run.specs.declared.report.End.TheVariants.{Done, NotUpToDate, WorldFault, SinkFault, NoMemory}
-use Rattle.mk_run.specs.declared.report.Report.{Report}
+use Rattle.mk_modes.specs.Building.{Point, point}
+use Rattle.mk_modes.specs.Meaning.{Meant, only, prints, explains, queries, shows, builds, printed, by_reading}
+use Rattle.mk_modes.specs.Modes.{Goes, Held}
+use Rattle.mk_run.specs.Runs.{IsOrderRun}
+use Rattle.mk_modes.specs.declared.building.Went.{Went}
+use Rattle.mk_modes.specs.declared.report.End.{End}
+use Rattle.mk_modes.specs.declared.report.End.TheVariants.{Done, NotUpToDate, WorldFault, SinkFault, NoMemory}
+use Rattle.mk_modes.specs.declared.report.Report.{Report}
 
 -- The outside or want of memory alone is in the way of a plan.
 abbrev pub IsUnrefused : PlanFault → Type 0

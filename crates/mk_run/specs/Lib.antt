@@ -1,13 +1,4 @@
-pub mod Building
-pub mod Causes
 pub mod CleanRuns
 pub mod Completeness
-pub mod Ends
-pub mod Explaining
-pub mod Meaning
-pub mod Messages
-pub mod Querying
 pub mod Runs
-pub mod Showing
 pub mod TrueRuns
-pub mod Words

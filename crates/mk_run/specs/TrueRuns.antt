@@ -17,15 +17,16 @@ use Rattle.mk_world.specs.Talks.{Meaning}
 use Rattle.mk_world.specs.Told.{Told}
 use Rattle.mk_world.specs.declared.history.Happening.{Happening}
 use Rattle.mk_world.specs.declared.history.History.{History}
-use Rattle.mk_run.specs.Building.{Point, point}
+use Rattle.mk_modes.specs.Building.{Point, point}
 use Rattle.mk_run.specs.CleanRuns.{IsReadyRun, LeavesCleanFiles, bare}
 use Rattle.mk_run.specs.Completeness.{Completes}
-use Rattle.mk_run.specs.Meaning.{Meant, only, prints, explains, queries, shows, builds, by_reading}
-use Rattle.mk_run.specs.Runs.{Goes, Held, IsOrderRun}
-use Rattle.mk_run.specs.declared.building.Went.{Went}
-use Rattle.mk_run.specs.declared.report.End.{End}
-use Rattle.mk_run.specs.declared.report.End.TheVariants.{Done}
-use Rattle.mk_run.specs.declared.report.Report.{Report}
+use Rattle.mk_modes.specs.Meaning.{Meant, only, prints, explains, queries, shows, builds, by_reading}
+use Rattle.mk_modes.specs.Modes.{Goes, Held}
+use Rattle.mk_run.specs.Runs.{IsOrderRun}
+use Rattle.mk_modes.specs.declared.building.Went.{Went}
+use Rattle.mk_modes.specs.declared.report.End.{End}
+use Rattle.mk_modes.specs.declared.report.End.TheVariants.{Done}
+use Rattle.mk_modes.specs.declared.report.Report.{Report}
 
 -- what a run built or showed: what the history held when its plan was made, and what a build did
 pub data Built : Type 0 where

@@ -13,7 +13,7 @@ use Rattle.mk_plan.specs.Facts.{lists_of}
 use Rattle.mk_plan.specs.Plans.{are_ordered, planned}
 use Rattle.mk_plan.specs.declared.fault.PlanFault.{PlanFault}
 use Rattle.mk_plan.specs.declared.plan.PlanNode.{PlanNode}
-use Rattle.mk_run.specs.Explaining.{Explains}
+use Rattle.mk_modes.specs.Explaining.{Explains}
 use Rattle.mk_suffix.proofs.LookLemmas.{state_of-looks}
 use Rattle.mk_trace.specs.Builds.{moment}
 use Rattle.mk_trace.specs.declared.result.BuildResult.TheVariants as ended

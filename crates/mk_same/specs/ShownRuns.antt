@@ -3,10 +3,10 @@ use Rattle.std.specs.Prelude.{◌≡◌, List, [], map, Some, Ok, false}
 use Rattle.mk_explain.specs.declared.reason.Reason.{Reason}
 use Rattle.mk_flags.specs.declared.Flags.{Flags}
 use Rattle.mk_graph.specs.declared.Made.{Made}
-use Rattle.mk_run.specs.Building.{Point}
-use Rattle.mk_run.specs.Explaining.{IsExplainedRun}
-use Rattle.mk_run.specs.Showing.{IsShown}
-use Rattle.mk_run.specs.declared.building.Went.{Went}
+use Rattle.mk_modes.specs.Building.{Point}
+use Rattle.mk_modes.specs.Explaining.{IsExplainedRun}
+use Rattle.mk_modes.specs.Showing.{IsShown}
+use Rattle.mk_modes.specs.declared.building.Went.{Went}
 use Rattle.mk_trace.specs.declared.result.BuildResult.TheVariants as ended
 use Rattle.mk_world.specs.History.{state_of}
 use Rattle.mk_world.specs.Talks.{Meaning}

@@ -5,11 +5,11 @@ use Rattle.mk_cli.specs.Words as cli
 use Rattle.mk_cli.specs.declared.order.Order.{Order}
 use Rattle.mk_cli.specs.declared.order.Usage.{Usage}
 use Rattle.mk_cli.specs.declared.order.Usage.TheVariants.{Word, NoMemory as Want}
-use Rattle.mk_run.specs.Causes as below
-use Rattle.mk_run.specs.Meaning.{asked, taken}
-use Rattle.mk_run.specs.Runs.{Held}
-use Rattle.mk_run.specs.declared.report.End.{End}
-use Rattle.mk_run.specs.declared.report.End.TheVariants.{WorldFault, SinkFault, NoMemory}
+use Rattle.mk_modes.specs.Causes as below
+use Rattle.mk_modes.specs.Meaning.{asked, taken}
+use Rattle.mk_modes.specs.Modes.{Held}
+use Rattle.mk_modes.specs.declared.report.End.{End}
+use Rattle.mk_modes.specs.declared.report.End.TheVariants.{WorldFault, SinkFault, NoMemory}
 use Rattle.mk_world.specs.Causes.{Rose}
 use Rattle.mk_top.specs.Causes.{ComesFromInside, OutCause, WorldCause, SinkCause}
 use Rattle.mk_top.specs.Inside.{EndsInside}

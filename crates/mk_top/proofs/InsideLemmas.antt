@@ -4,12 +4,12 @@ use Rattle.mk_memworld.specs.Meaning.{language}
 use Rattle.mk_memworld.specs.Outages.{first_outages}
 use Rattle.mk_memworld.specs.declared.sink.MemSink.{MemSink}
 use Rattle.mk_memworld.specs.declared.world.MemWorld.{MemWorld}
-use Rattle.mk_run.specs.Building.{point}
-use Rattle.mk_run.specs.Causes.{WorldCause, SinkCause}
+use Rattle.mk_modes.specs.Building.{point}
+use Rattle.mk_modes.specs.Causes.{WorldCause, SinkCause}
 use Rattle.mk_run.specs.TrueRuns.{IsTrueOrderRun}
-use Rattle.mk_run.specs.declared.report.End.{End}
-use Rattle.mk_run.specs.declared.report.End.TheVariants.{Done, NoMemory}
-use Rattle.mk_run.specs.declared.report.Report.{Report}
+use Rattle.mk_modes.specs.declared.report.End.{End}
+use Rattle.mk_modes.specs.declared.report.End.TheVariants.{Done, NoMemory}
+use Rattle.mk_modes.specs.declared.report.Report.{Report}
 use Rattle.mk_top.specs.Inside as spec
 use Rattle.mk_top.specs.declared.inside.Request.{Request}
 

@@ -2,8 +2,8 @@
 use Rattle.std.proofs.Common.{◌≡◌, ◌∷◌, ◌++◌, [], List, ℕ, Ok, codes, refl}
 use Rattle.std.specs.Fmt.{digits}
 use Rattle.mk_cli.specs.Words as cli
-use Rattle.mk_run.specs.declared.report.End.TheVariants.{Done}
-use Rattle.mk_run.specs.declared.report.Report.{Report}
+use Rattle.mk_modes.specs.declared.report.End.TheVariants.{Done}
+use Rattle.mk_modes.specs.declared.report.Report.{Report}
 use Rattle.mk_trace.specs.declared.event.Event.TheVariants.{Kept, Start, End, Wait}
 use Rattle.mk_top.specs.Counts as counts
 use Rattle.mk_top.specs.Input as spec

@@ -1,11 +1,12 @@
 -- The top call, by what the words ask for.
 use Rattle.std.proofs.Common.{◌≡◌, ◌⊎◌, ◌∙◌, ℕ, List, [], inl, inr, refl, ap, subst}
-use Rattle.mk_run.specs.Building.{Point, unbuilt}
-use Rattle.mk_run.specs.Runs.{Closed, Held}
-use Rattle.mk_run.specs.declared.building.Went.{Went}
-use Rattle.mk_run.specs.declared.report.End.{End}
-use Rattle.mk_run.specs.declared.report.End.TheVariants.{NoMemory}
-use Rattle.mk_run.specs.declared.report.Report.{Report}
+use Rattle.mk_modes.specs.Building.{Point, unbuilt}
+use Rattle.mk_modes.specs.Modes.{Held}
+use Rattle.mk_run.specs.Runs.{Closed}
+use Rattle.mk_modes.specs.declared.building.Went.{Went}
+use Rattle.mk_modes.specs.declared.report.End.{End}
+use Rattle.mk_modes.specs.declared.report.End.TheVariants.{NoMemory}
+use Rattle.mk_modes.specs.declared.report.Report.{Report}
 use Rattle.mk_world.specs.History.{files_of}
 use Rattle.mk_world.specs.Sinks.{Gains}
 use Rattle.mk_memworld.specs.declared.world.MemWorld.{MemWorld}

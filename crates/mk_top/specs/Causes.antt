@@ -1,9 +1,9 @@
 -- The counts of faults over a run, with those of a generated world.
 use Rattle.std.specs.Prelude.{◌≡◌, ◌⊎◌, ℕ, ◌<◌, ◌≤◌, List, Option, Some, None, Result, Ok, Err}
 use Rattle.mk_cli.specs.declared.order.Order.{Order}
-use Rattle.mk_run.specs.Meaning.{asked}
-use Rattle.mk_run.specs.declared.report.End.{End}
-use Rattle.mk_run.specs.declared.report.End.TheVariants.{WorldFault, SinkFault}
+use Rattle.mk_modes.specs.Meaning.{asked}
+use Rattle.mk_modes.specs.declared.report.End.{End}
+use Rattle.mk_modes.specs.declared.report.End.TheVariants.{WorldFault, SinkFault}
 use Rattle.mk_world.specs.Causes.{Rose}
 use Rattle.mk_top.specs.Inside.{EndsInside}
 

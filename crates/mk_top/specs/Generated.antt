@@ -1,11 +1,12 @@
 -- What a run does that generates a world, and tells what was done there.
 use Rattle.std.specs.Prelude.{◌≡◌, ◌⊎◌, ℕ, List, []}
 use Rattle.mk_memworld.specs.declared.world.MemWorld.{MemWorld}
-use Rattle.mk_run.specs.Building.{Point}
-use Rattle.mk_run.specs.Runs.{Closed, Held}
-use Rattle.mk_run.specs.declared.report.End.{End}
-use Rattle.mk_run.specs.declared.report.End.TheVariants.{Done, SinkFault}
-use Rattle.mk_run.specs.declared.report.Report.{Report}
+use Rattle.mk_modes.specs.Building.{Point}
+use Rattle.mk_modes.specs.Modes.{Held}
+use Rattle.mk_run.specs.Runs.{Closed}
+use Rattle.mk_modes.specs.declared.report.End.{End}
+use Rattle.mk_modes.specs.declared.report.End.TheVariants.{Done, SinkFault}
+use Rattle.mk_modes.specs.declared.report.Report.{Report}
 use Rattle.mk_world.specs.History.{files_of}
 use Rattle.mk_world.specs.Sinks.{Gains, GainsPart}
 use Rattle.mk_top.specs.Counts.{told}

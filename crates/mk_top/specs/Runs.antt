@@ -2,13 +2,14 @@
 use Rattle.std.specs.Prelude.{◌≡◌, ℕ, List, [], Option, Some, None, Result, Ok, Err}
 use Rattle.mk_bytes.specs.Agrees.{Agrees}
 use Rattle.mk_cli.specs.declared.order.Order.{Order}
-use Rattle.mk_run.specs.Building.{Point}
-use Rattle.mk_run.specs.Meaning.{asked}
-use Rattle.mk_run.specs.Runs.{Closed, Held}
+use Rattle.mk_modes.specs.Building.{Point}
+use Rattle.mk_modes.specs.Meaning.{asked}
+use Rattle.mk_modes.specs.Modes.{Held}
+use Rattle.mk_run.specs.Runs.{Closed}
 use Rattle.mk_run.specs.TrueRuns.{IsTrueOrderRun}
-use Rattle.mk_run.specs.declared.report.End.{End}
-use Rattle.mk_run.specs.declared.report.End.TheVariants.{NoMemory}
-use Rattle.mk_run.specs.declared.report.Report.{Report}
+use Rattle.mk_modes.specs.declared.report.End.{End}
+use Rattle.mk_modes.specs.declared.report.End.TheVariants.{NoMemory}
+use Rattle.mk_modes.specs.declared.report.Report.{Report}
 use Rattle.mk_scopes.specs.declared.scopes.Env.{Env}
 use Rattle.mk_world.specs.Talks.{Meaning}
 use Rattle.mk_top.specs.Generated.{IsGenerated}

@@ -1,10 +1,10 @@
 //! A run: the words of the command line, a world and two sinks in; a report out.
 ghost use Rattle.std.specs.Prelude.{◌≡◌, ◌⊎◌, [], IsTrue};
 ghost use Rattle.mk_bytes.specs.Paths.{is_clean_directory};
-ghost use Rattle.mk_run.specs.Building.{AreJobs, point};
-ghost use Rattle.mk_run.specs.Causes.{EndCause};
-ghost use Rattle.mk_run.specs.Ends as ends;
-ghost use Rattle.mk_run.specs.declared.report.End.TheVariants.{
+ghost use Rattle.mk_modes.specs.Building.{AreJobs, point};
+ghost use Rattle.mk_modes.specs.Causes.{EndCause};
+ghost use Rattle.mk_modes.specs.Ends as ends;
+ghost use Rattle.mk_modes.specs.declared.report.End.TheVariants.{
   NoMemory as no_memory,
   SinkFault as sink_failed,
 };

@@ -1,4 +1,4 @@
-use Rattle.mk_run.proofs.MeaningLemmas.{SinkCause-closed}
+use Rattle.mk_modes.proofs.MeaningLemmas.{SinkCause-closed}
 use Rattle.mk_run.proofs.TrueRunLemmas.{true-run}
 use Rattle.mk_run.proofs.running.run_order.Goals as goal
 

@@ -1,0 +1,4 @@
+pub mod BuildingLemmas
+pub mod MeaningLemmas
+pub mod MessageLemmas
+pub mod PrintLemmas

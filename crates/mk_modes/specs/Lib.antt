@@ -1,0 +1,10 @@
+pub mod Building
+pub mod Causes
+pub mod Ends
+pub mod Explaining
+pub mod Meaning
+pub mod Messages
+pub mod Modes
+pub mod Querying
+pub mod Showing
+pub mod Words
