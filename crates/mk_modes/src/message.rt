@@ -326,7 +326,8 @@ fn write_failed<S: Sink>(sink: &mut S, name: &[u8], line: u32, status: u8) -> Re
     write_command(sink, name, number, b"status ", text, b"")
 }
 
-/// Writes the line of an end, if it has one. Takes no memory.
+/// Writes the line of an end of a run with these words, if it has one: `Done`, `NotUpToDate` and `SinkFault` have
+/// none. `SinkFault` where a write failed; a part of the line may stand then. Takes no memory.
 pub fn write_line<S: Sink>(sink: &mut S, words: &Texts, end: &End) -> Result<(), SinkFault>
     ensures done { OnOk result
         (Gains (S.held sink.old) (S.held sink.new) (spec.line_of words.now end.now)) }
