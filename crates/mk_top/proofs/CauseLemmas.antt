@@ -11,9 +11,9 @@ use Rattle.mk_modes.specs.Modes.{Held}
 use Rattle.mk_modes.specs.declared.report.End.{End}
 use Rattle.mk_modes.specs.declared.report.End.TheVariants.{WorldFault, SinkFault, NoMemory}
 use Rattle.mk_world.specs.Causes.{Rose}
-use Rattle.mk_top.specs.Causes.{ComesFromInside, OutCause, WorldCause, SinkCause}
-use Rattle.mk_top.specs.Inside.{EndsInside}
-use Rattle.mk_top.specs.Generated.{Generates, Prints}
+use Rattle.mk_top.specs.Causes.{ComesFromInside, WorldCause, SinkCause}
+use Rattle.mk_generate.specs.Inside.{EndsInside}
+use Rattle.mk_generate.specs.Generated.{Generates, OutCause, Prints}
 
 -- the causes of a run that generates nothing
 pub WorldCause-below : (before after : ℕ) (end : End) → below.WorldCause before after end
@@ -126,19 +126,3 @@ SinkCause-refused generated out before after went end never line = record {
     answered : (out < out) ⊎ (before < after) → end ≡ SinkFault
     answered (inl later) = absurd (omega (arith, later))
     answered (inr later) = line.answered later
-
--- what ends a run that told nothing, and one that told
-pub OutCause-nothing : (n faults : ℕ) (end : End) → EndsInside n end → OutCause n faults faults end
-OutCause-nothing n faults end ends = record {
-  kept = grind arith;
-  rose = λ is. inr (subst (EndsInside n) is ends);
-  answered = λ rose. absurd (omega (arith, rose));
-}
-
-pub OutCause-told : (n before after : ℕ) (end : End) → below.EndCause SinkFault before after end
-    → OutCause n before after end
-OutCause-told n before after end cause = record {
-  kept = cause.kept;
-  rose = λ is. inl (cause.rose is);
-  answered = cause.answered;
-}

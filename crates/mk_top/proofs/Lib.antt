@@ -1,6 +1,2 @@
 pub mod CauseLemmas
-pub mod CleanLemmas
-pub mod InputLemmas
-pub mod InsideLemmas
 pub mod RunLemmas
-mod Rows

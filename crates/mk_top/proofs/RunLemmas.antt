@@ -1,30 +1,13 @@
 -- The top call, by what the words ask for.
-use Rattle.std.proofs.Common.{◌≡◌, ◌⊎◌, ◌∙◌, ℕ, List, [], inl, inr, refl, ap, subst}
+use Rattle.std.proofs.Common.{◌≡◌, ◌∙◌, ℕ, List, refl, ap, subst}
 use Rattle.mk_modes.specs.Building.{Point, unbuilt}
 use Rattle.mk_modes.specs.Modes.{Held}
 use Rattle.mk_run.specs.Runs.{Closed}
 use Rattle.mk_modes.specs.declared.building.Went.{Went}
 use Rattle.mk_modes.specs.declared.report.End.{End}
-use Rattle.mk_modes.specs.declared.report.End.TheVariants.{NoMemory}
 use Rattle.mk_modes.specs.declared.report.Report.{Report}
-use Rattle.mk_world.specs.History.{files_of}
-use Rattle.mk_world.specs.Sinks.{Gains}
-use Rattle.mk_memworld.specs.declared.world.MemWorld.{MemWorld}
-use Rattle.mk_top.specs.Counts.{told}
-use Rattle.mk_top.specs.Inside as inside
-use Rattle.mk_top.specs.Generated as spec
+use Rattle.mk_generate.specs.Generated as spec
 use Rattle.mk_top.specs.Runs as runs
-
--- what ends behind two runs that have made all
-pub generates-told : (n : ℕ) (world : MemWorld) (first second : Report) (out : Held) (end : End)
-    → inside.BothMade n world first second
-    → ((end ≡ NoMemory) × Gains out.before out.after [])
-    ⊎ spec.Prints (told n first second (files_of world.chronicle)) out end
-    → spec.Generates n out end
-generates-told n world first second out end both (inl want) =
-    inl (record { ends = inl want.0; printed = want.1 })
-generates-told n world first second out end both (inr prints) =
-    inr (record { world = world; first = first; second = second; both = both; prints = prints })
 
 -- a run in a generated world that is closed
 pub generated-run : (n : ℕ) (words : List (List ℕ)) (first last : Point) (err : Held) (end : End)

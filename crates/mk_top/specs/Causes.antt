@@ -5,7 +5,7 @@ use Rattle.mk_modes.specs.Meaning.{asked}
 use Rattle.mk_modes.specs.declared.report.End.{End}
 use Rattle.mk_modes.specs.declared.report.End.TheVariants.{WorldFault, SinkFault}
 use Rattle.mk_world.specs.Causes.{Rose}
-use Rattle.mk_top.specs.Inside.{EndsInside}
+use Rattle.mk_generate.specs.Inside.{EndsInside}
 
 -- how many targets the words ask to generate, where they do
 abbrev pub generated_by : Result Order End → Option ℕ
@@ -38,9 +38,3 @@ pub record SinkCause (generated : Option ℕ) (out_before out_after err_before e
         → (Rose out_before out_after ⊎ Rose err_before err_after)
         ⊎ ComesFromInside generated SinkFault
     pub answered : (out_before < out_after) ⊎ (err_before < err_after) → end ≡ SinkFault
-
--- the count of standard output's faults over a run in a generated world
-pub record OutCause (n before after : ℕ) (end : End) : Type 0 where
-  pub kept : before ≤ after
-  pub rose : end ≡ SinkFault → Rose before after ⊎ EndsInside n SinkFault
-  pub answered : before < after → end ≡ SinkFault

@@ -1,6 +1,2 @@
 pub mod Causes
-pub mod Counts
-pub mod Generated
-pub mod Input
-pub mod Inside
 pub mod Runs

@@ -12,7 +12,7 @@ use Rattle.mk_modes.specs.declared.report.End.TheVariants.{NoMemory}
 use Rattle.mk_modes.specs.declared.report.Report.{Report}
 use Rattle.mk_scopes.specs.declared.scopes.Env.{Env}
 use Rattle.mk_world.specs.Talks.{Meaning}
-use Rattle.mk_top.specs.Generated.{IsGenerated}
+use Rattle.mk_generate.specs.Generated.{IsGenerated}
 
 -- Refused words, or want of memory for them: nothing is done, and standard error gains the line of the end.
 pub record IsRefused (end : End) (words : List (List ℕ)) (first last : Point) (err : Held)

@@ -1,61 +1,18 @@
 //! A run: the words of the command line, a world and two sinks in; a report out.
-ghost use Rattle.std.specs.Prelude.{◌≡◌, ◌⊎◌, [], IsTrue};
+ghost use Rattle.std.specs.Prelude.{◌≡◌, [], IsTrue};
 ghost use Rattle.mk_bytes.specs.Paths.{is_clean_directory};
 ghost use Rattle.mk_modes.specs.Building.{AreJobs, point};
-ghost use Rattle.mk_modes.specs.Causes.{EndCause};
 ghost use Rattle.mk_modes.specs.Ends as ends;
-ghost use Rattle.mk_modes.specs.declared.report.End.TheVariants.{
-  NoMemory as no_memory,
-  SinkFault as sink_failed,
-};
-ghost use Rattle.mk_world.specs.History.{files_of};
-ghost use Rattle.mk_world.specs.Sinks.{Gains};
 ghost use Rattle.mk_top.specs.Causes as causes;
-ghost use Rattle.mk_top.specs.Counts.{told as told_of};
-ghost use Rattle.mk_top.specs.Generated as generated;
 ghost use Rattle.mk_top.specs.Runs as runs;
 
-use crate::counts::told;
-use crate::inside::{Twice, run_twice};
 use mk_bytes::Texts;
 use mk_cli::Order;
-use mk_run::{End, Report, asked, close, run_order, unbuilt};
+use mk_generate::generate;
+use mk_run::{Report, asked, close, run_order, unbuilt};
 use mk_scopes::Env;
-use mk_world::{Sink, World, write_all};
+use mk_world::{Sink, World};
 use std::alloc::Global;
-
-// Tells what two runs in a generated world have done.
-fn tell<S: Sink>(alloc: Global, n: u32, twice: &Twice, out: &mut S) -> End
-    ensures tells { ((result ≡ no_memory) × Gains (S.held out.old) (S.held out.new) [])
-        ⊎ generated.Prints (told_of n twice.now.first twice.now.second
-        (files_of twice.now.world.chronicle))
-        (record { before = S.held out.old; after = S.held out.new }) result }
-    ensures cause { EndCause sink_failed (S.faults out.old) (S.faults out.new) result }
-{
-    let Ok(text) = told(alloc, n, &twice.first, &twice.second, &twice.world) else {
-        return End::NoMemory;
-    };
-    if write_all(out, &[text.bytes()]).is_err() {
-        return End::SinkFault;
-    }
-    End::Done
-}
-
-// Runs twice in a generated world, and tells what was done there.
-fn generate<S: Sink>(alloc: Global, n: u32, out: &mut S) -> End
-    ensures generates { generated.Generates n
-        (record { before = S.held out.old; after = S.held out.new }) result }
-    ensures cause { causes.OutCause n (S.faults out.old) (S.faults out.new) result }
-{
-    match run_twice(alloc, n) {
-        Ok(twice) => {
-            let end = tell(alloc, n, &twice, out);
-            drop(twice);
-            end
-        }
-        Err(end) => end,
-    }
-}
 
 // What a run does whose words ask for this.
 fn follow<W: World, S: Sink>(

@@ -1,0 +1,5 @@
+pub mod CleanLemmas
+pub mod GenerateLemmas
+pub mod InputLemmas
+pub mod InsideLemmas
+mod Rows

@@ -1,0 +1,4 @@
+pub mod Counts
+pub mod Generated
+pub mod Input
+pub mod Inside

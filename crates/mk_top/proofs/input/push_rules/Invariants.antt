@@ -1,7 +1,0 @@
-use Rattle.std.proofs.Common.{◌≡◌, ◌++◌, map}
-use Rattle.std.specs.List.{concat}
-use Rattle.mk_top.specs.Input as spec
-use Rattle.mk_top.proofs.input.push_rules.Given as goal
-
-abbrev pub invariant-loop-i : goal.invariant-loop-i
-invariant-loop-i l = l.text ≡ l.initial.text ++ concat (map (spec.rule l.n) (spec.below l.i))
