@@ -1,5 +1,5 @@
 -- What a run comes to that told of the runs in a generated world, or told nothing.
-use Rattle.std.proofs.Common.{◌≡◌, ◌⊎◌, ℕ, List, [], inl, inr, subst, arith}
+use Rattle.std.proofs.Common.{◌≡◌, ◌⊎◌, ℕ, [], inl, inr, subst, arith}
 use Rattle.mk_generate.specs.Counts.{told}
 use Rattle.mk_generate.specs.Generated as spec
 use Rattle.mk_generate.specs.Generated.{OutCause}
