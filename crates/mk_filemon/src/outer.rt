@@ -93,7 +93,11 @@ fn paths_in(alloc: Global, ignored: &[Text], traces: &Traces) -> Result<JobPaths
         return Err(NoMemory);
     };
     match traces.paths_that(alloc, ignored, Asked::Written) {
-        Ok(left) => Ok(JobPaths { found, missed, left }),
+        Ok(left) => Ok(JobPaths {
+            found,
+            missed,
+            left,
+        }),
         Err(fault) => {
             drop((found, missed));
             Err(fault)
