@@ -2,7 +2,7 @@
 use crate::refused::Refused;
 use crate::rows::{Row, check};
 use crate::texts::{are, texts};
-use mk_bytes::is_clean_directory;
+use mk_bytes::{Texts, is_clean_directory};
 use mk_cli::{Order, Usage, words};
 use std::alloc::Global;
 
@@ -24,10 +24,9 @@ impl Row for AskingRow {
 
     fn holds(&self, alloc: Global) -> Result<bool, Refused> {
         let all = texts(alloc, self.1)?;
-        match words(alloc, &all, CWD) {
-            Ok(order) => Ok(asks_for(&order, self.2)),
-            Err(_) => Ok(false),
-        }
+        let asks = are_asked(alloc, &all, self.2);
+        drop(all);
+        Ok(asks)
     }
 }
 
@@ -64,6 +63,16 @@ const ROWS: [AskingRow; 7] = [
         (1, false, 0, 0, 0, &[b"a/b", b"c", b"=x"]),
     ),
 ];
+
+// Whether the words ask for this.
+fn are_asked(alloc: Global, all: &Texts, asked: Asked) -> bool {
+    let Ok(order) = words(alloc, all, CWD) else {
+        return false;
+    };
+    let asks = asks_for(&order, asked);
+    drop(order);
+    asks
+}
 
 fn asks_for(order: &Order, asked: Asked) -> bool {
     let (jobs, keep_going, files, sets, prints, targets) = asked;

@@ -2,7 +2,7 @@
 use crate::refused::Refused;
 use crate::rows::{Row, check};
 use crate::texts::texts;
-use mk_bytes::{Items, NoMemory, Text};
+use mk_bytes::{Items, NoMemory, Text, Texts};
 use mk_for::{Bodies, ForFault, turn, unroll};
 use mk_lines::{LogLine, LogLines};
 use std::alloc::Global;
@@ -86,19 +86,43 @@ fn are_wanted(found: &Result<Bodies, ForFault>, wanted: &Result<&[Bytes], ForFau
     }
 }
 
+// A body, names and words.
+#[derive(Drop)]
+struct Given {
+    body: LogLines,
+    names: Texts,
+    words: Texts,
+}
+
+fn given(alloc: Global, line: &[u8], names: &[Bytes], words: &[Bytes]) -> Result<Given, NoMemory> {
+    Ok(Given {
+        body: body(alloc, line)?,
+        names: texts(alloc, names)?,
+        words: texts(alloc, words)?,
+    })
+}
+
+// Whether the turns over words have these lines.
+fn has_turns(alloc: Global, given: &Given, wanted: &Result<&[Bytes], ForFault>) -> bool {
+    if given.names.is_empty() {
+        return false;
+    }
+    let bodies = unroll(alloc, &given.body, &given.names, &given.words);
+    let are = are_wanted(&bodies, wanted);
+    drop(bodies);
+    are
+}
+
 impl Row for TurnsRow {
     fn shows(&self) -> &'static str {
         self.0
     }
 
     fn holds(&self, alloc: Global) -> Result<bool, Refused> {
-        let body = body(alloc, self.1)?;
-        let names = texts(alloc, self.2)?;
-        let words = texts(alloc, self.3)?;
-        if names.is_empty() {
-            return Ok(false);
-        }
-        Ok(are_wanted(&unroll(alloc, &body, &names, &words), &self.4))
+        let given = given(alloc, self.1, self.2, self.3)?;
+        let has = has_turns(alloc, &given, &self.4);
+        drop(given);
+        Ok(has)
     }
 }
 
@@ -109,13 +133,17 @@ fn loops_have_turns(rt: HostRuntime) {
 
 // Whether the second turn over four words and two names has this line.
 fn is_second_turn(alloc: Global, line: &[u8], wanted: &[u8]) -> Result<bool, NoMemory> {
-    let body = body(alloc, line)?;
-    let names = texts(alloc, &[b"a", b"b"])?;
-    let words = texts(alloc, &[b"p", b"q", b"r", b"s"])?;
-    if names.len() != 2 || words.len() != 4 {
+    let given = given(alloc, line, &[b"a", b"b"], &[b"p", b"q", b"r", b"s"])?;
+    let is = is_turn(alloc, &given, wanted);
+    drop(given);
+    is
+}
+
+fn is_turn(alloc: Global, given: &Given, wanted: &[u8]) -> Result<bool, NoMemory> {
+    if given.names.len() != 2 || given.words.len() != 4 {
         return Ok(false);
     }
-    let lines = turn(alloc, &body, &names, &words, 1)?;
+    let lines = turn(alloc, &given.body, &given.names, &given.words, 1)?;
     Ok(is_body(&lines, wanted))
 }
 

@@ -168,10 +168,17 @@ fn meta_files_have_one_spelling(rt: HostRuntime) {
     check(&rt, rt.alloc(), &TEXTS);
 }
 
+fn is_meta(alloc: Global, text: &[u8]) -> Result<bool, NoMemory> {
+    let meta = read_meta(alloc, text)?;
+    let is_some = meta.is_some();
+    drop(meta);
+    Ok(is_some)
+}
+
 // The length of the first beginning of the sample that is a meta file.
 fn first_beginning(alloc: Global) -> Result<Option<usize>, NoMemory> {
     for len in 0..SAMPLE.len() {
-        if read_meta(alloc, &SAMPLE[..len])?.is_some() {
+        if is_meta(alloc, &SAMPLE[..len])? {
             return Ok(Some(len));
         }
     }
@@ -261,6 +268,8 @@ fn is_job(meta: &Option<Meta>) -> bool {
 #[test]
 fn a_job_is_read(rt: HostRuntime) -> Result<(), Refused> {
     let meta = read_meta(rt.alloc(), SAMPLE)?;
-    assert!(rt; is_job(&meta));
+    let is_job = is_job(&meta);
+    drop(meta);
+    assert!(rt; is_job);
     Ok(())
 }

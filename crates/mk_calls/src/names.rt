@@ -26,12 +26,20 @@ fn has_two(pool: &Pool) -> bool {
     pool.find(b"c").is_none() && pool.len() == 2 && pool.text(Name(1)) == b"b".as_slice()
 }
 
+// The same of a new pool, and whether it has the two texts then.
+fn shared(alloc: Global) -> Result<(Option<&'static str>, bool), PoolFault> {
+    let mut pool = Pool::new(alloc)?;
+    let other = first_other(&mut pool);
+    let has_two = has_two(&pool);
+    drop(pool);
+    Ok((other?, has_two))
+}
+
 #[test]
 fn equal_texts_share_a_name(rt: HostRuntime) -> Result<(), Refused> {
-    let mut pool = Pool::new(rt.alloc())?;
-    let other = first_other(&mut pool)?;
+    let (other, has_two) = shared(rt.alloc())?;
     assert_eq!(rt; other, None);
-    assert!(rt; has_two(&pool));
+    assert!(rt; has_two);
     Ok(())
 }
 
@@ -50,11 +58,18 @@ fn is_full(pool: &mut Pool) -> bool {
         && pool.intern(b"\0\0\0\0") == Ok(Name(0))
 }
 
+// Whether a pool with all names is full.
+fn is_filled(alloc: Global) -> Result<bool, PoolFault> {
+    let mut pool = Pool::new(alloc)?;
+    let filled = fill(&mut pool);
+    let is_full = is_full(&mut pool);
+    drop(pool);
+    filled.and(Ok(is_full))
+}
+
 #[test]
 fn a_full_pool_takes_no_new_text(rt: HostRuntime) -> Result<(), Refused> {
-    let mut pool = Pool::new(rt.alloc())?;
-    fill(&mut pool)?;
-    assert!(rt; is_full(&mut pool));
+    assert!(rt; is_filled(rt.alloc())?);
     Ok(())
 }
 

@@ -331,13 +331,18 @@ fn task_of(alloc: Global) -> Result<Option<Task>, NoMemory> {
     let Some(meta) = read_meta(alloc, JOB)? else {
         return Ok(None);
     };
-    let lines = compared(alloc, &meta.lines)?;
-    Ok(Some(Task {
-        lines,
-        cwd: meta.cwd,
-        target: meta.target,
-        exports: meta.exports,
-    }))
+    match compared(alloc, &meta.lines) {
+        Ok(lines) => Ok(Some(Task {
+            lines,
+            cwd: meta.cwd,
+            target: meta.target,
+            exports: meta.exports,
+        })),
+        Err(fault) => {
+            drop(meta);
+            Err(fault)
+        }
+    }
 }
 
 fn compared(alloc: Global, lines: &Lines) -> Result<Lines, NoMemory> {
@@ -383,8 +388,22 @@ fn times_of(alloc: Global, row: &ReasonRow) -> Result<Times, NoMemory> {
 
 fn why_by(alloc: Global, row: &ReasonRow, task: &Task) -> Result<Option<Why>, NoMemory> {
     let times = times_of(alloc, row)?;
+    let why = why_at(alloc, row, task, &times);
+    drop(times);
+    why
+}
+
+// The reason by these times.
+fn why_at(
+    alloc: Global,
+    row: &ReasonRow,
+    task: &Task,
+    times: &Times,
+) -> Result<Option<Why>, NoMemory> {
     let meta = read_meta(alloc, row.meta)?;
-    Ok(stale(meta.as_ref(), task, &row.mode, &times))
+    let why = stale(meta.as_ref(), task, &row.mode, times);
+    drop(meta);
+    Ok(why)
 }
 
 impl Row for ReasonRow {
@@ -394,7 +413,11 @@ impl Row for ReasonRow {
 
     fn holds(&self, alloc: Global) -> Result<bool, Refused> {
         match task_of(alloc)? {
-            Some(task) => Ok(why_by(alloc, self, &task)? == self.wanted),
+            Some(task) => {
+                let why = why_by(alloc, self, &task);
+                drop(task);
+                Ok(why? == self.wanted)
+            }
             None => Ok(false),
         }
     }
