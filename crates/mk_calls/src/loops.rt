@@ -88,14 +88,14 @@ fn are_wanted(found: &Result<Bodies, ForFault>, wanted: &Result<&[Bytes], ForFau
 
 // A body, names and words.
 #[derive(Drop)]
-struct Given {
+struct Loop {
     body: LogLines,
     names: Texts,
     words: Texts,
 }
 
-fn given(alloc: Global, line: &[u8], names: &[Bytes], words: &[Bytes]) -> Result<Given, NoMemory> {
-    Ok(Given {
+fn given(alloc: Global, line: &[u8], names: &[Bytes], words: &[Bytes]) -> Result<Loop, NoMemory> {
+    Ok(Loop {
         body: body(alloc, line)?,
         names: texts(alloc, names)?,
         words: texts(alloc, words)?,
@@ -103,7 +103,7 @@ fn given(alloc: Global, line: &[u8], names: &[Bytes], words: &[Bytes]) -> Result
 }
 
 // Whether the turns over words have these lines.
-fn has_turns(alloc: Global, given: &Given, wanted: &Result<&[Bytes], ForFault>) -> bool {
+fn has_turns(alloc: Global, given: &Loop, wanted: &Result<&[Bytes], ForFault>) -> bool {
     if given.names.is_empty() {
         return false;
     }
@@ -139,7 +139,7 @@ fn is_second_turn(alloc: Global, line: &[u8], wanted: &[u8]) -> Result<bool, NoM
     is
 }
 
-fn is_turn(alloc: Global, given: &Given, wanted: &[u8]) -> Result<bool, NoMemory> {
+fn is_turn(alloc: Global, given: &Loop, wanted: &[u8]) -> Result<bool, NoMemory> {
     if given.names.len() != 2 || given.words.len() != 4 {
         return Ok(false);
     }
