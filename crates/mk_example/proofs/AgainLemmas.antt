@@ -12,7 +12,7 @@ use Rattle.mk_decision.specs.Decisions.{Work}
 use Rattle.mk_filemon.proofs.PathLemmas.{same_bytes}
 use Rattle.mk_headline.proofs.PlanLemmas.{meta_path-is}
 use Rattle.mk_headline.specs.Plans.{clean_plan, is_meta_path}
-use Rattle.mk_memworld.specs.Meaning.{language}
+use Rattle.mk_commands.specs.Meaning.{language}
 use Rattle.mk_meta.specs.Texts.{meta_text}
 use Rattle.mk_meta.specs.TrueHistory.{IsTrueHistory, meta_path}
 use Rattle.mk_trace.proofs.TrueTexts.{true-same}

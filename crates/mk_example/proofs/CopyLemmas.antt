@@ -19,7 +19,7 @@ use Rattle.mk_graph.specs.declared.Made.{Made}
 use Rattle.mk_headline.proofs.PlanLemmas.{meta_path-is}
 use Rattle.mk_headline.specs.Plans.{clean_plan, is_meta_path, makes_file, has_job}
 use Rattle.mk_headline.specs.Premises.{GoesByMetaMode, IsWellMade}
-use Rattle.mk_memworld.specs.Meaning.{language}
+use Rattle.mk_commands.specs.Meaning.{language}
 use Rattle.mk_meta.specs.Texts.{meta_text}
 use Rattle.mk_meta.specs.TrueHistory.{meta_path}
 use Rattle.mk_meta.specs.declared.meta.Meta.{Meta}

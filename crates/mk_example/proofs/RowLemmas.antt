@@ -39,7 +39,7 @@ use Rattle.mk_graph.specs.declared.Made.{Made}
 use Rattle.mk_graph.specs.declared.attr.Attr.TheVariants.{Target}
 use Rattle.mk_lines.specs.Comment.{before_comment, unescaped}
 use Rattle.mk_lines.specs.Lines.{physical_lines, line_groups, joined}
-use Rattle.mk_memworld.specs.Meaning.{language}
+use Rattle.mk_commands.specs.Meaning.{language}
 use Rattle.mk_plan.specs.Oodate.{refers}
 use Rattle.mk_plan.specs.PlanLaws.{plan_names}
 use Rattle.mk_plan.specs.Plans.{planned}

@@ -1,6 +1,6 @@
 -- A makefile of one target, and what its runs leave.
 use Rattle.std.specs.Prelude.{◌≡◌, ℕ, List, [], ◌∷◌, Option, Some, codes}
-use Rattle.mk_memworld.specs.Meaning.{language}
+use Rattle.mk_commands.specs.Meaning.{language}
 use Rattle.mk_meta.specs.TrueHistory.{IsTrueHistory}
 use Rattle.mk_modes.specs.Building.{point}
 use Rattle.mk_modes.specs.Modes.{Held}

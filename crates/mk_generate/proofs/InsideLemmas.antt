@@ -1,6 +1,6 @@
 -- Runs in a generated world, one behind the other.
 use Rattle.std.proofs.Common.{◌≡◌, ◌⊎◌, ℕ, List, [], Result, Ok, Err, Some, IfOk, IfErr, inl, inr, sym, ap, subst}
-use Rattle.mk_memworld.specs.Meaning.{language}
+use Rattle.mk_commands.specs.Meaning.{language}
 use Rattle.mk_memworld.specs.Outages.{first_outages}
 use Rattle.mk_memworld.specs.declared.sink.MemSink.{MemSink}
 use Rattle.mk_memworld.specs.declared.world.MemWorld.{MemWorld}

@@ -2,10 +2,10 @@
 use Rattle.std.specs.Prelude.{◌≡◌, ◌⊎◌, ℕ, ◌+◌, true, List, [], ◌∷◌, Some, codes}
 use Rattle.mk_cli.specs.Orders.{no_flags, no_order}
 use Rattle.mk_cli.specs.declared.order.Order.{Order}
+use Rattle.mk_commands.specs.Clock.{last_number}
+use Rattle.mk_commands.specs.Meaning.{language}
 use Rattle.mk_memworld.specs.Base.{base_of}
 use Rattle.mk_memworld.specs.Chronicle.{with_event}
-use Rattle.mk_memworld.specs.Clock.{last_number}
-use Rattle.mk_memworld.specs.Meaning.{language}
 use Rattle.mk_memworld.specs.Outages.{first_outages}
 use Rattle.mk_memworld.specs.declared.sink.MemSink.{MemSink}
 use Rattle.mk_memworld.specs.declared.world.MemWorld.{MemWorld}

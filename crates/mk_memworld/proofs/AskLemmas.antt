@@ -11,13 +11,13 @@ use Rattle.mk_world.specs.declared.step.Ended.{Ended}
 use Rattle.mk_world.proofs.CallLemmas.{adds_nothing}
 use Rattle.mk_world.proofs.ChangeLemmas.{IsRising-steps}
 use Rattle.mk_world.proofs.TalkLemmas.{does-is, doings_equal}
+use Rattle.mk_commands.specs.Clock.{timed}
+use Rattle.mk_commands.specs.Meaning.{language}
+use Rattle.mk_commands.specs.Rest.{answer_of, doing_of}
+use Rattle.mk_commands.specs.declared.rest.Rest.{Rest}
 use Rattle.mk_memworld.specs.Chronicle.{with_event}
-use Rattle.mk_memworld.specs.Clock.{timed}
-use Rattle.mk_memworld.specs.Meaning.{language}
-use Rattle.mk_memworld.specs.Rest.{answer_of, doing_of}
-use Rattle.mk_memworld.specs.declared.rest.Rest.{Rest}
-use Rattle.mk_memworld.proofs.TimeLemmas.{AreRising-timed, deeds-timed}
 use Rattle.mk_memworld.specs.Running.{AddsSteps}
+use Rattle.mk_commands.proofs.TimeLemmas.{AreRising-timed, deeds-timed}
 use Rattle.mk_memworld.proofs.RunningLemmas.{AddsEvents-behind}
 use Rattle.mk_memworld.proofs.WorldLemmas.{adds_event}
 

@@ -5,8 +5,8 @@ use Rattle.mk_world.specs.History.{first_state, last_time, state_of}
 use Rattle.mk_world.specs.declared.history.Happening.{Happening}
 use Rattle.mk_world.specs.declared.history.History.{History}
 use Rattle.mk_world.proofs.CallLemmas.{after_all-append}
+use Rattle.mk_commands.specs.Files.{files_in}
 use Rattle.mk_memworld.specs.Chronicle.{IsPresent, told, with_event, with_events}
-use Rattle.mk_memworld.specs.Files.{files_in}
 use Rattle.mk_memworld.specs.declared.chronicle.Chronicle.TheInside.{Inside}
 
 pub state_of-with_event : (old new : History) (event : Happening) → new ≡ with_event old event

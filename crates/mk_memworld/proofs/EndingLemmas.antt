@@ -19,19 +19,19 @@ use Rattle.mk_world.specs.declared.step.Next.TheVariants.{Over}
 use Rattle.mk_world.proofs.CallLemmas.{adds_steps_own, after_all-append, state_of-run}
 use Rattle.mk_world.proofs.ChangeLemmas.{contents-effected_all, effected_all-append, last_time-append}
 use Rattle.mk_world.proofs.TalkLemmas.{deed_at-told}
+use Rattle.mk_commands.specs.Clock.{numbers, time_of, timed}
+use Rattle.mk_commands.specs.Language.{most_answers}
+use Rattle.mk_commands.specs.Meaning.{language}
 use Rattle.mk_memworld.specs.Children.{without_first}
 use Rattle.mk_memworld.specs.Chronicle.{with_event, with_events}
-use Rattle.mk_memworld.specs.Clock.{numbers, time_of, timed}
 use Rattle.mk_memworld.specs.Endings.{ended_as, ended_by, numbers_in, numbers_left, rest_of, steps_of, to_end, told_by, told_of}
-use Rattle.mk_memworld.specs.Language.{most_answers}
-use Rattle.mk_memworld.specs.Meaning.{language}
 use Rattle.mk_memworld.specs.Running.{AddsSteps, IsRest, IsRestOf}
 use Rattle.mk_memworld.proofs.ChildLemmas.{tickets_of-without}
 use Rattle.mk_world.proofs.ChildLemmas.{child_in-stepped, child_in-ticket, tickets_of-stepped, without_child-stepped}
+use Rattle.mk_commands.proofs.RestLemmas.{asked_short}
+use Rattle.mk_commands.proofs.StepLemmas.{last_time-step}
 use Rattle.mk_memworld.proofs.ChronicleLemmas.{state_of-with_event}
-use Rattle.mk_memworld.proofs.RestLemmas.{asked_short}
 use Rattle.mk_memworld.proofs.RunningLemmas.{AddsSteps-more, AddsSteps-none, AddsSteps-then, lawful_by, longer_by, may_step, run_of_steps}
-use Rattle.mk_memworld.proofs.StepLemmas.{last_time-step}
 
 -- A command asks no more often than it may.
 talks-within : (cmd : Cmd) (seen : List Answer) (deed : Deed) (deeds : List Deed) (status : ℕ)

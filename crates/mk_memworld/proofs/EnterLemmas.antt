@@ -2,7 +2,7 @@
 use Rattle.std.proofs.Common.{◌≡◌, ℕ, ◌+◌, ◌<◌, List, Some, slice_get, sym, ◌∙◌, ap, subst}
 use Rattle.mk_world.specs.History.{state_of}
 use Rattle.mk_world.specs.Talks.{Doing}
-use Rattle.mk_memworld.specs.Clock.{last_number, numbers}
+use Rattle.mk_commands.specs.Clock.{last_number, numbers}
 use Rattle.mk_memworld.specs.Endings.{numbers_left}
 use Rattle.mk_memworld.specs.Going.{IsTurn}
 use Rattle.mk_memworld.specs.Running.{IsRest}

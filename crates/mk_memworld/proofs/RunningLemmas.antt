@@ -10,11 +10,11 @@ use Rattle.mk_world.specs.declared.history.Happening.TheVariants.{Step}
 use Rattle.mk_world.specs.declared.history.History.{History}
 use Rattle.mk_world.specs.declared.step.Deed.{Deed}
 use Rattle.mk_world.proofs.CallLemmas.{MayAll-append, adds_steps_own, after_all-append, state_of-run}
+use Rattle.mk_commands.specs.Clock.{time_of}
+use Rattle.mk_commands.specs.Meaning.{language}
 use Rattle.mk_memworld.specs.Chronicle.{with_event}
-use Rattle.mk_memworld.specs.Clock.{time_of}
-use Rattle.mk_memworld.specs.Meaning.{language}
 use Rattle.mk_memworld.specs.Running.{AddsSteps}
-use Rattle.mk_memworld.proofs.StepLemmas.{IsRising-step}
+use Rattle.mk_commands.proofs.StepLemmas.{IsRising-step}
 
 AreSteps-append : (first second : List Happening) → AreSteps first → AreSteps second
     → AreSteps (first ++ second)

@@ -15,20 +15,20 @@ use Rattle.mk_world.specs.declared.step.Next.TheVariants.{More, Over}
 use Rattle.mk_world.specs.declared.step.Request.{Request}
 use Rattle.mk_world.proofs.ChangeLemmas.{contents-effected_all}
 use Rattle.mk_world.proofs.TalkLemmas.{deed_on-right}
+use Rattle.mk_commands.specs.Clock.{time_of}
+use Rattle.mk_commands.specs.Language.{language_next}
+use Rattle.mk_commands.specs.Rest.{doing_of}
+use Rattle.mk_commands.specs.Steps.{after_step, child_after, deed_at_next, ends_at, numbers_of_step, step_of, with_step}
+use Rattle.mk_commands.specs.declared.rest.Rest.{Rest}
 use Rattle.mk_memworld.specs.Chronicle.{with_event}
-use Rattle.mk_memworld.specs.Clock.{time_of}
 use Rattle.mk_memworld.specs.Going.{IsTurn}
-use Rattle.mk_memworld.specs.Language.{language_next}
-use Rattle.mk_memworld.specs.Rest.{doing_of}
 use Rattle.mk_memworld.specs.Running.{AddsSteps, IsRest, IsRestOf}
-use Rattle.mk_memworld.specs.Schedule.{at_end, deed_at_next, deed_by, deed_for, deed_of, ends_at, gone_on, newly_ended, next_deed, stepped_on}
-use Rattle.mk_memworld.specs.Steps.{after_step, child_after, numbers_of_step, step_of, with_step}
+use Rattle.mk_memworld.specs.Schedule.{at_end, deed_by, deed_for, deed_of, gone_on, newly_ended, next_deed, stepped_on}
 use Rattle.mk_memworld.specs.declared.going.Going.{Going}
-use Rattle.mk_memworld.specs.declared.rest.Rest.{Rest}
 use Rattle.mk_world.proofs.ChildLemmas.{child_in-other, child_in-stepped, child_in-ticket, tickets_of-stepped}
+use Rattle.mk_commands.proofs.StepLemmas.{last_time-step}
 use Rattle.mk_memworld.proofs.ChronicleLemmas.{state_of-with_event}
 use Rattle.mk_memworld.proofs.RunningLemmas.{AddsSteps-more, AddsSteps-none, may_step}
-use Rattle.mk_memworld.proofs.StepLemmas.{last_time-step}
 
 -- a next step is that of a request
 record Requested (store : Store) (next : Next) (deed : Deed) : Type 0 where

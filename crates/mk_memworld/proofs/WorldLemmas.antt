@@ -14,8 +14,8 @@ use Rattle.mk_world.specs.declared.history.Happening.{Happening}
 use Rattle.mk_world.specs.declared.history.Happening.TheVariants.{Left}
 use Rattle.mk_world.specs.declared.history.History.{History}
 use Rattle.mk_world.proofs.CallLemmas.{adds_nothing, adds_own, no_tickets}
+use Rattle.mk_commands.specs.Meaning.{language}
 use Rattle.mk_memworld.specs.Chronicle.{with_event}
-use Rattle.mk_memworld.specs.Meaning.{language}
 use Rattle.mk_memworld.specs.Outages.{FailsWhere, OnFailed}
 use Rattle.mk_memworld.specs.Running.{AddsSteps, GivesUp, OfOldest}
 use Rattle.mk_world.proofs.ChildLemmas.{child_in-first, without_child-first}

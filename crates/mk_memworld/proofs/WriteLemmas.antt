@@ -5,9 +5,9 @@ use Rattle.mk_world.specs.History.{Effect, State, May, children_after, effected,
 use Rattle.mk_world.specs.declared.history.Child.{Child}
 use Rattle.mk_world.specs.declared.history.History.{History}
 use Rattle.mk_world.proofs.CallLemmas.{adds_nothing}
+use Rattle.mk_commands.specs.Files.{files_in}
+use Rattle.mk_commands.specs.Meaning.{language}
 use Rattle.mk_memworld.specs.Chronicle.{IsPresent, with_event}
-use Rattle.mk_memworld.specs.Files.{files_in}
-use Rattle.mk_memworld.specs.Meaning.{language}
 use Rattle.mk_memworld.specs.Running.{AddsSteps}
 use Rattle.mk_memworld.specs.Writes.{OwnPartOf, event_of, part_written}
 use Rattle.mk_memworld.specs.declared.chronicle.Chronicle.TheInside.{Inside}

@@ -3,7 +3,7 @@ use Rattle.std.specs.Prelude.{◌≡◌, ◌+◌, ◌≤◌, List, [], ◌∷◌
 use Rattle.mk_world.specs.History.{state_of}
 use Rattle.mk_world.specs.declared.history.Happening.{Happening}
 use Rattle.mk_world.specs.declared.history.History.{History}
-use Rattle.mk_memworld.specs.Files.{files_in}
+use Rattle.mk_commands.specs.Files.{files_in}
 use Rattle.mk_memworld.specs.declared.chronicle.Chronicle.TheInside.{Inside}
 
 abbrev pub told : Inside → History

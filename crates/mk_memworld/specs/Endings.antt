@@ -11,10 +11,10 @@ use Rattle.mk_world.specs.declared.history.History.{History}
 use Rattle.mk_world.specs.declared.history.Timed.{Timed}
 use Rattle.mk_world.specs.declared.step.Deed.{Deed}
 use Rattle.mk_world.specs.declared.step.Ended.{Ended}
+use Rattle.mk_commands.specs.Clock.{numbers, timed}
+use Rattle.mk_commands.specs.Meaning.{language}
 use Rattle.mk_memworld.specs.Children.{OfChild}
 use Rattle.mk_memworld.specs.Chronicle.{with_events}
-use Rattle.mk_memworld.specs.Clock.{numbers, timed}
-use Rattle.mk_memworld.specs.Meaning.{language}
 use Rattle.mk_memworld.specs.Running.{ended_of}
 
 -- what a child does from here to its end, on the files as they stand

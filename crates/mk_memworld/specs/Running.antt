@@ -10,10 +10,10 @@ use Rattle.mk_world.specs.declared.history.History.{History}
 use Rattle.mk_world.specs.declared.step.Deed.{Deed}
 use Rattle.mk_world.specs.declared.step.Ended.{Ended}
 use Rattle.mk_world.specs.declared.step.Op.{Op}
+use Rattle.mk_commands.specs.Clock.{time_of}
+use Rattle.mk_commands.specs.Meaning.{language}
 use Rattle.mk_memworld.specs.Children.{OfChild}
 use Rattle.mk_memworld.specs.Chronicle.{with_event}
-use Rattle.mk_memworld.specs.Clock.{time_of}
-use Rattle.mk_memworld.specs.Meaning.{language}
 
 -- what a child does from here to its end, on the files as they stand
 abbrev pub IsRestOf : State → Doing → Child → Type 0

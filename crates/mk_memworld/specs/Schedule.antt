@@ -8,19 +8,17 @@
 -- to their end; where none has, it takes the oldest child, which does all its remaining steps.
 use Rattle.std.specs.Prelude.{ℕ, zero, suc, ◌%◌, not, Bool, true, false, List, [], ◌∷◌, ◌++◌, length, map, drop, Option, Some, None, nat_eq, slice_get, if◌then◌else◌}
 use Rattle.std.specs.List.{filter, list_any}
-use Rattle.mk_world.specs.Deeds.{Store}
 use Rattle.mk_world.specs.History.{State, child_in, contents, state_of, tickets_of}
-use Rattle.mk_world.specs.Talks.{answer, deed_on}
+use Rattle.mk_world.specs.Talks.{answer}
 use Rattle.mk_world.specs.declared.history.Child.{Child}
 use Rattle.mk_world.specs.declared.history.Happening.TheVariants.{Step}
 use Rattle.mk_world.specs.declared.history.History.{History}
 use Rattle.mk_world.specs.declared.step.Deed.{Deed}
-use Rattle.mk_world.specs.declared.step.Next.{Next}
-use Rattle.mk_world.specs.declared.step.Next.TheVariants.{More, Over}
+use Rattle.mk_commands.specs.Clock.{time_of}
+use Rattle.mk_commands.specs.Language.{language_next}
+use Rattle.mk_commands.specs.Steps.{deed_at_next}
 use Rattle.mk_memworld.specs.Children.{without_first}
 use Rattle.mk_memworld.specs.Chronicle.{with_event}
-use Rattle.mk_memworld.specs.Clock.{time_of}
-use Rattle.mk_memworld.specs.Language.{language_next}
 
 -- what is left of a schedule, and the tickets of the running children that have come to their end,
 -- in the order of coming to it
@@ -50,15 +48,6 @@ named (suc number) tickets = slice_get tickets number
 abbrev pub next_child : State → Course → Option ℕ
 next_child state course =
     named (first_number course.numbers) (going course.ended (tickets_of state.children))
-
-abbrev pub deed_at_next : Store → Next → Option Deed
-deed_at_next store (More request) = Some (deed_on request store)
-deed_at_next store (Over status output) = None
-
--- whether this is the end
-abbrev pub ends_at : Next → Bool
-ends_at (More request) = false
-ends_at (Over status output) = true
 
 -- the next step of a child on the files as they stand; at its end it has none
 abbrev pub next_deed : State → Child → Option Deed

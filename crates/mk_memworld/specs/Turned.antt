@@ -2,7 +2,7 @@
 use Rattle.std.specs.Prelude.{◌≡◌, ◌⊎◌, ℕ, ◌+◌, ◌<◌, List}
 use Rattle.mk_world.specs.History.{state_of}
 use Rattle.mk_world.specs.declared.history.History.{History}
-use Rattle.mk_memworld.specs.Clock.{last_number}
+use Rattle.mk_commands.specs.Clock.{last_number}
 use Rattle.mk_memworld.specs.Endings.{numbers_left}
 use Rattle.mk_memworld.specs.Going.{IsTurn}
 use Rattle.mk_memworld.specs.Schedule.{after_turn, course_after, gone_on, next_child, next_taken, with_ended, with_number_taken}

@@ -5,8 +5,8 @@ use Rattle.mk_world.specs.History.{State, state_of}
 use Rattle.mk_world.specs.declared.history.Happening.{Happening}
 use Rattle.mk_world.specs.declared.history.Happening.TheVariants as happening
 use Rattle.mk_world.specs.declared.history.History.{History}
+use Rattle.mk_commands.specs.Clock.{last_number}
 use Rattle.mk_memworld.specs.Chronicle.{with_event}
-use Rattle.mk_memworld.specs.Clock.{last_number}
 use Rattle.mk_memworld.specs.Outages.{made_of, one_more}
 use Rattle.mk_memworld.specs.Schedule.{course_after}
 use Rattle.mk_memworld.specs.Turned.{HasStood, IsTooShort, turned}

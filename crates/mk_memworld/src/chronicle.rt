@@ -5,21 +5,21 @@ ghost use Rattle.mk_world.specs.Deeds.{changes};
 ghost use Rattle.mk_world.specs.History.{at_time, child_in, effected_all, files_of, state_of, stepped, tickets_of, without_child};
 ghost use Rattle.mk_world.specs.Talks.{does};
 ghost use Rattle.mk_world.specs.declared.history.Happening.TheVariants.{Ask, Edit, End, Gone, Look, Start};
-ghost use Rattle.mk_memworld.specs.Clock.{last_number, numbers, numbers_of, timed};
+ghost use Rattle.mk_commands.specs.Clock.{last_number, numbers, numbers_of, timed};
+ghost use Rattle.mk_commands.specs.Files.{as_filed, files_in};
+ghost use Rattle.mk_commands.specs.Meaning.{language};
+ghost use Rattle.mk_commands.specs.Rest.{answer_of, doing_of};
 ghost use Rattle.mk_memworld.specs.Endings.{ended_by, steps_of, told_by};
-ghost use Rattle.mk_memworld.specs.Files.{as_filed, files_in};
 ghost use Rattle.mk_memworld.specs.Going.{IsTurn};
-ghost use Rattle.mk_memworld.specs.Meaning.{language};
-ghost use Rattle.mk_memworld.specs.Rest.{answer_of, doing_of};
 ghost use Rattle.mk_memworld.specs.Schedule.{deed_by, going, gone_on, named, newly_ended};
 
-use crate::clock::{self, all_taken, numbers_taken, taken_by_step};
-use crate::copy::{copy_cmd, copy_deed};
-use crate::files::{Files, Stored};
 use crate::going::Going;
-use crate::rest::{Rest, answers_with, deed_after, is_over, records_of, rest_of};
 use crate::writing::{Writing, beginning};
 use mk_bytes::{Items, NoMemory, Text};
+use mk_commands::{
+    Files, Rest, Stored, all_taken, answers_with, copy_cmd, copy_deed, deed_after, is_over,
+    numbers_taken, records_of, rest_of, taken_by_step,
+};
 use mk_world::{Bases, Child, Cmd, Deed, Deeds, Ended, Happening, Ticket, Timed};
 use std::alloc::Global;
 use std::marker::Model;
@@ -243,7 +243,7 @@ impl Chronicle {
     {
         self.events.reserve(self.children.len() + 1)?;
         let cmd = copy_cmd(self.alloc, cmd)?;
-        let steps = clock::timed(self.alloc, self.clock, deeds.as_slice())?;
+        let steps = mk_commands::timed(self.alloc, self.clock, deeds.as_slice())?;
         self.files.apply_all(steps.as_slice())?;
         self.clock += all_taken(deeds.as_slice());
         self.events.push(Happening::Ask { cmd, steps }).unwrap();
@@ -440,7 +440,7 @@ impl Chronicle {
         ensures err { OnErr result (self.new ≡ self.old) }
     {
         let child = find(&self.children, ticket).unwrap();
-        let timed = clock::timed(self.alloc, self.clock, deeds.as_slice())?;
+        let timed = mk_commands::timed(self.alloc, self.clock, deeds.as_slice())?;
         let mut events = last_events(self.alloc, child, timed.as_slice())?;
         self.events.reserve(events.len() + self.children.len())?;
         self.files.apply_all(timed.as_slice())?;

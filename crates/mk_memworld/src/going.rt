@@ -1,7 +1,7 @@
 //! The turn of a child, before it goes on.
 ghost use Rattle.std.specs.Prelude.{◌≡◌, None};
 ghost use Rattle.std.specs.Option.{option_copied};
-ghost use Rattle.mk_memworld.specs.Steps as spec;
+ghost use Rattle.mk_commands.specs.Steps as spec;
 
 use mk_world::Deed;
 

@@ -11,16 +11,16 @@ ghost use Rattle.mk_world.specs.Runs.{Run};
 ghost use Rattle.mk_world.specs.Talks.{does};
 ghost use Rattle.mk_world.specs.declared.fault.WorldFault.TheVariants.{Failed};
 ghost use Rattle.mk_world.specs.declared.history.Happening.TheVariants.{Ask, Edit, Gone, Look, Put, Stamp, Start};
+ghost use Rattle.mk_commands.specs.Clock.{last_number, numbers, timed};
+ghost use Rattle.mk_commands.specs.Files.{as_filed};
+ghost use Rattle.mk_commands.specs.Meaning.{language};
+ghost use Rattle.mk_commands.specs.Rest.{answer_of};
 ghost use Rattle.mk_memworld.specs.Base.{are_clean, base_of};
 ghost use Rattle.mk_memworld.specs.Children.{without_first};
 ghost use Rattle.mk_memworld.specs.Chronicle.{with_event};
-ghost use Rattle.mk_memworld.specs.Clock.{last_number, numbers, timed};
 ghost use Rattle.mk_memworld.specs.Endings.{ended_by, told_by};
-ghost use Rattle.mk_memworld.specs.Files.{as_filed};
 ghost use Rattle.mk_memworld.specs.Going.{IsTurn};
-ghost use Rattle.mk_memworld.specs.Meaning.{language};
 ghost use Rattle.mk_memworld.specs.Outages.{FailsWhere, IsStruck, OnFailed, OnNoMemory, first_outages, made_of, with_answer, with_call};
-ghost use Rattle.mk_memworld.specs.Rest.{answer_of};
 ghost use Rattle.mk_memworld.specs.Running.{AddsSteps};
 ghost use Rattle.mk_memworld.specs.Schedule.{course_after, gone_on, next_taken, or_oldest, taken_in, with_ended, with_number_taken};
 ghost use Rattle.mk_memworld.specs.ToldChildren.{told_children};
@@ -31,13 +31,12 @@ ghost use Rattle.mk_memworld.specs.declared.writing.Writing.TheVariants as writi
 
 use crate::base;
 use crate::chronicle::Chronicle;
-use crate::copy::copy_bytes;
-use crate::files::Stored;
 use crate::going::Going;
 use crate::outage::{CallKind, Fails, Outages};
 use crate::schedule::{Schedule, Turns};
 use crate::writing::Writing;
 use mk_bytes::{NoMemory, Pairs, Text};
+use mk_commands::{Stored, copy_bytes};
 use mk_world::{Cmd, Ended, Kids, Ticket, Time, When, World, WorldFault};
 use std::alloc::Global;
 

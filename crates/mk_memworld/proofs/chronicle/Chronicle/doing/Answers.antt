@@ -2,11 +2,11 @@ use Rattle.std.proofs.Common.{IfOk, ◌∙◌, ap, subst}
 use Rattle.std.specs.Option.{option_copied}
 use Rattle.mk_world.specs.History.{contents, files_of}
 use Rattle.mk_world.specs.Talks.{IsDoing}
-use Rattle.mk_memworld.specs.Files.{files_in}
-use Rattle.mk_memworld.specs.Language.{language_next}
-use Rattle.mk_memworld.specs.Rest.{doing_of}
+use Rattle.mk_commands.specs.Files.{files_in}
+use Rattle.mk_commands.specs.Language.{language_next}
+use Rattle.mk_commands.specs.Rest.{doing_of}
+use Rattle.mk_commands.specs.Steps.{after_step}
 use Rattle.mk_memworld.specs.Schedule.{gone_on}
-use Rattle.mk_memworld.specs.Steps.{after_step}
 use Rattle.mk_memworld.proofs.AskLemmas.{IfOk-doing}
 use Rattle.mk_memworld.proofs.TurnLemmas.{store-turn}
 use Rattle.mk_memworld.proofs.chronicle.Chronicle.doing.Goals as goal

@@ -3,7 +3,7 @@ use Rattle.std.proofs.lemmas.Grind.{common_steps}
 use Rattle.mk_world.specs.History.{effected}
 use Rattle.mk_memworld.proofs.ChronicleLemmas.{IsPresent-more}
 use Rattle.mk_world.specs.declared.history.Happening.TheVariants.{Edit}
-use Rattle.mk_memworld.specs.Files.{files_in}
+use Rattle.mk_commands.specs.Files.{files_in}
 use Rattle.mk_memworld.proofs.chronicle.Chronicle.edit.Goals as goal
 
 pub invariant_of-self-in-None : goal.invariant_of-self-in-None

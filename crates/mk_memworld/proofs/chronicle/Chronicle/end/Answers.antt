@@ -4,14 +4,14 @@ use Rattle.std.specs.Option.{option_copied}
 use Rattle.mk_world.specs.History.{child_in, effected_all, last_time, state_of, timed_effects, without_child}
 use Rattle.mk_world.specs.declared.history.Happening.TheVariants.{End}
 use Rattle.mk_world.specs.declared.history.History.{History}
+use Rattle.mk_commands.specs.Clock.{numbers, timed}
+use Rattle.mk_commands.specs.Files.{files_in}
 use Rattle.mk_memworld.specs.Chronicle.{told, with_events}
-use Rattle.mk_memworld.specs.Clock.{numbers, timed}
 use Rattle.mk_memworld.specs.Endings.{steps_of}
-use Rattle.mk_memworld.specs.Files.{files_in}
 use Rattle.mk_world.proofs.ChildLemmas.{child_in-ticket}
+use Rattle.mk_commands.proofs.TimeLemmas.{last_time-timed}
 use Rattle.mk_memworld.proofs.ChronicleLemmas.{IsPresent-events}
 use Rattle.mk_memworld.proofs.EndingLemmas.{AfterEnd-is}
-use Rattle.mk_memworld.proofs.TimeLemmas.{last_time-timed}
 use Rattle.mk_memworld.proofs.chronicle.Chronicle.end.Goals as goal
 
 pub invariant_of-self-2 : goal.invariant_of-self-2

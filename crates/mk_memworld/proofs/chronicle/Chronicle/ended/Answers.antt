@@ -3,9 +3,8 @@ use Rattle.std.specs.Option.{option_copied}
 use Rattle.mk_world.specs.History.{child_in, state_of}
 use Rattle.mk_world.specs.Talks.{answer}
 use Rattle.mk_world.specs.declared.history.History.{History}
-use Rattle.mk_memworld.specs.Language.{language_next}
-use Rattle.mk_memworld.specs.Schedule.{ends_at}
-use Rattle.mk_memworld.specs.Steps.{with_step}
+use Rattle.mk_commands.specs.Language.{language_next}
+use Rattle.mk_commands.specs.Steps.{ends_at, with_step}
 use Rattle.mk_memworld.proofs.TurnLemmas.{newly_ended-step}
 use Rattle.mk_memworld.proofs.chronicle.Chronicle.ended.Goals as goal
 

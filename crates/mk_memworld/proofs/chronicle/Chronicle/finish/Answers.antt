@@ -3,9 +3,9 @@ use Rattle.std.specs.Option.{option_copied}
 use Rattle.mk_world.specs.Calls.{op_of}
 use Rattle.mk_world.specs.History.{child_in, state_of}
 use Rattle.mk_world.specs.declared.history.History.{History}
+use Rattle.mk_commands.specs.Rest.{doing_of}
 use Rattle.mk_memworld.specs.Chronicle.{with_events}
 use Rattle.mk_memworld.specs.Endings.{to_end}
-use Rattle.mk_memworld.specs.Rest.{doing_of}
 use Rattle.mk_memworld.specs.Running.{ended_of}
 use Rattle.mk_world.proofs.ChildLemmas.{child_in-ticket}
 use Rattle.mk_memworld.proofs.EndingLemmas.{ended_by-is, told_by-is}

@@ -1,7 +1,7 @@
 use Rattle.std.proofs.Common.{◌+◌, ◌≤◌, subst}
 use Rattle.mk_world.specs.History.{state_of}
-use Rattle.mk_memworld.specs.Clock.{last_number}
-use Rattle.mk_memworld.specs.Steps.{numbers_of_step}
+use Rattle.mk_commands.specs.Clock.{last_number}
+use Rattle.mk_commands.specs.Steps.{numbers_of_step}
 use Rattle.mk_memworld.proofs.TurnLemmas.{clock-turn}
 use Rattle.mk_memworld.proofs.chronicle.Chronicle.go_on.Goals as goal
 

@@ -1,8 +1,8 @@
 use Rattle.std.proofs.Common.{◌≡◌, ◌+◌, sym, ◌∙◌, ap, arith}
 use Rattle.mk_world.specs.History.{state_of}
 use Rattle.mk_world.specs.declared.history.History.{History}
+use Rattle.mk_commands.specs.Steps.{numbers_of_step}
 use Rattle.mk_memworld.specs.Schedule.{gone_on}
-use Rattle.mk_memworld.specs.Steps.{numbers_of_step}
 use Rattle.mk_memworld.proofs.TurnLemmas.{clock-turn}
 use Rattle.mk_memworld.proofs.chronicle.Chronicle.has_numbers.Goals as goal
 

@@ -1,6 +1,6 @@
 use Rattle.std.proofs.Common.{◌≡◌, map, drop}
 use Rattle.mk_world.specs.History.{effected_all, last_time, of_file}
-use Rattle.mk_memworld.specs.Files.{files_in, no_files}
+use Rattle.mk_commands.specs.Files.{files_in, no_files}
 use Rattle.mk_memworld.proofs.chronicle.Chronicle.new.Given as goal
 
 -- the files so far are written, and the rest follow

@@ -3,8 +3,8 @@ use Rattle.std.specs.Option.{option_copied}
 use Rattle.mk_world.specs.History.{child_in, contents, files_of, state_of}
 use Rattle.mk_world.specs.Talks.{answer}
 use Rattle.mk_world.specs.declared.history.History.{History}
-use Rattle.mk_memworld.specs.Files.{files_in}
-use Rattle.mk_memworld.specs.Steps.{after_step, with_step}
+use Rattle.mk_commands.specs.Files.{files_in}
+use Rattle.mk_commands.specs.Steps.{after_step, with_step}
 use Rattle.mk_memworld.proofs.TurnLemmas.{IfOk-rest, store-turn}
 use Rattle.mk_memworld.proofs.chronicle.Chronicle.rest.Goals as goal
 

@@ -2,10 +2,10 @@ use Rattle.std.proofs.Common.{rules, ◌≡◌, ◌+◌, [], ◌∷◌, ◌++◌
 use Rattle.std.proofs.lemmas.Grind.{common_steps}
 use Rattle.mk_world.specs.History.{effected_all, last_time, timed_effects}
 use Rattle.mk_world.specs.declared.history.Happening.TheVariants.{Ask}
-use Rattle.mk_memworld.specs.Clock.{numbers, timed}
-use Rattle.mk_memworld.specs.Files.{files_in}
+use Rattle.mk_commands.specs.Clock.{numbers, timed}
+use Rattle.mk_commands.specs.Files.{files_in}
+use Rattle.mk_commands.proofs.TimeLemmas.{last_time-timed}
 use Rattle.mk_memworld.proofs.ChronicleLemmas.{IsPresent-more}
-use Rattle.mk_memworld.proofs.TimeLemmas.{last_time-timed}
 use Rattle.mk_memworld.proofs.chronicle.Chronicle.run.Goals as goal
 
 pub invariant_of-self-2 : goal.invariant_of-self-2

@@ -1,8 +1,8 @@
 use Rattle.std.proofs.Common.{rules, ◌≡◌, ◌+◌, [], ◌∷◌, ◌++◌, refl, sym, ap, ◌∙◌, arith}
 use Rattle.std.proofs.lemmas.Grind.{common_steps}
 use Rattle.mk_world.specs.declared.history.Happening.TheVariants.{Step}
+use Rattle.mk_commands.proofs.StepLemmas.{last_time-taken}
 use Rattle.mk_memworld.proofs.ChronicleLemmas.{IsPresent-more}
-use Rattle.mk_memworld.proofs.StepLemmas.{last_time-taken}
 use Rattle.mk_memworld.proofs.chronicle.Chronicle.step.Goals as goal
 
 pub invariant_of-self-in-Ok : goal.invariant_of-self-in-Ok

@@ -1,4 +1,4 @@
-use Rattle.mk_memworld.specs.Meaning.{language}
+use Rattle.mk_commands.specs.Meaning.{language}
 use Rattle.mk_memworld.proofs.BaseLemmas.{fresh-lawful}
 use Rattle.mk_memworld.proofs.world.MemWorld.new.Goals as goal
 

@@ -2,8 +2,8 @@ use Rattle.std.proofs.Common.{◌≡◌, ◌∙◌, sym, ap, subst}
 use Rattle.mk_world.specs.Calls.{OwnAsk}
 use Rattle.mk_world.specs.History.{State, files_of, state_of, tickets_of}
 use Rattle.mk_world.specs.Talks.{does}
-use Rattle.mk_memworld.specs.Meaning.{language}
-use Rattle.mk_memworld.specs.Rest.{doing_of}
+use Rattle.mk_commands.specs.Meaning.{language}
+use Rattle.mk_commands.specs.Rest.{doing_of}
 use Rattle.mk_memworld.specs.Running.{AddsSteps}
 use Rattle.mk_memworld.proofs.AskLemmas.{adds_ask, unanswered_after, unanswered_here, unanswered_later, unanswered_same}
 use Rattle.mk_memworld.proofs.ChronicleLemmas.{state_of-with_event}

@@ -1,9 +1,9 @@
 use Rattle.std.proofs.Common.{rules, ◌≡◌, Err, Some, inl, inr, slice_get, sym, ◌∙◌, ap, subst}
 use Rattle.std.proofs.lemmas.Option.{slice_get-get_or}
 use Rattle.mk_world.specs.History.{state_of, tickets_of}
+use Rattle.mk_commands.specs.Rest.{doing_of}
 use Rattle.mk_memworld.specs.Children.{without_first}
 use Rattle.mk_memworld.specs.Endings.{ended_by, told_by}
-use Rattle.mk_memworld.specs.Rest.{doing_of}
 use Rattle.mk_memworld.specs.Running.{AddsSteps, IsRest}
 use Rattle.mk_memworld.specs.Schedule.{course_after, next_taken, taken_in}
 use Rattle.mk_memworld.specs.Turned.{HasFailed, IsTooShort, changes_to_end, turned}

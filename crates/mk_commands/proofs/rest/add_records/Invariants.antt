@@ -1,0 +1,6 @@
+use Rattle.std.proofs.Common.{◌≡◌, ◌++◌, map, take}
+use Rattle.mk_world.specs.Calls.{op_of}
+use Rattle.mk_commands.proofs.rest.add_records.Given as goal
+
+abbrev pub invariant-loop-deed : goal.invariant-loop-deed
+invariant-loop-deed l = l.records ≡ l.initial.records ++ map op_of (take l.deed-index l.deeds)

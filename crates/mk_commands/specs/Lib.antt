@@ -1,0 +1,14 @@
+pub mod Changes
+pub mod Clock
+pub mod CommandEnds
+pub mod Commands
+pub mod Files
+pub mod Language
+pub mod LineEnds
+pub mod Meaning
+pub mod Rest
+pub mod Seen
+pub mod Steps
+pub mod TalkEnds
+pub mod Turns
+pub mod Words

@@ -1,6 +1,0 @@
-use Rattle.std.proofs.Common.{◌≡◌, map, take}
-use Rattle.mk_world.specs.Talks.{answer}
-use Rattle.mk_memworld.proofs.rest.answers_to.Given as goal
-
-abbrev pub invariant-loop-deed : goal.invariant-loop-deed
-invariant-loop-deed l = l.answers ≡ map answer (take l.deed-index l.deeds)
