@@ -4,10 +4,7 @@ use Rattle.std.specs.List.{position_or_len, onto_first, slice_split}
 use Rattle.std.proofs.lemmas.List.{length-map}
 use Rattle.std.proofs.lemmas.List.Splits.{slice_split_first}
 use Rattle.std.proofs.lemmas.Bool.Decides.{nat_tests}
-
-cond_cases : {P : Type 0} (t : Bool) → (t ≡ true → P) → (t ≡ false → P) → P
-cond_cases true here there = here refl
-cond_cases false here there = there refl
+use Rattle.mk_bytes.proofs.PieceLemmas.{cond_cases}
 
 cut_at : {X : Type 0} (p : X → Bool) (d : X) (xs : List X) (at : ℕ) (found : Bool)
     → nat_lt (position_or_len p xs) (length xs) ≡ found

@@ -40,6 +40,7 @@ use Rattle.mk_reader.specs.Results.{Gave, ReadBy}
 use Rattle.mk_reader.specs.declared.fault.ReadFault.TheVariants as read
 use Rattle.mk_reader.specs.declared.fault.ReadFault.{ReadFault}
 use Rattle.mk_run.proofs.CleanRunLemmas.{done-before, done-build}
+use Rattle.mk_run.proofs.TrueRunLemmas.{told-at, told-before}
 use Rattle.mk_modes.specs.Building.{IsBuilt, unbuilt, Point, point}
 use Rattle.mk_run.specs.CleanRuns.{ArePlansAlike, IsReadyRun, LeavesCleanFiles, bare, clean_files_of, clean_jobs_of, HasSameTask, LeavesThem, task_on}
 use Rattle.mk_modes.specs.Ends.{IsOutside, of_plan, of_read}
@@ -61,7 +62,6 @@ use Rattle.mk_world.specs.History.{files_of}
 use Rattle.mk_world.specs.Looks.{OnlyLooks}
 use Rattle.mk_world.specs.Outer.{nothing_over, outer}
 use Rattle.mk_world.specs.Talks.{Doing}
-use Rattle.mk_world.specs.Told.{Told}
 use Rattle.mk_world.specs.declared.command.Task.{Task}
 use Rattle.mk_world.specs.declared.command.TaskLine.{TaskLine}
 use Rattle.mk_world.specs.declared.history.Happening.{Happening}
@@ -271,16 +271,6 @@ unread fault out end done (inr cut) = sink-fault end done cut.is
   where
     sink-fault : (end : End) → end ≡ Done → end ≡ SinkFault → ⊥
     sink-fault end done cut = cc
-
-told-at : {A : Type 0} (Related : A → A → Type 0) {before after : Option A} {old new : A}
-    → before ≡ Some old → after ≡ Some new → Told before after Related → Related old new
-told-at {A} Related {before} {after} {old} {new} is then_is told =
-    subst (λ h. Told (Some old) h Related) then_is (subst (λ h. Told h after Related) is told)
-
-told-before : {A : Type 0} (Related : A → A → Type 0) {before after : Option A} {new : A}
-    → before ≡ None → after ≡ Some new → Told before after Related → ⊥
-told-before {A} Related {before} {after} {new} is then_is told =
-    subst (λ h. Told None h Related) then_is (subst (λ h. Told h after Related) is told)
 
 same-ok : {A E : Type 0} (one other : A) → ◌≡◌ {A = Result A E} (Ok one) (Ok other) → one ≡ other
 same-ok one other is = cc

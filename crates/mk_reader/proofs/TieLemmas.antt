@@ -1,21 +1,15 @@
 -- Calls that are tied to a meaning, one after the other.
 use Rattle.std.proofs.Common.{◌≡◌, List, [], ◌++◌, Option, Result, Ok, Err}
-use Rattle.std.proofs.Common.{refl, sym, ap, subst, ◌∙◌, append_assoc}
-use Rattle.std.proofs.lemmas.List.{append-nil}
+use Rattle.std.proofs.Common.{refl, sym, ap, subst, ◌∙◌}
 use Rattle.mk_blocks.specs.Acts.{Act}
 use Rattle.mk_blocks.specs.Outcomes.{Outcome, behind, followed, silent, ◌>>=◌}
 use Rattle.mk_blocks.specs.Ties.{Does, Gives, Goes, Refuses, Ties, failure_in}
 use Rattle.mk_blocks.specs.declared.fault.LanguageFault.{LanguageFault}
 use Rattle.mk_blocks.specs.declared.fault.LanguageFault.TheVariants.{Wrong, Failed, NoMemory}
+use Rattle.mk_blocks.proofs.OutcomeLemmas.{added, behind-behind, followed-acts}
 use Rattle.mk_reader.specs.ReadFaults.{outcome_as}
 
 -- Outcomes
-
-behind-behind : {A E : Type 0} (first second : List Act) (o : Outcome A E)
-    → behind first (behind second o) ≡ behind (first ++ second) o
-behind-behind first second o =
-    ap (λ (acts : List Act). record { acts = acts; answer = o.answer })
-    (sym (append_assoc first second o.acts))
 
 -- acts before a first step are acts before both
 bind-behind : {A B E : Type 0} (acts shown : List Act) (answer : Result A E)
@@ -23,18 +17,6 @@ bind-behind : {A B E : Type 0} (acts shown : List Act) (answer : Result A E)
     → followed (acts ++ shown) answer next ≡ behind acts (followed shown answer next)
 bind-behind acts shown (Ok given) next = sym (behind-behind acts shown (next given))
 bind-behind acts shown (Err fault) next = refl
-
--- what a second step adds to the acts of the first
-added : {A B E : Type 0} → Result A E → (A → Outcome B E) → List Act
-added (Ok given) next = (next given).acts
-added (Err fault) next = []
-
-followed-acts : {A B E : Type 0} (acts : List Act) (answer : Result A E)
-    (next : A → Outcome B E)
-    → (followed acts answer next).acts ≡ acts ++ added answer next
-unfolding added
-followed-acts acts (Ok given) next = refl
-followed-acts acts (Err fault) next = sym (append-nil acts)
 
 -- Faults in other words
 

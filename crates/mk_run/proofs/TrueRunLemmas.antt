@@ -135,12 +135,12 @@ asking-true meaning built old new asked lawful idle truth so_far later events le
     asked-true meaning old new asked truth so_far later events leave
 
 -- what is told between moments that tell
-told-at : {A : Type 0} (Related : A → A → Type 0) {before after : Option A} {old new : A}
+pub told-at : {A : Type 0} (Related : A → A → Type 0) {before after : Option A} {old new : A}
     → before ≡ Some old → after ≡ Some new → Told before after Related → Related old new
 told-at {A} Related {before} {after} {old} {new} is then_is told =
     subst (λ h. Told (Some old) h Related) then_is (subst (λ h. Told h after Related) is told)
 
-told-before : {A : Type 0} (Related : A → A → Type 0) {before after : Option A} {new : A}
+pub told-before : {A : Type 0} (Related : A → A → Type 0) {before after : Option A} {new : A}
     → before ≡ None → after ≡ Some new → Told before after Related → ⊥
 told-before {A} Related {before} {after} {new} is then_is told =
     subst (λ h. Told None h Related) then_is (subst (λ h. Told h after Related) is told)
