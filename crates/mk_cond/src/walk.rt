@@ -36,7 +36,9 @@ pub enum Leaf<'c> {
 /// What is to be evaluated next.
 #[derive(Clone, Copy)]
 pub enum Step<'c> {
+    /// A condition that is entered first.
     Inside(&'c Cond),
+    /// A leaf, which is evaluated by itself.
     AtLeaf(Leaf<'c>),
 }
 
