@@ -1,7 +1,7 @@
 -- What is left to do at a place in a file.
 use Rattle.std.specs.Prelude.{◌≡◌, ℕ, zero, suc, ◌+◌, ◌-◌, ◌*◌, ◌^◌, ◌<◌, ◌≤◌, Bool, true, false}
 use Rattle.std.specs.Prelude.{List, [], ◌∷◌, ◌++◌, length, if◌then◌else◌}
-use Rattle.mk_turns.specs.OpenLoops.{turn_of, turns_behind, turns_in}
+use Rattle.mk_turns.specs.OpenLoops.{turns_behind, turns_in}
 use Rattle.mk_turns.specs.Turns.{Turn}
 use Rattle.mk_turns.specs.declared.loops.OpenLoop.{OpenLoop}
 use Rattle.mk_blocks.specs.Blocks.{Ending, Parsed, branches, closed, is_closer, parse}

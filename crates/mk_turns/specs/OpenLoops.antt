@@ -1,5 +1,5 @@
 -- Loops whose bodies are being read, and their turns.
-use Rattle.std.specs.Prelude.{◌≡◌, ℕ, ◌+◌, ◌-◌, Bool, ◌&&◌, nat_lt, List, [], ◌∷◌, ◌++◌}
+use Rattle.std.specs.Prelude.{◌≡◌, ◌+◌, ◌-◌, Bool, ◌&&◌, nat_lt, List, [], ◌∷◌, ◌++◌}
 use Rattle.mk_turns.specs.Turns.{Turn, turn_at, turn_count, turns_from}
 use Rattle.mk_turns.specs.declared.loops.OpenLoop.{OpenLoop}
 
