@@ -1,6 +1,7 @@
 -- Questions about lines.
 use Rattle.std.proofs.Common.{◌≡◌, ℕ, inl, inr, List, [], Ok, Err, sym, ap, subst}
 use Rattle.mk_lines.specs.declared.line.LogLine.{LogLine}
+use Rattle.mk_turns.specs.Turns.{Turn, in_turns}
 use Rattle.mk_blocks.specs.Languages.{LineMeaning, Question}
 use Rattle.mk_blocks.specs.Meaning.{asked, with_state}
 use Rattle.mk_blocks.specs.FileFaults.{in_place}
@@ -8,7 +9,6 @@ use Rattle.mk_blocks.specs.Runs.{Reads, Run, run_at}
 use Rattle.mk_blocks.specs.Acts.{Act}
 use Rattle.mk_blocks.specs.Outcomes.{Outcome, silent, done}
 use Rattle.mk_blocks.specs.Ties.{Answers, Does, Goes, Placed, Refuses, Ties, failure_in, sorted}
-use Rattle.mk_blocks.specs.Turns.{Turn, in_turns}
 use Rattle.mk_blocks.specs.declared.fault.FileFault.{FileFault}
 use Rattle.mk_blocks.specs.declared.fault.LanguageFault.{LanguageFault}
 use Rattle.mk_blocks.specs.declared.fault.LanguageFault.TheVariants.{Wrong, Failed, NoMemory}

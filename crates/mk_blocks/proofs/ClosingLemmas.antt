@@ -1,21 +1,22 @@
 -- What is left behind a line that ends a block.
 use Rattle.std.proofs.Common.{◌≡◌, ℕ, zero, suc, ◌-◌, ◌≤◌, true, List, length, refl, ap, ◌∙◌, arith}
 use Rattle.mk_lines.specs.declared.line.LogLine.{LogLine}
+use Rattle.mk_turns.specs.OpenLoops.{turns_in}
+use Rattle.mk_turns.specs.Turns.{Turn}
+use Rattle.mk_turns.specs.declared.loops.OpenLoop.{OpenLoop}
 use Rattle.mk_blocks.specs.Blocks.{Parsed, closed, is_closer, parse, put}
 use Rattle.mk_blocks.specs.Calls as calls
-use Rattle.mk_blocks.specs.Calls.{Begins, begins_branch, files_in, has_next, IsNext, step_behind}
+use Rattle.mk_blocks.specs.Calls.{Begins, begins_branch, files_in, step_behind}
 use Rattle.mk_blocks.specs.Meaning as m
 use Rattle.mk_blocks.specs.Runs.{run_at}
 use Rattle.mk_blocks.specs.Outcomes.{◌>>=◌}
 use Rattle.mk_blocks.specs.Places as p
-use Rattle.mk_blocks.specs.Places.{Fits, IsInside, IsPlace, IsReached, turns_in}
+use Rattle.mk_blocks.specs.Places.{Fits, IsInside, IsPlace, IsReached}
 use Rattle.mk_blocks.specs.Skips.{is_ending, outside_of}
 use Rattle.mk_blocks.specs.Ties.{Ties}
-use Rattle.mk_blocks.specs.Turns.{Turn}
 use Rattle.mk_blocks.specs.declared.kind.LineKind.{LineKind}
 use Rattle.mk_blocks.specs.declared.kind.LineKind.TheVariants as kind
 use Rattle.mk_blocks.specs.declared.line.OpenFile.{OpenFile}
-use Rattle.mk_blocks.specs.declared.place.OpenLoop.{OpenLoop}
 use Rattle.mk_blocks.specs.declared.place.Place.{Place}
 use Rattle.mk_blocks.specs.declared.place.Step.{Step}
 use Rattle.mk_blocks.proofs.FitLemmas.{Fits-behind, Fits-less, IsBehind-same, IsInside-same}

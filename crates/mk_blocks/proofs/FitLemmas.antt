@@ -1,11 +1,11 @@
 -- Places stay places.
 use Rattle.std.proofs.Common.{◌≡◌, ℕ, ◌+◌, ◌<◌, ◌≤◌, ◌^◌, List, [], ◌∷◌, Some, None, length, sym}
 use Rattle.std.proofs.Common.{ap, ◌∙◌, arith}
+use Rattle.mk_turns.specs.declared.loops.OpenLoop.{OpenLoop}
 use Rattle.mk_blocks.specs.Blocks.{Ending, Parsed, parsed, closed, is_closer, is_else}
 use Rattle.mk_blocks.specs.Places.{Fits, FitsBehind, IsBehind, IsInside}
 use Rattle.mk_blocks.specs.Skips.{Branch, next_branch, outside_of}
 use Rattle.mk_blocks.specs.declared.kind.LineKind.{LineKind}
-use Rattle.mk_blocks.specs.declared.place.OpenLoop.{OpenLoop}
 use Rattle.mk_blocks.proofs.SkipLemmas.{none_inv, nowhere, some_inv}
 
 -- fewer if-blocks or fewer lines fit as well

@@ -1,19 +1,19 @@
 -- What is left behind the line of an included file.
 use Rattle.std.proofs.Common.{◌≡◌, ◌≢◌, ℕ, suc, ◌-◌, List, Option, Some, refl, ap, ◌∙◌, arith}
 use Rattle.mk_lines.specs.declared.line.LogLine.{LogLine}
+use Rattle.mk_turns.specs.declared.loops.OpenLoop.{OpenLoop}
 use Rattle.mk_blocks.specs.Blocks.{Parsed}
 use Rattle.mk_blocks.specs.Calls.{files_in}
 use Rattle.mk_blocks.specs.Meaning as m
 use Rattle.mk_blocks.specs.Runs.{Reads, Run, run_at}
 use Rattle.mk_blocks.specs.Outcomes.{done, refused, ◌>>=◌}
 use Rattle.mk_blocks.specs.Places as p
-use Rattle.mk_blocks.specs.Places.{Fits, IsInside, IsPlace, IsReached, turns_in}
+use Rattle.mk_blocks.specs.Places.{Fits, IsInside, IsPlace, IsReached}
 use Rattle.mk_blocks.specs.Ties.{Ties}
 use Rattle.mk_blocks.specs.declared.fault.FileFault.{FileFault}
 use Rattle.mk_blocks.specs.declared.fault.FileFault.TheVariants.{TooManyFiles}
 use Rattle.mk_blocks.specs.declared.language.IncludedFile.{IncludedFile}
 use Rattle.mk_blocks.specs.declared.line.OpenFile.{OpenFile}
-use Rattle.mk_blocks.specs.declared.place.OpenLoop.{OpenLoop}
 use Rattle.mk_blocks.proofs.LineLemmas.{file_next}
 
 module _ {X W F : Type 0} (ties : Ties X W F) (file : OpenFile) where

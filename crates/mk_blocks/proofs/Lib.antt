@@ -15,4 +15,3 @@ mod Small
 mod SpelledLemmas
 mod TieLemmas
 mod TurnBodyLemmas
-mod TurnLemmas

@@ -2,24 +2,25 @@
 use Rattle.std.proofs.Common.{◌≡◌, ℕ, ◌+◌, ◌≤◌, Bool, true, false, List, Option, Some, None, refl}
 use Rattle.std.proofs.Common.{◌∙◌}
 use Rattle.mk_lines.specs.declared.line.LogLine.{LogLine}
+use Rattle.mk_turns.specs.OpenLoops.{turns_in}
+use Rattle.mk_turns.specs.Turns.{Turn}
+use Rattle.mk_turns.specs.declared.loops.OpenLoop.{OpenLoop}
 use Rattle.mk_blocks.specs.Blocks.{Ending, Parsed, put}
 use Rattle.mk_blocks.specs.Calls as calls
-use Rattle.mk_blocks.specs.Calls.{Begins, begins_branch, files_in, has_next, IsNext, step_behind}
+use Rattle.mk_blocks.specs.Calls.{Begins, begins_branch, files_in, step_behind}
 use Rattle.mk_blocks.specs.Meaning as m
 use Rattle.mk_blocks.specs.Runs as runs
 use Rattle.mk_blocks.specs.Runs.{After, IsCounted, Reads, Run, after, run_at}
 use Rattle.mk_blocks.specs.Outcomes.{done, refused, ◌>>=◌}
 use Rattle.mk_blocks.specs.Places as p
-use Rattle.mk_blocks.specs.Places.{Fits, IsInside, IsPlace, IsReached, turns_in}
+use Rattle.mk_blocks.specs.Places.{Fits, IsInside, IsPlace, IsReached}
 use Rattle.mk_blocks.specs.Skips.{next_branch}
 use Rattle.mk_blocks.specs.Ties.{Ties}
-use Rattle.mk_blocks.specs.Turns.{Turn}
 use Rattle.mk_blocks.specs.declared.fault.FileFault.{FileFault}
 use Rattle.mk_blocks.specs.declared.fault.FileFault.TheVariants.{TooManyLines}
 use Rattle.mk_blocks.specs.declared.kind.LineKind.TheVariants as kind
 use Rattle.mk_blocks.specs.declared.language.IncludedFile.{IncludedFile}
 use Rattle.mk_blocks.specs.declared.line.OpenFile.{OpenFile}
-use Rattle.mk_blocks.specs.declared.place.OpenLoop.{OpenLoop}
 use Rattle.mk_blocks.proofs.PlaceLemmas as place
 use Rattle.mk_blocks.proofs.RunLemmas.{counted-then, counted-not}
 

@@ -1,26 +1,27 @@
 -- What is left before a turn of a loop, and behind it.
 use Rattle.std.proofs.Common.{◌≡◌, ℕ, ◌+◌, ◌≤◌, Bool, true, false, List, [], ◌∷◌, length, refl, ◌∙◌}
 use Rattle.mk_lines.specs.declared.line.LogLine.{LogLine}
+use Rattle.mk_turns.specs.OpenLoops.{has_next, turn_of, turns_behind}
+use Rattle.mk_turns.specs.Turns.{Turn, loop_turns, turn_count}
+use Rattle.mk_turns.specs.declared.loops.OpenLoop.{OpenLoop}
+use Rattle.mk_turns.proofs.TurnLemmas.{last-turn, turns-none}
 use Rattle.mk_blocks.specs.Blocks.{Parsed, closed, parse}
 use Rattle.mk_blocks.specs.Calls as calls
-use Rattle.mk_blocks.specs.Calls.{Begins, begins_branch, files_in, has_next, IsNext, step_behind}
+use Rattle.mk_blocks.specs.Calls.{Begins, begins_branch, files_in, step_behind}
 use Rattle.mk_blocks.specs.Runs as runs
 use Rattle.mk_blocks.specs.Runs.{After, IsCounted, Reads, Run, after, run_at}
 use Rattle.mk_blocks.specs.Outcomes.{refused}
 use Rattle.mk_blocks.specs.Places as p
-use Rattle.mk_blocks.specs.Places.{Fits, IsInside, IsPlace, IsReached, turns_in}
+use Rattle.mk_blocks.specs.Places.{Fits, IsInside, IsPlace, IsReached}
 use Rattle.mk_blocks.specs.Skips.{outside_of}
 use Rattle.mk_blocks.specs.Ties.{Ties}
-use Rattle.mk_blocks.specs.Turns.{Turn, loop_turns, turn_count}
 use Rattle.mk_blocks.specs.declared.fault.FileFault.TheVariants.{TooManyLines}
 use Rattle.mk_blocks.specs.declared.kind.LineKind.{LineKind}
 use Rattle.mk_blocks.specs.declared.line.OpenFile.{OpenFile}
-use Rattle.mk_blocks.specs.declared.place.OpenLoop.{OpenLoop}
 use Rattle.mk_blocks.specs.declared.place.Place.{Place}
 use Rattle.mk_blocks.proofs.FitLemmas.{Fits-turn}
 use Rattle.mk_blocks.proofs.PlaceLemmas as place
 use Rattle.mk_blocks.proofs.RunLemmas.{counted-then}
-use Rattle.mk_blocks.proofs.TurnLemmas.{last-turn, turns-none}
 
 -- the beginning of a turn is a place
 pub begun-place : (kind : List ℕ → LineKind) {o : OpenLoop} {before now : Place} → Begins o before now
@@ -56,7 +57,7 @@ module _ {X W F : Type 0} (ties : Ties X W F) (file : OpenFile) where
   pub turn-left : {o : OpenLoop} {before now : Place} (loops : List OpenLoop) (depth : ℕ)
       (body : List LogLine) (turns : List Turn) (x : X) (count more : ℕ)
       → Begins o before now → before.loops ≡ loops → o.body ≡ body → o.depth ≡ depth
-      → turns ≡ p.turn_of o ∷ p.turns_behind o → IsCounted count more → (answers : ties.Answers)
+      → turns ≡ turn_of o ∷ turns_behind o → IsCounted count more → (answers : ties.Answers)
       → calls.turns_left ties file loops depth (parse ties.kind body) turns x count answers
       ≡ calls.place_left ties file now x more answers
   turn-left {o = o} {before = before} {now = now} loops depth body turns x count more begins same
@@ -73,7 +74,7 @@ module _ {X W F : Type 0} (ties : Ties X W F) (file : OpenFile) where
       → has_next o goes_on ≡ true → (answers : ties.Answers)
       → calls.behind_left ties file (o ∷ outer) goes_on x count answers
       ≡ calls.turns_left ties file outer o.depth (parse ties.kind o.body)
-      (p.turns_behind o) x count answers
+      (turns_behind o) x count answers
   ends-turn o outer true x count next answers =
       place.outside-end (ties.meaning answers) (files_in ties file answers) file.name.now ties.kind
       o outer
@@ -89,7 +90,7 @@ module _ {X W F : Type 0} (ties : Ties X W F) (file : OpenFile) where
       ties.kind o outer
       (run_at (ties.state x) count)
   ends-loop o outer true x count none answers =
-      let over : p.turns_behind o ≡ [] = last-turn o none in
+      let over : turns_behind o ≡ [] = last-turn o none in
       place.outside-end (ties.meaning answers) (files_in ties file answers) file.name.now ties.kind
       o outer
       (run_at (ties.state x) count)

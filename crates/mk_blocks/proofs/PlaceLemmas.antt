@@ -2,6 +2,9 @@
 use Rattle.std.proofs.Common.{◌≡◌, ℕ, zero, suc, ◌+◌, ◌≤◌, Bool, true, false, if◌then◌else◌, List}
 use Rattle.std.proofs.Common.{[], ◌∷◌, ◌++◌, Some, None, refl, sym, ap, ◌∙◌, add-one}
 use Rattle.mk_lines.specs.declared.line.LogLine.{LogLine}
+use Rattle.mk_turns.specs.OpenLoops.{turn_of, turns_behind, turns_in}
+use Rattle.mk_turns.specs.Turns.{Turn}
+use Rattle.mk_turns.specs.declared.loops.OpenLoop.{OpenLoop}
 use Rattle.mk_blocks.specs.Blocks.{Block, Ending, Parsed, parsed, none, branches, closed, is_closer}
 use Rattle.mk_blocks.specs.Blocks.{is_else, parse, put}
 use Rattle.mk_blocks.specs.Blocks as tree
@@ -12,11 +15,9 @@ use Rattle.mk_blocks.specs.Runs.{After, Files, IsCounted, Reads, Run, after, run
 use Rattle.mk_blocks.specs.Outcomes.{done, refused, ◌>>=◌}
 use Rattle.mk_blocks.specs.Places as p
 use Rattle.mk_blocks.specs.Skips.{next_branch}
-use Rattle.mk_blocks.specs.Turns.{Turn}
 use Rattle.mk_blocks.specs.declared.fault.FileFault.TheVariants.{TooManyLines}
 use Rattle.mk_blocks.specs.declared.kind.LineKind.{LineKind}
 use Rattle.mk_blocks.specs.declared.kind.LineKind.TheVariants as kind
-use Rattle.mk_blocks.specs.declared.place.OpenLoop.{OpenLoop}
 use Rattle.mk_blocks.proofs.RunLemmas.{counted-not, next-goes_on, next-next, next-same}
 use Rattle.mk_blocks.proofs.SkipLemmas.{none_inv, nowhere, some_inv}
 use Rattle.mk_blocks.proofs.OutcomeLemmas.{bind-bind, bind-same}
@@ -145,15 +146,15 @@ module _ {S W F : Type 0} (M : LineMeaning S W) (files : Files S W F) (name : Li
     pub in-line : (loops : List OpenLoop) (depth : ℕ) (counts : Bool) (l : LogLine) (b : Block)
         (endings : List Ending) (r : Run S)
         → left_in loops depth (parsed (tree.line counts l b) endings) r
-        ≡ (runs.counted_if counts r >>= λ s. m.asked M.step name (p.turns_in loops) l s
+        ≡ (runs.counted_if counts r >>= λ s. m.asked M.step name (turns_in loops) l s
         >>= λ given. left_in loops depth (parsed b endings) given.1)
     unfolding m.meaning
     in-line loops depth counts l b endings r =
         ap (λ o. o >>= outside loops)
-        (bind-bind (m.line_step M counts name (p.turns_in loops) l r) (meaning b
-        (p.turns_in loops)) _)
-        ∙ bind-bind (m.line_step M counts name (p.turns_in loops) l r) _ _
-        ∙ bind-bind (runs.counted_if counts r >>= m.asked M.step name (p.turns_in loops) l) _ _
+        (bind-bind (m.line_step M counts name (turns_in loops) l r) (meaning b
+        (turns_in loops)) _)
+        ∙ bind-bind (m.line_step M counts name (turns_in loops) l r) _ _
+        ∙ bind-bind (runs.counted_if counts r >>= m.asked M.step name (turns_in loops) l) _ _
         ∙ bind-bind (runs.counted_if counts r) _ _
 
     pub in-stop : (loops : List OpenLoop) (depth : ℕ) (l : LogLine) (q : Parsed) (r : Run S)
@@ -166,24 +167,24 @@ module _ {S W F : Type 0} (M : LineMeaning S W) (files : Files S W F) (name : Li
 
     pub in-file : (loops : List OpenLoop) (depth : ℕ) (l : LogLine) (q : Parsed) (r : Run S)
         → left_in loops depth (put kind.Include l q) r
-        ≡ (runs.counted r >>= λ s. m.asked M.included name (p.turns_in loops) l s
+        ≡ (runs.counted r >>= λ s. m.asked M.included name (turns_in loops) l s
         >>= λ wanted. m.opened_if files wanted >>= left_in loops depth q)
     unfolding m.meaning
     in-file loops depth l q r =
-        let wanted = m.wanted_step M name (p.turns_in loops) l r in
+        let wanted = m.wanted_step M name (turns_in loops) l r in
         ap (λ o. o >>= outside loops)
-        (bind-bind (wanted >>= m.opened_if files) (meaning q.block (p.turns_in loops)) _)
+        (bind-bind (wanted >>= m.opened_if files) (meaning q.block (turns_in loops)) _)
         ∙ bind-bind (wanted >>= m.opened_if files) _ _
         ∙ bind-bind wanted _ _
         ∙ bind-bind (runs.counted r) _ _
 
     pub in-for : (loops : List OpenLoop) (depth : ℕ) (l : LogLine) (q : Parsed) (r : Run S)
         → left_in loops depth (put kind.For l q) r
-        ≡ (runs.counted r >>= λ s. m.asked M.turns name (p.turns_in loops) l s
+        ≡ (runs.counted r >>= λ s. m.asked M.turns name (turns_in loops) l s
         >>= λ given. p.turns_left M files name kinds loops depth q given.0 given.1)
     unfolding m.meaning
     in-for loops depth l q r =
-        let turns = p.turns_in loops in
+        let turns = turns_in loops in
         let body = λ (t : List Turn × Run S). runs.all_turns (λ turn. meaning q.block (turns ++ turn
         ∷ [])) t.0 t.1 in
         ap (λ o. o >>= outside loops)
@@ -205,7 +206,7 @@ module _ {S W F : Type 0} (M : LineMeaning S W) (files : Files S W F) (name : Li
 
     pub outside-end : (o : OpenLoop) (outer : List OpenLoop) (r : Run S)
         → outside (o ∷ outer) (after true r)
-        ≡ turns_left outer o.depth (parse kinds o.body) (p.turns_behind o) r
+        ≡ turns_left outer o.depth (parse kinds o.body) (turns_behind o) r
     unfolding p.outside
     outside-end o outer r = refl
 
@@ -223,18 +224,18 @@ module _ {S W F : Type 0} (M : LineMeaning S W) (files : Files S W F) (name : Li
 
     -- a turn is counted, and then its body is read
     pub turns_left-turn : (o : OpenLoop) (loops : List OpenLoop) (r : Run S)
-        → turns_left loops o.depth (parse kinds o.body) (p.turn_of o ∷ p.turns_behind o) r
+        → turns_left loops o.depth (parse kinds o.body) (turn_of o ∷ turns_behind o) r
         ≡ (runs.counted r >>= left_in (o ∷ loops) zero (parse kinds o.body))
     unfolding runs.all_turns p.outside
     turns_left-turn o loops r =
         let rest = left_in loops o.depth (p.behind_body kinds o) in
-        let body = λ (turn : Turn). meaning (parse kinds o.body).block (p.turns_in loops ++ turn
+        let body = λ (turn : Turn). meaning (parse kinds o.body).block (turns_in loops ++ turn
         ∷ []) in
-        let others = runs.next_turn (runs.all_turns body (p.turns_behind o)) in
-        bind-bind (runs.counted r) (λ s. body (p.turn_of o) s >>= others) rest
-        ∙ bind-same (runs.counted r) _ _ (λ s. bind-bind (body (p.turn_of o) s) others rest
+        let others = runs.next_turn (runs.all_turns body (turns_behind o)) in
+        bind-bind (runs.counted r) (λ s. body (turn_of o) s >>= others) rest
+        ∙ bind-same (runs.counted r) _ _ (λ s. bind-bind (body (turn_of o) s) others rest
         ∙ ap (λ x. x >>= outside (o ∷ loops))
-        (sym (left-start (p.turns_in (o ∷ loops)) (parse kinds o.body) s)))
+        (sym (left-start (turns_in (o ∷ loops)) (parse kinds o.body) s)))
 
     -- where a file begins
     pub left_in-start : (q : Parsed) (r : Run S)

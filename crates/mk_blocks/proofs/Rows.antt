@@ -2,12 +2,12 @@
 use Rattle.std.proofs.Common.{◌≡◌, ℕ, List, [], ◌∷◌, ◌++◌, map, Ok, Err, refl, codes}
 use Rattle.mk_lines.specs.Lines.{physical_lines, line_groups, joined}
 use Rattle.mk_for.specs.Substitution.{replaced_behind}
+use Rattle.mk_turns.specs.Turns.{turns_from}
 use Rattle.mk_blocks.specs.Acts.{wrote}
 use Rattle.mk_blocks.specs.Blocks.{parse, closed, branches}
 use Rattle.mk_blocks.specs.Meaning.{file_at, file_read, meaning, chosen}
 use Rattle.mk_blocks.specs.Runs.{Reads, Run, run_at, all_turns}
 use Rattle.mk_blocks.specs.OpenBlocks.{blocks_checked}
-use Rattle.mk_blocks.specs.Turns.{turns_from}
 use Rattle.mk_blocks.specs.declared.fault.FileFault.{FileFault}
 use Rattle.mk_blocks.specs.declared.fault.FileFault.TheVariants.{Bad, TooManyLines, TooManyFiles}
 use Rattle.mk_blocks.specs.declared.fault.Wrong.TheVariants.{Zero, Block, Line}

@@ -4,10 +4,10 @@ use Rattle.std.specs.Prelude.{◌++◌, length, drop, take, Option, Some, None, 
 use Rattle.std.specs.Prelude.{if◌then◌else◌, nat_eq}
 use Rattle.std.specs.List.{starts_with}
 use Rattle.std.specs.Str.{bytes_eq}
+use Rattle.mk_turns.specs.Turns.{Turn, loop_turns}
 use Rattle.mk_blocks.specs.Acts.{wrote}
 use Rattle.mk_blocks.specs.Languages.{LineMeaning}
 use Rattle.mk_blocks.specs.Outcomes.{Outcome, done, refused}
-use Rattle.mk_blocks.specs.Turns.{Turn, loop_turns}
 use Rattle.mk_blocks.specs.declared.kind.LineKind.{LineKind}
 use Rattle.mk_blocks.specs.declared.kind.LineKind.TheVariants as kind
 use Rattle.mk_blocks.specs.declared.language.IncludedFile.{IncludedFile}

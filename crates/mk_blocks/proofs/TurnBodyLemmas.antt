@@ -3,6 +3,7 @@ use Rattle.std.proofs.Common.{◌≡◌, ℕ, Bool, true, false, List, [], ◌�
 use Rattle.std.proofs.Common.{◌∙◌, if◌then◌else◌}
 use Rattle.mk_lines.specs.declared.line.LogLine.{LogLine}
 use Rattle.mk_for.specs.Substitution.{replaced}
+use Rattle.mk_turns.specs.Turns.{Turn, turn_at}
 use Rattle.mk_blocks.specs.Blocks.{Block, Branches, Ending, Parsed, branches, closed, ending, is_closer}
 use Rattle.mk_blocks.specs.Blocks.{is_else, parse, parsed, put}
 use Rattle.mk_blocks.specs.Blocks as tree
@@ -13,7 +14,6 @@ use Rattle.mk_blocks.specs.Outcomes.{◌>>=◌}
 use Rattle.mk_blocks.specs.Runs.{After, Files, Reads, Run, all_turns, counted, next, next_if}
 use Rattle.mk_blocks.specs.Runs.{next_turn, next_turn_if}
 use Rattle.mk_blocks.specs.TurnBodies.{TurnsReadBodies}
-use Rattle.mk_blocks.specs.Turns.{Turn, turn_at}
 use Rattle.mk_blocks.specs.declared.kind.LineKind.{LineKind}
 use Rattle.mk_blocks.specs.declared.kind.LineKind.TheVariants as kind
 use Rattle.mk_blocks.proofs.OutcomeLemmas.{bind-same}

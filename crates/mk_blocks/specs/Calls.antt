@@ -1,19 +1,20 @@
 -- What calls of a reading leave to be done.
 use Rattle.std.specs.Prelude.{◌≡◌, ℕ, zero, suc, ◌+◌, ◌-◌, ◌<◌, ◌≤◌, ◌∷◌, List, length, Bool, true}
-use Rattle.std.specs.Prelude.{false, ◌&&◌, nat_lt}
+use Rattle.std.specs.Prelude.{false}
 use Rattle.mk_lines.specs.declared.line.LogLine.{LogLine}
+use Rattle.mk_turns.specs.OpenLoops.{turns_in}
+use Rattle.mk_turns.specs.Turns.{Turn}
+use Rattle.mk_turns.specs.declared.loops.OpenLoop.{OpenLoop}
 use Rattle.mk_blocks.specs.Blocks.{Ending, Parsed, closed, parse, put}
 use Rattle.mk_blocks.specs.Meaning.{files_at}
 use Rattle.mk_blocks.specs.Runs.{After, Files, Reads, Run, after, run_at}
 use Rattle.mk_blocks.specs.Places as p
-use Rattle.mk_blocks.specs.Places.{Fits, IsInside, IsPlace, turns_in}
+use Rattle.mk_blocks.specs.Places.{Fits, IsInside, IsPlace}
 use Rattle.mk_blocks.specs.Skips.{outside_of}
 use Rattle.mk_blocks.specs.Ties.{Ties}
-use Rattle.mk_blocks.specs.Turns.{Turn, turn_count}
 use Rattle.mk_blocks.specs.declared.kind.LineKind.{LineKind}
 use Rattle.mk_blocks.specs.declared.kind.LineKind.TheVariants as kind
 use Rattle.mk_blocks.specs.declared.line.OpenFile.{OpenFile}
-use Rattle.mk_blocks.specs.declared.place.OpenLoop.{OpenLoop}
 use Rattle.mk_blocks.specs.declared.place.Place.{Place}
 use Rattle.mk_blocks.specs.declared.place.Step.{Step}
 use Rattle.mk_blocks.specs.declared.place.Step.TheVariants as step
@@ -98,20 +99,6 @@ abbrev pub begins_branch : LineKind → Bool
 begins_branch kind.ElseIf = true
 begins_branch kind.Else = true
 begins_branch _ = false
-
--- another turn follows the one that was read, unless a `.break` ended the loop
-abbrev pub has_next : OpenLoop → Bool → Bool
-has_next open_loop goes_on =
-    goes_on && nat_lt (open_loop.turn + 1)
-    (turn_count open_loop.header.names open_loop.header.words)
-
--- a loop in its next turn
-pub record IsNext (open_loop next : OpenLoop) : Type 0 where
-  pub body : next.body ≡ open_loop.body
-  pub names : next.header.names ≡ open_loop.header.names
-  pub words : next.header.words ≡ open_loop.header.words
-  pub turn : next.turn ≡ open_loop.turn + 1
-  pub depth : next.depth ≡ open_loop.depth
 
 module _ {X W F : Type 0} (ties : Ties X W F) (file : OpenFile) where
   -- what is left where a place is left, or none

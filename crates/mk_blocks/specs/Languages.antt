@@ -1,7 +1,7 @@
 -- Languages of single lines.
 use Rattle.std.specs.Prelude.{ℕ, Bool, List, Option}
+use Rattle.mk_turns.specs.Turns.{Turn}
 use Rattle.mk_blocks.specs.Outcomes.{Outcome}
-use Rattle.mk_blocks.specs.Turns.{Turn}
 use Rattle.mk_blocks.specs.declared.language.IncludedFile.{IncludedFile}
 
 -- What is asked of a line in a state: of the name of its file, its number and its text. It gives an

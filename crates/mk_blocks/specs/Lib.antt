@@ -11,7 +11,5 @@ pub mod Places
 pub mod Runs
 pub mod Skips
 pub mod Spelled
-pub mod Texts
 pub mod Ties
 pub mod TurnBodies
-pub mod Turns

@@ -3,6 +3,7 @@ use Rattle.std.specs.Prelude.{ℕ, zero, suc, Bool, true, false, List, [], ◌�
 use Rattle.std.specs.Prelude.{None}
 use Rattle.mk_lines.specs.Lines.{lines_from}
 use Rattle.mk_lines.specs.declared.line.LogLine.{LogLine}
+use Rattle.mk_turns.specs.Turns.{Turn, in_turns}
 use Rattle.mk_blocks.specs.Blocks.{Block, Branches, parse}
 use Rattle.mk_blocks.specs.Blocks as tree
 use Rattle.mk_blocks.specs.FileFaults.{file_checked, in_place}
@@ -10,7 +11,6 @@ use Rattle.mk_blocks.specs.Languages.{LineMeaning, Question}
 use Rattle.mk_blocks.specs.Outcomes.{done, refused, silent, ◌>>=◌}
 use Rattle.mk_blocks.specs.Runs.{After, Files, Reads, Run, all_turns, counted, counted_if, goes_on}
 use Rattle.mk_blocks.specs.Runs.{max_files, next, run_at, stops}
-use Rattle.mk_blocks.specs.Turns.{Turn, in_turns}
 use Rattle.mk_blocks.specs.declared.fault.FileFault.TheVariants.{TooManyFiles}
 use Rattle.mk_blocks.specs.declared.kind.LineKind.{LineKind}
 use Rattle.mk_blocks.specs.declared.language.IncludedFile.{IncludedFile}

@@ -1,6 +1,9 @@
 -- What is left to do at a place in a file.
 use Rattle.std.specs.Prelude.{◌≡◌, ℕ, zero, suc, ◌+◌, ◌-◌, ◌*◌, ◌^◌, ◌<◌, ◌≤◌, Bool, true, false}
 use Rattle.std.specs.Prelude.{List, [], ◌∷◌, ◌++◌, length, if◌then◌else◌}
+use Rattle.mk_turns.specs.OpenLoops.{turns_behind, turns_in}
+use Rattle.mk_turns.specs.Turns.{Turn}
+use Rattle.mk_turns.specs.declared.loops.OpenLoop.{OpenLoop}
 use Rattle.mk_blocks.specs.Blocks.{Ending, Parsed, branches, closed, is_closer, parse}
 use Rattle.mk_blocks.specs.Languages.{LineMeaning}
 use Rattle.mk_blocks.specs.Meaning.{chosen, meaning}
@@ -8,26 +11,10 @@ use Rattle.mk_blocks.specs.Runs.{After, Files, Reads, Run, after, all_turns, goe
 use Rattle.mk_blocks.specs.Runs.{next, next_turn}
 use Rattle.mk_blocks.specs.Outcomes.{done, ◌>>=◌}
 use Rattle.mk_blocks.specs.Skips.{outside_of}
-use Rattle.mk_blocks.specs.Turns.{Turn, turn_at, turn_count, turns_from}
 use Rattle.mk_blocks.specs.declared.kind.LineKind.{LineKind}
-use Rattle.mk_blocks.specs.declared.place.OpenLoop.{OpenLoop}
 use Rattle.mk_blocks.specs.declared.place.Place.{Place}
 use Rattle.mk_blocks.specs.declared.place.Step.{Step}
 use Rattle.mk_blocks.specs.declared.place.Step.TheVariants as step
-
--- the turn of a loop that is being read, and those that follow it
-abbrev pub turn_of : OpenLoop → Turn
-turn_of open_loop = turn_at open_loop.header.names open_loop.header.words open_loop.turn
-
-abbrev pub turns_behind : OpenLoop → List Turn
-turns_behind open_loop =
-    turns_from open_loop.header.names open_loop.header.words (open_loop.turn + 1)
-    (turn_count open_loop.header.names open_loop.header.words - (open_loop.turn + 1))
-
--- the turns that are being read, the outermost first, where the innermost loop stands first
-abbrev pub turns_in : List OpenLoop → List Turn
-turns_in [] = []
-turns_in (open_loop ∷ outer) = turns_in outer ++ turn_of open_loop ∷ []
 
 -- what stands behind the body of a loop
 abbrev pub behind_body : (List ℕ → LineKind) → OpenLoop → Parsed

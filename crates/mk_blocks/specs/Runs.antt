@@ -1,8 +1,8 @@
 -- How far a reading is, and its steps one after the other.
 use Rattle.std.specs.Prelude.{◌≡◌, ℕ, ◌+◌, ◌<◌, nat_lt, Bool, true, false, List, [], ◌∷◌, Option}
 use Rattle.std.specs.Prelude.{if◌then◌else◌}
+use Rattle.mk_turns.specs.Turns.{Turn}
 use Rattle.mk_blocks.specs.Outcomes.{Outcome, done, refused, ◌>>=◌}
-use Rattle.mk_blocks.specs.Turns.{Turn}
 use Rattle.mk_blocks.specs.declared.fault.FileFault.{FileFault}
 use Rattle.mk_blocks.specs.declared.fault.FileFault.TheVariants.{TooManyLines}
 

@@ -3,11 +3,11 @@ use Rattle.std.specs.Prelude.{◌≡◌, ℕ, List, ◌∷◌, length}
 use Rattle.mk_lines.specs.declared.line.LogLine.{LogLine}
 use Rattle.mk_for.specs.Substitution.{replaced}
 use Rattle.mk_for.specs.Turns.{body_of, words_of}
+use Rattle.mk_turns.specs.Turns.{Turn, turn_at}
 use Rattle.mk_blocks.specs.Blocks.{parse}
 use Rattle.mk_blocks.specs.Languages.{LineMeaning}
 use Rattle.mk_blocks.specs.Meaning.{meaning}
 use Rattle.mk_blocks.specs.Runs.{Files, Run}
-use Rattle.mk_blocks.specs.Turns.{Turn, turn_at}
 use Rattle.mk_blocks.specs.declared.kind.LineKind.{LineKind}
 
 -- Where the words of a turn make no line a directive and hide none, lines inside this turn and then

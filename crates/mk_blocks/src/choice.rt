@@ -1,10 +1,11 @@
 //! If-blocks: the branch that is read, and the others.
 ghost use Rattle.std.specs.Prelude.{◌≡◌, ◌+◌, ◌^◌, ◌<◌, ◌≤◌, length, IfOk, OnOk};
+ghost use Rattle.mk_turns.specs.OpenLoops.{turns_in};
 ghost use Rattle.mk_blocks.specs.Blocks.{parse, put};
 ghost use Rattle.mk_blocks.specs.Calls as spec;
 ghost use Rattle.mk_blocks.specs.Meaning.{condition_step};
 ghost use Rattle.mk_blocks.specs.Outcomes.{done};
-ghost use Rattle.mk_blocks.specs.Places.{Falls, IsReached, turns_in, work};
+ghost use Rattle.mk_blocks.specs.Places.{Falls, IsReached, work};
 ghost use Rattle.mk_blocks.specs.Runs.{run_at};
 ghost use Rattle.mk_blocks.specs.Skips.{outside_of};
 ghost use Rattle.mk_blocks.specs.Ties.{Does, sorted};
@@ -13,11 +14,11 @@ ghost use Rattle.mk_blocks.specs.declared.kind.LineKind.TheVariants.{If};
 use crate::fault::FileFault;
 use crate::language::Language;
 use crate::line::{OpenFile, condition, count_line};
-use crate::place::{OpenLoop, Place, Step};
+use crate::place::{Place, Step};
 use crate::skip::{next_branch, skip_block};
-use crate::stack::Stack;
 use mk_bytes::NoMemory;
 use mk_lines::{LineCursor, LineRef};
+use mk_turns::{OpenLoop, Stack};
 use std::alloc::Global;
 
 /// The line that begins an if-block.

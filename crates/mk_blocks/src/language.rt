@@ -1,19 +1,11 @@
 //! Languages of single lines.
-ghost use Rattle.std.specs.Prelude.{◌≡◌, ◌<◌, ◌%◌, length};
+ghost use Rattle.std.specs.Prelude.{◌≡◌};
 
 use crate::fault::LanguageFault;
 use crate::kind::LineKind;
-use mk_bytes::{Text, Texts};
+use mk_bytes::Text;
+use mk_turns::Loop;
 use std::alloc::Global;
-
-/// The names of a loop, and its words. In each turn the names stand for as many words, in order.
-#[derive(Drop)]
-pub struct Loop {
-    pub names: Texts,
-    pub words: Texts,
-    pub ghost named: { 0 < length names },
-    pub ghost even: { length words % length names ≡ 0 },
-}
 
 /// A file that is to be included.
 #[derive(Drop)]
@@ -33,7 +25,7 @@ pub struct IncludedFile {
 /// outside has given up to its end.
 pub trait Language {
     ghost use Rattle.mk_blocks.specs.Ties.{Answers, Closes, Ties};
-    ghost use Rattle.mk_blocks.specs.Turns.{loop_turns};
+    ghost use Rattle.mk_turns.specs.Turns.{loop_turns};
 
     /// What is wrong with a line.
     type What: Drop;

@@ -31,13 +31,13 @@ mod open_block;
 mod place;
 mod reading;
 mod skip;
-mod stack;
-mod turn;
+mod turn_body;
 
 pub use fault::{FileFault, LanguageFault, Wrong};
 pub use kind::{BlockFault, LineKind};
-pub use language::{IncludedFile, Language, Loop};
+pub use language::{IncludedFile, Language};
 pub use line::MAX_LINES;
+pub use mk_turns::Loop;
 pub use nesting::checked_file_is_one_block;
 pub use reading::{MAX_FILES, read_file};
-pub use turn::turns_read_their_bodies;
+pub use turn_body::turns_read_their_bodies;

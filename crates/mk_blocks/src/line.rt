@@ -1,19 +1,17 @@
 //! Questions about single lines.
 ghost use Rattle.std.specs.Prelude.{◌≡◌, ℕ, ◌≤◌, OnOk, OnErr};
+ghost use Rattle.mk_turns.specs.OpenLoops.{turns_in};
+ghost use Rattle.mk_turns.specs.Turns.{loop_turns};
 ghost use Rattle.mk_blocks.specs.Meaning.{asked};
 ghost use Rattle.mk_blocks.specs.Runs.{IsCounted, max_lines, run_at};
 ghost use Rattle.mk_blocks.specs.Outcomes.{done};
-ghost use Rattle.mk_blocks.specs.Places.{turns_in};
 ghost use Rattle.mk_blocks.specs.Ties.{Does, Placed, sorted};
-ghost use Rattle.mk_blocks.specs.Turns.{loop_turns};
 
 use crate::fault::{FileFault, LanguageFault, OverLimit, Wrong};
-use crate::language::{IncludedFile, Language, Loop};
-use crate::place::OpenLoop;
-use crate::stack::Stack;
-use crate::turn::{changed_text, text_or};
+use crate::language::{IncludedFile, Language};
 use mk_bytes::Text;
 use mk_lines::LineRef;
+use mk_turns::{Loop, OpenLoop, Stack, changed_text, text_or};
 use std::alloc::Global;
 
 /// The most lines and turns that are processed in one run.

@@ -1,22 +1,22 @@
 //! Loops: turns that begin, and what is behind them.
-ghost use Rattle.std.specs.Prelude.{◌≡◌, ◌+◌, ◌<◌, ◌≤◌, length, true, IfOk, OnOk};
+ghost use Rattle.std.specs.Prelude.{◌≡◌, ◌+◌, ◌<◌, ◌≤◌, length, IfOk, OnOk};
 ghost use Rattle.mk_lines.specs.declared.line.LogLine.{LogLine};
+ghost use Rattle.mk_turns.specs.Turns.{loop_turns};
 ghost use Rattle.mk_blocks.specs.Blocks.{closed, parse, put};
 ghost use Rattle.mk_blocks.specs.Calls as spec;
 ghost use Rattle.mk_blocks.specs.Places.{Falls, Fits, IsEnd, IsInside, IsPlace, IsReached, work};
 ghost use Rattle.mk_blocks.specs.Ties.{Does, sorted};
-ghost use Rattle.mk_blocks.specs.Turns.{loop_turns};
 ghost use Rattle.mk_blocks.specs.declared.kind.LineKind.TheVariants.{Break, For};
 ghost use Rattle.mk_blocks.specs.declared.line.OpenFile.{OpenFile as File};
 
 use crate::fault::FileFault;
-use crate::language::{Language, Loop};
+use crate::language::Language;
 use crate::line::{OpenFile, count_line, turns};
-use crate::place::{OpenLoop, Place, Step};
+use crate::place::{Place, Step};
 use crate::skip::skip_block;
-use crate::turn::turn_count;
 use mk_bytes::NoMemory;
 use mk_lines::LineRef;
+use mk_turns::{Loop, OpenLoop, has_next, next_turn, turn_count};
 
 /// The line that begins a loop.
 pub fn begin_loop<L: Language>(
@@ -142,30 +142,4 @@ pub fn leave_body<L: Language>(
     }
     place.depth = entered.depth;
     Ok(true)
-}
-
-fn has_next(entered: &OpenLoop<'_>, goes_on: bool) -> bool
-    ensures { result ≡ spec.has_next entered.now goes_on }
-{
-    let count = turn_count(&entered.header);
-    goes_on && entered.turn + 1 < count
-}
-
-// A loop in its next turn.
-fn next_turn<'t>(entered: OpenLoop<'t>) -> OpenLoop<'t>
-    requires { spec.has_next entered true ≡ true }
-    ensures { spec.IsNext entered.entry result }
-{
-    let OpenLoop {
-        body,
-        header,
-        turn,
-        depth,
-    } = entered;
-    OpenLoop {
-        body,
-        header,
-        turn: turn + 1,
-        depth,
-    }
 }

@@ -8,9 +8,9 @@ ghost use Rattle.mk_blocks.specs.declared.kind.LineKind.TheVariants as kinds;
 use crate::kind::{BlockFault, LineKind};
 use crate::language::Language;
 use crate::open_block::{BlockPart, OpenBlock};
-use crate::stack::Stack;
 use mk_bytes::NoMemory;
 use mk_lines::LineCursor;
+use mk_turns::Stack;
 use std::alloc::Global;
 
 fn may_branch(part: BlockPart) -> bool

@@ -17,8 +17,8 @@ use crate::language::Language;
 use crate::line::{OpenFile, count_line, included, step};
 use crate::looping::{begin_loop, leave_body, stop};
 use crate::place::{Place, Step};
-use crate::stack::Stack;
 use mk_lines::{LineCursor, LineRef};
+use mk_turns::Stack;
 use std::alloc::Global;
 
 /// The most included files that are open at once.

@@ -14,7 +14,7 @@ use Rattle.mk_blocks.specs.Meaning.{file_at, meaning, chosen}
 use Rattle.mk_blocks.specs.OpenBlocks.{blocks_checked}
 use Rattle.mk_blocks.specs.Outcomes.{Outcome, followed, ◌>>=◌}
 use Rattle.mk_blocks.specs.Runs.{all_turns, run_at}
-use Rattle.mk_blocks.specs.Turns.{turns_from}
+use Rattle.mk_turns.specs.Turns.{turns_from}
 use Rattle.mk_bytes.specs.Bytes.{newline}
 use Rattle.mk_cli.specs.Orders.{no_order}
 use Rattle.mk_closure.specs.Deciding.{linked}

@@ -3,8 +3,8 @@ use Rattle.std.proofs.Common.{◌≡◌, ◌⊎◌, ℕ, ◌==◌, ◌%◌, leng
 use Rattle.std.proofs.Common.{Result, Ok, Err, inl, inr, refl, arith}
 use Rattle.std.proofs.lemmas.Bool.Decides.{nat_tests}
 use Rattle.mk_blocks.specs.Outcomes.{done, refused}
-use Rattle.mk_blocks.specs.Turns.{loop_turns}
-use Rattle.mk_blocks.specs.declared.language.Loop.{Loop}
+use Rattle.mk_turns.specs.Turns.{loop_turns}
+use Rattle.mk_turns.specs.declared.loops.Loop.{Loop}
 use Rattle.mk_cond.specs.Cond.{Cond}
 use Rattle.mk_cond.specs.declared.fault.CondFault.{CondFault}
 use Rattle.mk_cond.specs.declared.fault.CondFault.TheVariants as cond

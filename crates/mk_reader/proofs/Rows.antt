@@ -26,7 +26,7 @@ use Rattle.mk_blocks.specs.Blocks.{parse, closed, branches}
 use Rattle.mk_blocks.specs.Meaning.{file_at, meaning, chosen}
 use Rattle.mk_blocks.specs.Runs.{all_turns}
 use Rattle.mk_blocks.specs.OpenBlocks.{blocks_checked}
-use Rattle.mk_blocks.specs.Turns.{turns_from}
+use Rattle.mk_turns.specs.Turns.{turns_from}
 use Rattle.mk_scopes.specs.declared.scopes.Env.{Env}
 use Rattle.mk_scopes.specs.Scopes.{raw_value}
 use Rattle.mk_graph.specs.declared.Made.{Made}

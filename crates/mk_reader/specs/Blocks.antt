@@ -2,8 +2,8 @@
 use Rattle.std.specs.Prelude.{◌≡◌, ℕ, ◌%◌, ◌==◌, Bool, false, List, length, Option, Some, None}
 use Rattle.std.specs.Prelude.{Result, Ok, Err, if◌then◌else◌}
 use Rattle.mk_blocks.specs.Outcomes.{refused, ◌>>=◌}
-use Rattle.mk_blocks.specs.Turns.{Turn, loop_turns}
-use Rattle.mk_blocks.specs.declared.language.Loop.{Loop}
+use Rattle.mk_turns.specs.Turns.{Turn, loop_turns}
+use Rattle.mk_turns.specs.declared.loops.Loop.{Loop}
 use Rattle.mk_cond.specs.Cond.{Cond}
 use Rattle.mk_cond.specs.Conditions.{condition_of}
 use Rattle.mk_cond.specs.declared.cond.Form.{Form}

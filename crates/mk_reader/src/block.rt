@@ -1,6 +1,6 @@
 //! The lines that begin branches and loops.
 ghost use Rattle.std.specs.Prelude.{◌≡◌, ◌<◌, length};
-ghost use Rattle.mk_blocks.specs.Turns.{loop_turns};
+ghost use Rattle.mk_turns.specs.Turns.{loop_turns};
 ghost use Rattle.mk_bytes.specs.Agrees.{Agrees};
 ghost use Rattle.mk_reader.specs.Blocks as spec;
 ghost use Rattle.mk_reader.specs.Ties.{Gave, outer};

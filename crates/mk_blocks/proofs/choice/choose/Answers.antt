@@ -1,11 +1,11 @@
 use Rattle.std.proofs.Common.{◌≡◌, true, false, Some, None, option_map, refl, ap, ◌∙◌, arith}
 use Rattle.std.proofs.Common.{add-one}
 use Rattle.std.proofs.lemmas.Result.{err_from_is_err_and}
+use Rattle.mk_turns.specs.OpenLoops.{turns_in}
 use Rattle.mk_blocks.specs.Blocks.{parse}
 use Rattle.mk_blocks.specs.Branches.{seen}
 use Rattle.mk_blocks.specs.Calls.{files_in}
 use Rattle.mk_blocks.specs.Runs.{run_at}
-use Rattle.mk_blocks.specs.Places.{turns_in}
 use Rattle.mk_blocks.specs.Skips as skips
 use Rattle.mk_blocks.specs.Ties.{sorted}
 use Rattle.mk_blocks.proofs.LineLemmas.{branch-asked, if-asked, if-false, if-true, if_next}

@@ -1,7 +1,7 @@
 use Rattle.std.proofs.Common.{refl, ap, ◌∙◌}
 use Rattle.std.proofs.lemmas.Result.{err_from_is_err_and}
-use Rattle.mk_blocks.specs.Places.{turns_in}
-use Rattle.mk_blocks.specs.Turns.{in_turns}
+use Rattle.mk_turns.specs.OpenLoops.{turns_in}
+use Rattle.mk_turns.specs.Turns.{in_turns}
 use Rattle.mk_blocks.proofs.AskLemmas.{asked-ok, asked-err}
 use Rattle.mk_blocks.proofs.TieLemmas.{Does-want}
 use Rattle.mk_blocks.proofs.line.included.Goals as goal

@@ -1,14 +1,14 @@
 use Rattle.std.proofs.Common.{◌<◌, refl, sym, ◌∙◌, arith}
 use Rattle.std.proofs.lemmas.Result.{err_from_is_err_and}
+use Rattle.mk_turns.specs.Turns.{turn_count}
+use Rattle.mk_turns.proofs.TurnLemmas.{turns-first}
 use Rattle.mk_blocks.specs.Blocks.{parse}
 use Rattle.mk_blocks.specs.Skips as skips
 use Rattle.mk_blocks.specs.Ties.{sorted}
-use Rattle.mk_blocks.specs.Turns.{turn_count}
 use Rattle.mk_blocks.specs.declared.fault.FileFault.TheVariants.{TooManyLines}
 use Rattle.mk_blocks.proofs.LoopLemmas.{begun-place, no-turns, turn-full, turn-left}
 use Rattle.mk_blocks.proofs.FitLemmas.{Fits-few, Fits-less}
 use Rattle.mk_blocks.proofs.TieLemmas.{Does-here, Does-refuse, Does-want}
-use Rattle.mk_blocks.proofs.TurnLemmas.{turns-first}
 use Rattle.mk_blocks.proofs.looping.enter_loop.Goals as goal
 
 pub skip_block-requires : goal.skip_block-requires

@@ -1,16 +1,17 @@
 use Rattle.std.proofs.Common.{◌+◌, length, refl, sym, ap, subst, ◌∙◌, arith}
 use Rattle.std.proofs.lemmas.Result.{err_from_is_err_and}
+use Rattle.mk_turns.specs.OpenLoops.{turns_behind}
+use Rattle.mk_turns.proofs.TurnLemmas.{next-turns, other-turn}
 use Rattle.mk_blocks.specs.Blocks.{parse}
 use Rattle.mk_blocks.specs.Calls.{Begins, behind_left, files_in, left_in}
 use Rattle.mk_blocks.specs.Runs.{after, run_at}
-use Rattle.mk_blocks.specs.Places.{FitsBehind, IsBehind, turns_behind}
+use Rattle.mk_blocks.specs.Places.{FitsBehind, IsBehind}
 use Rattle.mk_blocks.specs.Ties.{sorted}
 use Rattle.mk_blocks.specs.declared.fault.FileFault.TheVariants.{TooManyLines}
 use Rattle.mk_blocks.proofs.LoopLemmas.{begun-place, ends-loop, ends-turn, turn-full, turn-left}
 use Rattle.mk_blocks.proofs.FitLemmas.{Fits-few, Fits-less}
 use Rattle.mk_blocks.proofs.PlaceLemmas.{outside-none}
 use Rattle.mk_blocks.proofs.TieLemmas.{Does-here, Does-refuse, Does-want}
-use Rattle.mk_blocks.proofs.TurnLemmas.{next-turns, other-turn}
 use Rattle.mk_blocks.proofs.looping.leave_body.Goals as goal
 
 pub returns-in_default-clause-does : goal.returns-in_default-clause-does

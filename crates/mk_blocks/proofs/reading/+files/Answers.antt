@@ -1,6 +1,7 @@
 use Rattle.std.proofs.Common.{◌≡◌, ◌⊎◌, inl, inr, true, ◌+◌, length, Some, None, slice_get, refl, sym, ap, ◌∙◌, arith}
 use Rattle.std.proofs.Common.{rules}
 use Rattle.std.proofs.lemmas.Result.{err_from_is_err_and}
+use Rattle.mk_turns.specs.OpenLoops.{turns_in}
 use Rattle.mk_blocks.specs.Blocks.{closed, is_closer, parse, put}
 use Rattle.mk_blocks.specs.Calls.{begins_branch, files_in, left_in, Stands}
 use Rattle.mk_blocks.specs.Runs.{run_at}
@@ -327,7 +328,7 @@ read_line-returns-in_default-clause-does g t c =
     c.args.file.now.name.now ties.kind place.loops)
     (left-none (ties.meaning answers) (files_in ties c.args.file.now answers)
     c.args.file.now.name.now
-    (places.turns_in place.loops) place.depth (run_at (ties.state c.args.language.now)
+    (turns_in place.loops) place.depth (run_at (ties.state c.args.language.now)
     c.args.count.now))))
 
 pub read_line-returns-in_default-clause-place : goal.read_line-returns-in_default-clause-place

@@ -2,11 +2,11 @@ use Rattle.std.proofs.Common.{◌≡◌, false, map, sym, ap, ◌∙◌}
 use Rattle.std.proofs.lemmas.List.{at_drop_all}
 use Rattle.std.specs.List.{list_any}
 use Rattle.mk_for.specs.Substitution.{is_dollar}
-use Rattle.mk_blocks.specs.Places.{turn_of, turns_in}
-use Rattle.mk_blocks.specs.Texts.{text_or}
-use Rattle.mk_blocks.specs.Turns.{in_turns}
-use Rattle.mk_blocks.proofs.TurnLemmas.{in_turns-plain, turns_in-reverse}
-use Rattle.mk_blocks.proofs.turn.changed_text.Goals as goal
+use Rattle.mk_turns.specs.OpenLoops.{turn_of, turns_in}
+use Rattle.mk_turns.specs.Texts.{text_or}
+use Rattle.mk_turns.specs.Turns.{in_turns}
+use Rattle.mk_turns.proofs.TurnLemmas.{in_turns-plain, turns_in-reverse}
+use Rattle.mk_turns.proofs.turn.changed_text.Goals as goal
 
 pub returns-then-not-has_dollar : goal.returns-then-not-has_dollar
 returns-then-not-has_dollar c =

@@ -6,10 +6,9 @@ use Rattle.std.specs.List.{list_any}
 use Rattle.std.proofs.lemmas.Grind.{reverse_onto}
 use Rattle.std.proofs.lemmas.List.{map-append}
 use Rattle.mk_for.specs.Substitution.{is_dollar, replaced, replaced_behind}
-use Rattle.mk_blocks.specs.Calls.{has_next, IsNext}
-use Rattle.mk_blocks.specs.Places.{turn_of, turns_behind, turns_in}
-use Rattle.mk_blocks.specs.Turns.{Turn, in_turns, loop_turns, turn_at, turn_count, turns_from}
-use Rattle.mk_blocks.specs.declared.place.OpenLoop.{OpenLoop}
+use Rattle.mk_turns.specs.OpenLoops.{has_next, IsNext, turn_of, turns_behind, turns_in}
+use Rattle.mk_turns.specs.Turns.{Turn, in_turns, loop_turns, turn_at, turn_count, turns_from}
+use Rattle.mk_turns.specs.declared.loops.OpenLoop.{OpenLoop}
 
 neither : (a b : Bool) → (a || b) ≡ false → (a ≡ false) × (b ≡ false)
 neither true b none = absurd cc

@@ -1,8 +1,8 @@
 use Rattle.std.proofs.Common.{◌≡◌, drop, map}
-use Rattle.mk_blocks.specs.Places.{turn_of}
-use Rattle.mk_blocks.specs.Texts.{text_or}
-use Rattle.mk_blocks.specs.Turns.{in_turns}
-use Rattle.mk_blocks.proofs.turn.changed_text.Given as goal
+use Rattle.mk_turns.specs.OpenLoops.{turn_of}
+use Rattle.mk_turns.specs.Texts.{text_or}
+use Rattle.mk_turns.specs.Turns.{in_turns}
+use Rattle.mk_turns.proofs.turn.changed_text.Given as goal
 
 -- the text so far, in the turns that are left
 abbrev pub invariant-loop-entered : goal.invariant-loop-entered

@@ -1,15 +1,13 @@
 //! Lines in the turns of loops.
-ghost use Rattle.std.specs.Prelude.{◌≡◌, ◌<◌, length, IfOk};
+ghost use Rattle.std.specs.Prelude.{◌≡◌, ◌<◌, length, true, IfOk};
 ghost use Rattle.mk_for.specs.Substitution.{replaced, is_dollar};
 ghost use Rattle.mk_for.specs.Turns.{words_of};
 ghost use Rattle.std.specs.List.{list_any};
-ghost use Rattle.mk_blocks.specs.Places.{turn_of, turns_in};
-ghost use Rattle.mk_blocks.specs.TurnBodies.{TurnsReadBodies};
-ghost use Rattle.mk_blocks.specs.Turns as spec;
-ghost use Rattle.mk_blocks.specs.Texts.{text_or};
+ghost use Rattle.mk_turns.specs.OpenLoops.{has_next, IsNext, turn_of, turns_in};
+ghost use Rattle.mk_turns.specs.Turns as spec;
+ghost use Rattle.mk_turns.specs.Texts.{text_or};
 
-use crate::language::{Language, Loop};
-use crate::place::OpenLoop;
+use crate::loops::{Loop, OpenLoop};
 use crate::stack::Stack;
 use mk_bytes::{NoMemory, Text};
 use mk_for::substitute;
@@ -79,10 +77,29 @@ pub fn changed_text(
     Ok(changed)
 }
 
-/// A law of turns: where the words of a loop make no line a directive and hide none, what a turn
-/// processes is the body that `unroll` of mk_for gives that turn, inside the turns of the loops in
-/// it.
-pub fn turns_read_their_bodies<L: Language>(_language: &L)
-    ensures { (answers : L.ties.Answers)
-        → TurnsReadBodies L.Failure L.ties.kind (L.ties.meaning answers) }
-{}
+/// Another turn follows the one that was read, unless a `.break` ended the loop.
+pub fn has_next(entered: &OpenLoop<'_>, goes_on: bool) -> bool
+    ensures { result ≡ has_next entered.now goes_on }
+{
+    let count = turn_count(&entered.header);
+    goes_on && entered.turn + 1 < count
+}
+
+/// A loop in its next turn.
+pub fn next_turn<'t>(entered: OpenLoop<'t>) -> OpenLoop<'t>
+    requires { has_next entered true ≡ true }
+    ensures { IsNext entered.entry result }
+{
+    let OpenLoop {
+        body,
+        header,
+        turn,
+        depth,
+    } = entered;
+    OpenLoop {
+        body,
+        header,
+        turn: turn + 1,
+        depth,
+    }
+}

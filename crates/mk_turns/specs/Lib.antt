@@ -1,0 +1,3 @@
+pub mod OpenLoops
+pub mod Texts
+pub mod Turns
