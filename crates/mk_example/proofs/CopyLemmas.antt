@@ -19,6 +19,12 @@ use Rattle.mk_graph.specs.declared.Made.{Made}
 use Rattle.mk_headline.proofs.PlanLemmas.{meta_path-is}
 use Rattle.mk_headline.specs.Plans.{clean_plan, is_meta_path, makes_file, has_job}
 use Rattle.mk_headline.specs.Premises.{GoesByMetaMode, IsWellMade}
+use Rattle.mk_makefile.specs.Acts.{acts_of, asked_in}
+use Rattle.mk_makefile.specs.Questions.{Reading, readings_in}
+use Rattle.mk_makefile.specs.ReadFaults.{Reads}
+use Rattle.mk_makefile.specs.Reading.{reading}
+use Rattle.mk_makefile.specs.declared.fault.ReadFault.TheVariants as read
+use Rattle.mk_makefile.specs.declared.fault.ReadFault.{ReadFault}
 use Rattle.mk_commands.specs.Meaning.{language}
 use Rattle.mk_meta.specs.Texts.{meta_text}
 use Rattle.mk_meta.specs.TrueHistory.{meta_path}
@@ -32,13 +38,7 @@ use Rattle.mk_plan.specs.declared.fault.PlanFault.TheVariants as plan
 use Rattle.mk_plan.specs.declared.fault.PlanFault.{PlanFault}
 use Rattle.mk_plan.specs.declared.plan.PlanNode.{PlanNode}
 use Rattle.mk_pool.specs.Pool.{AreDistinct}
-use Rattle.mk_reader.specs.Acts.{acts_of, asked_in}
-use Rattle.mk_reader.specs.Questions.{Reading, readings_in}
-use Rattle.mk_reader.specs.ReadFaults.{Reads}
-use Rattle.mk_reader.specs.Reading.{reading}
 use Rattle.mk_reader.specs.Results.{Gave, ReadBy}
-use Rattle.mk_reader.specs.declared.fault.ReadFault.TheVariants as read
-use Rattle.mk_reader.specs.declared.fault.ReadFault.{ReadFault}
 use Rattle.mk_run.proofs.CleanRunLemmas.{done-before, done-build}
 use Rattle.mk_run.proofs.TrueRunLemmas.{told-at, told-before}
 use Rattle.mk_modes.specs.Building.{IsBuilt, unbuilt, Point, point}

@@ -39,6 +39,12 @@ use Rattle.mk_graph.specs.declared.Made.{Made}
 use Rattle.mk_graph.specs.declared.attr.Attr.TheVariants.{Target}
 use Rattle.mk_lines.specs.Comment.{before_comment, unescaped}
 use Rattle.mk_lines.specs.Lines.{physical_lines, line_groups, joined}
+use Rattle.mk_makefile.specs.Acts.{asked_in}
+use Rattle.mk_makefile.specs.Assignments.{equals_at}
+use Rattle.mk_makefile.specs.Dependencies.{semicolon_from}
+use Rattle.mk_makefile.specs.Orders.{first_moment}
+use Rattle.mk_makefile.specs.Questions.{Answers}
+use Rattle.mk_makefile.specs.Reading.{all_read, run_read, reading}
 use Rattle.mk_commands.specs.Meaning.{language}
 use Rattle.mk_plan.specs.Oodate.{refers}
 use Rattle.mk_plan.specs.PlanLaws.{plan_names}
@@ -46,13 +52,7 @@ use Rattle.mk_plan.specs.Plans.{planned}
 use Rattle.mk_plan.specs.Tasks.{lines_from, task_with}
 use Rattle.mk_plan.specs.declared.plan.PlanNode.{PlanNode}
 use Rattle.mk_pool.specs.Pool.{AreDistinct}
-use Rattle.mk_reader.specs.Acts.{asked_in}
-use Rattle.mk_reader.specs.Assignments.{equals_at}
-use Rattle.mk_reader.specs.Dependencies.{semicolon_from}
 use Rattle.mk_reader.specs.OnMaps.{reading_on}
-use Rattle.mk_reader.specs.Orders.{first_moment}
-use Rattle.mk_reader.specs.Questions.{Answers}
-use Rattle.mk_reader.specs.Reading.{all_read, run_read, reading}
 use Rattle.mk_run.specs.CleanRuns.{bare}
 use Rattle.mk_suffix.specs.Chains.{all_extended}
 use Rattle.mk_world.specs.Deeds.{Store, put}

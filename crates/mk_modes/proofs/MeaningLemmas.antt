@@ -4,13 +4,13 @@ use Rattle.std.proofs.Common.{◌∙◌, inl, inr, refl, sym, ap, subst, arith}
 use Rattle.std.proofs.Math.Nat.{lt_irrefl}
 use Rattle.std.proofs.lemmas.Bool.{cases_lt}
 use Rattle.mk_graph.specs.declared.Made.{Made}
+use Rattle.mk_makefile.specs.declared.fault.ReadFault.TheVariants as read
 use Rattle.mk_plan.specs.Asking.{answers_by}
 use Rattle.mk_plan.specs.Plans.{planned}
 use Rattle.mk_plan.specs.Tasks.{setting_of}
 use Rattle.mk_plan.specs.Refusals.{IsRefusedBy}
 use Rattle.mk_plan.specs.declared.fault.PlanFault.{PlanFault}
 use Rattle.mk_plan.specs.declared.fault.PlanFault.TheVariants as plan
-use Rattle.mk_reader.specs.declared.fault.ReadFault.TheVariants as read
 use Rattle.mk_world.specs.Causes.{HasCause, Rose, last_count}
 use Rattle.mk_world.specs.Looks.{DatesAll}
 use Rattle.mk_world.specs.Runs.{Same}

@@ -8,10 +8,10 @@ use Rattle.mk_plan.specs.declared.fault.PlanFault.TheVariants as plan
 use Rattle.mk_plan.specs.declared.plan.PlanNode.{PlanNode}
 use Rattle.mk_explain.specs.declared.fault.ExplainFault.{ExplainFault}
 use Rattle.mk_explain.specs.declared.fault.ExplainFault.TheVariants as explain
+use Rattle.mk_makefile.specs.declared.fault.ReadFault.{ReadFault}
+use Rattle.mk_makefile.specs.declared.fault.ReadFault.TheVariants as read
 use Rattle.mk_query.specs.declared.result.QueryResult.{QueryResult}
 use Rattle.mk_query.specs.declared.result.QueryResult.TheVariants as query
-use Rattle.mk_reader.specs.declared.fault.ReadFault.{ReadFault}
-use Rattle.mk_reader.specs.declared.fault.ReadFault.TheVariants as read
 use Rattle.mk_modes.specs.declared.report.End.{End}
 use Rattle.mk_modes.specs.declared.report.End.TheVariants.{Done, Usage, NoFile, Bad, Print, NoTarget, NoRule, Cycle, Limit, Expand, JobFailed, NotUpToDate, WorldFault, SinkFault, NoMemory}
 

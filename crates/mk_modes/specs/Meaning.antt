@@ -16,9 +16,9 @@ use Rattle.mk_expand.specs.declared.fault.ExpandFault.{ExpandFault}
 use Rattle.mk_expand.specs.declared.fault.ExpandFault.TheVariants as expand
 use Rattle.mk_flags.specs.declared.Flags.{Flags}
 use Rattle.mk_graph.specs.declared.Made.{Made}
+use Rattle.mk_makefile.specs.declared.fault.ReadFault.{ReadFault}
 use Rattle.mk_plan.specs.Facts.{lists_of}
 use Rattle.mk_plan.specs.Tasks.{Setting}
-use Rattle.mk_reader.specs.declared.fault.ReadFault.{ReadFault}
 use Rattle.mk_scopes.specs.Scopes.{Variables}
 use Rattle.mk_modes.specs.Ends.{of_read}
 use Rattle.mk_modes.specs.declared.report.End.{End}

@@ -7,8 +7,8 @@ use Rattle.mk_bytes.specs.declared.kind.Kind.{Kind}
 use Rattle.mk_bytes.specs.declared.kind.Kind.TheVariants.{Names, Lines, Includes}
 use Rattle.mk_expand.specs.declared.fault.ExpandFault.{ExpandFault}
 use Rattle.mk_expand.specs.declared.fault.ExpandFault.TheVariants as expand
-use Rattle.mk_reader.specs.declared.fault.What.{What}
-use Rattle.mk_reader.specs.declared.fault.What.TheVariants as what
+use Rattle.mk_makefile.specs.declared.fault.What.{What}
+use Rattle.mk_makefile.specs.declared.fault.What.TheVariants as what
 use Rattle.mk_modes.specs.Words.{word_at}
 use Rattle.mk_modes.specs.declared.report.End.{End}
 use Rattle.mk_modes.specs.declared.report.End.TheVariants.{Done, Usage, NoFile, Bad, Print, NoTarget, NoRule, Cycle, Limit, Expand, JobFailed, NotUpToDate, WorldFault, SinkFault, NoMemory}

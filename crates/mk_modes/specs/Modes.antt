@@ -8,12 +8,12 @@ use Rattle.mk_expand.specs.Facts.{AsksMore, Lists}
 use Rattle.mk_expand.specs.declared.facts.Asked.{Asked}
 use Rattle.mk_expand.specs.declared.fault.ExpandFault.{ExpandFault}
 use Rattle.mk_graph.specs.declared.Made.{Made}
+use Rattle.mk_makefile.specs.Reading.{reading}
+use Rattle.mk_makefile.specs.declared.fault.ReadFault.{ReadFault}
 use Rattle.mk_plan.specs.Asking.{answers_by}
 use Rattle.mk_plan.specs.Tasks.{setting_of}
 use Rattle.mk_scopes.specs.Scopes.{Variables}
-use Rattle.mk_reader.specs.Reading.{reading}
 use Rattle.mk_reader.specs.Results.{ReadBy}
-use Rattle.mk_reader.specs.declared.fault.ReadFault.{ReadFault}
 use Rattle.mk_scopes.specs.declared.scopes.Env.{Env}
 use Rattle.mk_world.specs.Looks.{Dated, DatesAll}
 use Rattle.mk_world.specs.Runs.{Same}

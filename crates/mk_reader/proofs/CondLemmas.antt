@@ -4,14 +4,14 @@ use Rattle.mk_bytes.specs.Agrees.{AgreesErr}
 use Rattle.mk_cond.specs.Cond.{Cond}
 use Rattle.mk_cond.specs.declared.fault.CondFault.{CondFault}
 use Rattle.mk_cond.specs.declared.fault.CondFault.TheVariants as cond
-use Rattle.mk_reader.specs.Blocks.{cond_what, judged}
-use Rattle.mk_reader.specs.Refusals.{of_cond}
+use Rattle.mk_makefile.specs.Blocks.{cond_what, judged}
+use Rattle.mk_makefile.specs.Refusals.{of_cond}
+use Rattle.mk_makefile.specs.declared.fault.Refusal.{Refusal}
+use Rattle.mk_makefile.specs.declared.fault.Refusal.TheVariants as refusal
+use Rattle.mk_makefile.proofs.LineLemmas.{cond_sort, judged-fault}
 use Rattle.mk_reader.specs.Ties.{Outer}
-use Rattle.mk_reader.specs.declared.fault.Refusal.{Refusal}
-use Rattle.mk_reader.specs.declared.fault.Refusal.TheVariants as refusal
 use Rattle.mk_reader.specs.declared.reader.Reader.{Reader}
 use Rattle.mk_reader.proofs.GaveLemmas.{Given}
-use Rattle.mk_reader.proofs.LineLemmas.{cond_sort, judged-fault}
 use Rattle.mk_reader.proofs.StepLemmas.{here-want, here-wrong, stood}
 
 module _ {W S : Type 0} (o : Outer W S) (x : Reader W S) (view : Bool → Bool) where

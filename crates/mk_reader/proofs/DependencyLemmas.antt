@@ -9,21 +9,21 @@ use Rattle.mk_depline.specs.declared.fault.DepFault.{DepFault}
 use Rattle.mk_depline.specs.declared.fault.DepFault.TheVariants as line
 use Rattle.mk_depline.specs.declared.line.DepLine.{DepLine}
 use Rattle.mk_expand.specs.Texts.{of_tree}
+use Rattle.mk_makefile.specs.Dependencies.{Parted, of_line, of_rule, parted, ruled, with_first}
+use Rattle.mk_makefile.specs.DependencyView.{IsRefusedLine}
+use Rattle.mk_makefile.specs.Questions.{Answers}
+use Rattle.mk_makefile.specs.Refusals.{of_ast, of_line_fault, of_rule_fault}
+use Rattle.mk_makefile.specs.Moments.{Doing, Moment}
+use Rattle.mk_makefile.specs.Steps.{by_parts, dependency_read, line_added, with_rules}
+use Rattle.mk_makefile.specs.declared.fault.Refusal.{Refusal}
+use Rattle.mk_makefile.specs.declared.fault.Refusal.TheVariants as refusal
+use Rattle.mk_makefile.specs.declared.fault.What.{What}
+use Rattle.mk_makefile.specs.declared.fault.What.TheVariants.{Expand}
 use Rattle.mk_rules.specs.Lines.{line_read}
 use Rattle.mk_rules.specs.Rules.{Ruled}
 use Rattle.mk_rules.specs.declared.fault.RuleFault.{RuleFault}
 use Rattle.mk_rules.specs.declared.fault.RuleFault.TheVariants as rule
-use Rattle.mk_reader.specs.Dependencies.{Parted, of_line, of_rule, parted, ruled, with_first}
-use Rattle.mk_reader.specs.DependencyView.{IsRefusedLine}
-use Rattle.mk_reader.specs.Questions.{Answers}
-use Rattle.mk_reader.specs.Refusals.{of_ast, of_line_fault, of_rule_fault}
-use Rattle.mk_reader.specs.Moments.{Doing, Moment}
-use Rattle.mk_reader.specs.Steps.{by_parts, dependency_read, line_added, with_rules}
 use Rattle.mk_reader.specs.Ties.{Outer}
-use Rattle.mk_reader.specs.declared.fault.Refusal.{Refusal}
-use Rattle.mk_reader.specs.declared.fault.Refusal.TheVariants as refusal
-use Rattle.mk_reader.specs.declared.fault.What.{What}
-use Rattle.mk_reader.specs.declared.fault.What.TheVariants.{Expand}
 use Rattle.mk_reader.specs.declared.reader.Reader.{Reader}
 use Rattle.mk_reader.proofs.GaveLemmas.{Given, Stays}
 use Rattle.mk_reader.proofs.StepLemmas.{changed-given, changed-want, changed-wrong, here-want, here-wrong, stood}

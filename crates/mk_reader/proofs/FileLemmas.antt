@@ -3,12 +3,12 @@ use Rattle.std.proofs.Common.{◌≡◌, ◌⊎◌, ℕ, Bool, true, false, List
 use Rattle.std.proofs.Common.{refl, sym, subst}
 use Rattle.mk_blocks.specs.Outcomes.{done, refused}
 use Rattle.mk_blocks.specs.declared.language.IncludedFile.{IncludedFile}
-use Rattle.mk_reader.specs.Inclusions.{IsRequired, required}
-use Rattle.mk_reader.specs.Moments.{Moment}
+use Rattle.mk_makefile.specs.Inclusions.{IsRequired, required}
+use Rattle.mk_makefile.specs.Moments.{Moment}
+use Rattle.mk_makefile.specs.declared.fault.Refusal.{Refusal}
+use Rattle.mk_makefile.specs.declared.fault.Refusal.TheVariants.{NoMemory, Wrong}
+use Rattle.mk_makefile.specs.declared.fault.What.TheVariants.{Include}
 use Rattle.mk_reader.specs.Ties.{Outer}
-use Rattle.mk_reader.specs.declared.fault.Refusal.{Refusal}
-use Rattle.mk_reader.specs.declared.fault.Refusal.TheVariants.{NoMemory, Wrong}
-use Rattle.mk_reader.specs.declared.fault.What.TheVariants.{Include}
 use Rattle.mk_reader.specs.declared.reader.Reader.{Reader}
 use Rattle.mk_reader.proofs.GaveLemmas.{Given}
 use Rattle.mk_reader.proofs.StepLemmas.{here-given, here-want, here-wrong, stood}

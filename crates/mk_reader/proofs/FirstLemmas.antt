@@ -3,9 +3,9 @@ use Rattle.std.proofs.Common.{◌≡◌, [], Result, Ok}
 use Rattle.mk_blocks.specs.Outcomes.{Outcome}
 use Rattle.mk_blocks.specs.Ties.{Does}
 use Rattle.mk_blocks.specs.declared.fault.LanguageFault.{LanguageFault}
-use Rattle.mk_reader.specs.Questions.{Answers}
+use Rattle.mk_makefile.specs.Questions.{Answers}
+use Rattle.mk_makefile.specs.declared.fault.Outside.{Outside}
 use Rattle.mk_reader.specs.Ties.{Outer, reader_ties}
-use Rattle.mk_reader.specs.declared.fault.Outside.{Outside}
 use Rattle.mk_reader.specs.declared.reader.Reader.{Reader}
 use Rattle.mk_reader.proofs.GaveLemmas.{Stays, leads-same, nothing_done}
 use Rattle.mk_reader.proofs.TieLemmas.{left-then}

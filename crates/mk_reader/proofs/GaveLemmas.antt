@@ -9,6 +9,24 @@ use Rattle.mk_expand.specs.Facts as expand
 use Rattle.mk_expand.specs.declared.facts.Asked.{Asked}
 use Rattle.mk_expand.specs.declared.fault.ExpandFault.{ExpandFault}
 use Rattle.mk_expand.specs.declared.fault.ExpandFault.TheVariants as expand_fault
+use Rattle.mk_makefile.specs.Acts.{Did, Did-nothing, DidPart-more, DidPart-whole, acts_of, acts_of-append, asked_in, written}
+use Rattle.mk_makefile.specs.Leads.{told-none}
+use Rattle.mk_makefile.specs.Messages.{said}
+use Rattle.mk_makefile.specs.Moments.{Doing, Moment, moment_of}
+use Rattle.mk_makefile.specs.Notes.{question_of, questions_in}
+use Rattle.mk_makefile.specs.Questions.{Answers, AreAsked, IsAsked, Question, cuts_in}
+use Rattle.mk_makefile.specs.Refusals.{of_expand, of_world, sorted}
+use Rattle.mk_makefile.specs.Values.{expanded}
+use Rattle.mk_makefile.specs.declared.fault.Outside.{Outside}
+use Rattle.mk_makefile.specs.declared.fault.Outside.TheVariants as outside
+use Rattle.mk_makefile.specs.declared.fault.Refusal.{Refusal}
+use Rattle.mk_makefile.specs.declared.fault.Refusal.TheVariants.{Wrong, Failed, NoMemory}
+use Rattle.mk_makefile.specs.declared.fault.What.{What}
+use Rattle.mk_makefile.specs.declared.fault.What.TheVariants.{Expand}
+use Rattle.mk_makefile.specs.declared.note.Note.{Note}
+use Rattle.mk_makefile.specs.declared.state.State.{State}
+use Rattle.mk_makefile.proofs.MomentLemmas.{moment-asked}
+use Rattle.mk_makefile.proofs.QuestionLemmas.{cuts_in-none, told_nothing, told_one}
 use Rattle.mk_world.specs.Causes.{HasCause}
 use Rattle.mk_world.specs.Runs.{Same}
 use Rattle.mk_world.specs.Sinks.{Gains, GainsPart}
@@ -18,27 +36,9 @@ use Rattle.mk_world.specs.declared.fault.SinkFault.TheVariants as sink_fault
 use Rattle.mk_world.specs.declared.fault.WorldFault.{WorldFault}
 use Rattle.mk_world.specs.declared.fault.WorldFault.TheVariants as world_fault
 use Rattle.mk_world.proofs.SinkLemmas.{Gains-nothing}
-use Rattle.mk_reader.specs.Acts.{Did, Did-nothing, DidPart-more, DidPart-whole, acts_of, acts_of-append, asked_in, written}
-use Rattle.mk_reader.specs.Leads.{told-none}
-use Rattle.mk_reader.specs.Messages.{said}
-use Rattle.mk_reader.specs.Moments.{Doing, Moment, moment_of}
-use Rattle.mk_reader.specs.Notes.{question_of, questions_in}
-use Rattle.mk_reader.specs.Questions.{Answers, AreAsked, IsAsked, Question, cuts_in}
-use Rattle.mk_reader.specs.Refusals.{of_expand, of_world, sorted}
 use Rattle.mk_reader.specs.Ties.{cut_last-none, Evaluated, IsWhole, Leads, Outer, acts_at, did, did_part, ended, has_answered, idle}
 use Rattle.mk_reader.specs.Ties.{no_cause, reader_ties}
-use Rattle.mk_reader.specs.declared.fault.Outside.{Outside}
-use Rattle.mk_reader.specs.declared.fault.Outside.TheVariants as outside
-use Rattle.mk_reader.specs.declared.fault.Refusal.{Refusal}
-use Rattle.mk_reader.specs.declared.fault.Refusal.TheVariants.{Wrong, Failed, NoMemory}
-use Rattle.mk_reader.specs.Values.{expanded}
-use Rattle.mk_reader.specs.declared.fault.What.{What}
-use Rattle.mk_reader.specs.declared.fault.What.TheVariants.{Expand}
-use Rattle.mk_reader.specs.declared.note.Note.{Note}
 use Rattle.mk_reader.specs.declared.reader.Reader.{Reader}
-use Rattle.mk_reader.specs.declared.state.State.{State}
-use Rattle.mk_reader.proofs.MomentLemmas.{moment-asked}
-use Rattle.mk_reader.proofs.QuestionLemmas.{cuts_in-none, told_nothing, told_one}
 
 -- a fault that the outside does not cause
 abbrev IsOwn : ExpandFault → Type 0

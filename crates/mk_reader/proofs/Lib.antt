@@ -3,16 +3,8 @@ mod DependencyLemmas
 mod FileLemmas
 mod FirstLemmas
 mod GaveLemmas
-mod KindLemmas
-mod LineLemmas
 mod MapLemmas
-mod MomentLemmas
-mod QuestionLemmas
 mod ReadByLemmas
 mod ReadLemmas
-mod Rows
-mod SemicolonLemmas
-mod SignLemmas
 mod StepLemmas
 mod TieLemmas
-mod VariableLemmas

@@ -3,6 +3,9 @@ use Rattle.std.proofs.Common.{◌≡◌, ℕ, zero, suc, not, List, [], ◌∷�
 use Rattle.std.proofs.Common.{refl, sym, ap, subst, ◌∙◌, map}
 use Rattle.std.specs.Option.{option_map}
 use Rattle.mk_expand.specs.declared.facts.Asked.{Asked}
+use Rattle.mk_makefile.specs.Questions.{Answered, AreAsked, IsAsked, Question, Reading, Running}
+use Rattle.mk_makefile.specs.Questions.{bytes_of, cut, output_of, time_of}
+use Rattle.mk_makefile.specs.Questions.{cuts_in, readings_in, runnings_in, times_in}
 use Rattle.mk_world.proofs.CallLemmas.{after_all-append}
 use Rattle.mk_world.specs.Calls.{when_of}
 use Rattle.mk_world.specs.Deeds.{Store}
@@ -16,9 +19,6 @@ use Rattle.mk_world.specs.declared.history.History.{History}
 use Rattle.mk_world.specs.declared.step.Ended.{Ended}
 use Rattle.mk_world.specs.declared.time.When.{When}
 use Rattle.mk_reader.specs.OnMaps.{LeaveAll, ReadsTheMap, answers_on}
-use Rattle.mk_reader.specs.Questions.{Answered, AreAsked, IsAsked, Question, Reading, Running}
-use Rattle.mk_reader.specs.Questions.{bytes_of, cut, output_of, time_of}
-use Rattle.mk_reader.specs.Questions.{cuts_in, readings_in, runnings_in, times_in}
 
 -- a look changes no file
 looked-files : (old new : History) (path : List ℕ) → new.base ≡ old.base

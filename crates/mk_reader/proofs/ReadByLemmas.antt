@@ -10,25 +10,25 @@ use Rattle.mk_blocks.specs.Ties as verdict
 use Rattle.mk_world.specs.Causes.{HasCause}
 use Rattle.mk_world.specs.Talks.{Meaning}
 use Rattle.mk_world.specs.declared.history.History.{History}
-use Rattle.mk_reader.specs.Acts.{Did, Did-nothing, DidPart, DidPart-more, DidPart-whole, acts_of}
-use Rattle.mk_reader.specs.Leads.{told-none}
-use Rattle.mk_reader.specs.Notes.{questions_in}
 use Rattle.mk_blocks.specs.Runs.{run_at}
 use Rattle.mk_graph.specs.declared.mode.Mode.{Mode}
-use Rattle.mk_reader.specs.Moments.{Moment}
-use Rattle.mk_reader.specs.Questions.{Answered, Answers, times_in}
-use Rattle.mk_reader.specs.Reading.{looked_behind, run_read}
-use Rattle.mk_reader.specs.ReadFaults.{Reads, of_stop, sorted}
+use Rattle.mk_makefile.specs.Acts.{Did, Did-nothing, DidPart, DidPart-more, DidPart-whole, acts_of}
+use Rattle.mk_makefile.specs.Leads.{told-none}
+use Rattle.mk_makefile.specs.Notes.{questions_in}
+use Rattle.mk_makefile.specs.Moments.{Moment}
+use Rattle.mk_makefile.specs.Questions.{Answered, Answers, times_in}
+use Rattle.mk_makefile.specs.Reading.{looked_behind, run_read}
+use Rattle.mk_makefile.specs.ReadFaults.{Reads, of_stop, sorted}
+use Rattle.mk_makefile.specs.declared.fault.Fault.TheVariants as fault
+use Rattle.mk_makefile.specs.declared.fault.Outside.{Outside}
+use Rattle.mk_makefile.specs.declared.fault.Outside.TheVariants as outside
+use Rattle.mk_makefile.specs.declared.fault.ReadFault.{ReadFault}
+use Rattle.mk_makefile.specs.declared.fault.ReadFault.TheVariants as read
+use Rattle.mk_makefile.specs.declared.fault.Stop.{Stop}
+use Rattle.mk_makefile.specs.declared.fault.Stop.TheVariants as stop
 use Rattle.mk_reader.specs.Results.{LooksBy, ReadBy, standing}
 use Rattle.mk_reader.specs.Ties.{Leads, Outer, acts_at, cut_last-none, did, did_part, ended, has_answered, idle}
 use Rattle.mk_reader.specs.Ties.{reader_ties}
-use Rattle.mk_reader.specs.declared.fault.Fault.TheVariants as fault
-use Rattle.mk_reader.specs.declared.fault.Outside.{Outside}
-use Rattle.mk_reader.specs.declared.fault.Outside.TheVariants as outside
-use Rattle.mk_reader.specs.declared.fault.ReadFault.{ReadFault}
-use Rattle.mk_reader.specs.declared.fault.ReadFault.TheVariants as read
-use Rattle.mk_reader.specs.declared.fault.Stop.{Stop}
-use Rattle.mk_reader.specs.declared.fault.Stop.TheVariants as stop
 use Rattle.mk_reader.specs.declared.reader.Reader.{Reader}
 
 -- the acts of an outcome behind others that has none itself

@@ -4,15 +4,15 @@ use Rattle.mk_blocks.specs.Runs.{Run}
 use Rattle.mk_blocks.specs.Ties as blocks
 use Rattle.mk_blocks.specs.declared.fault.FileFault.{FileFault}
 use Rattle.mk_blocks.specs.declared.fault.FileFault.TheVariants as file
-use Rattle.mk_reader.specs.ReadFaults.{file_fault, of_end, of_end_refusal, of_file, of_refusal, of_what, sorted}
-use Rattle.mk_reader.specs.Moments.{Moment}
-use Rattle.mk_reader.specs.Questions.{Answers}
-use Rattle.mk_reader.specs.Reading.{default_read, files_read, makefiles_read}
-use Rattle.mk_reader.specs.Refusals as refusals
-use Rattle.mk_reader.specs.declared.fault.Outside.{Outside}
-use Rattle.mk_reader.specs.declared.fault.Refusal.{Refusal}
-use Rattle.mk_reader.specs.declared.fault.Refusal.TheVariants as refusal
-use Rattle.mk_reader.specs.declared.fault.What.{What}
+use Rattle.mk_makefile.specs.ReadFaults.{file_fault, of_end, of_end_refusal, of_file, of_refusal, of_what, sorted}
+use Rattle.mk_makefile.specs.Moments.{Moment}
+use Rattle.mk_makefile.specs.Questions.{Answers}
+use Rattle.mk_makefile.specs.Reading.{default_read, files_read, makefiles_read}
+use Rattle.mk_makefile.specs.Refusals as refusals
+use Rattle.mk_makefile.specs.declared.fault.Outside.{Outside}
+use Rattle.mk_makefile.specs.declared.fault.Refusal.{Refusal}
+use Rattle.mk_makefile.specs.declared.fault.Refusal.TheVariants as refusal
+use Rattle.mk_makefile.specs.declared.fault.What.{What}
 use Rattle.mk_reader.proofs.TieLemmas.{verdict_as}
 
 pub sorted-refusal : (fault : Refusal)

@@ -4,13 +4,13 @@ use Rattle.std.proofs.Common.{◌+◌, ◌<◌, drop, get_or, length, refl, sym,
 use Rattle.std.proofs.lemmas.List.{drop_more}
 use Rattle.mk_blocks.specs.Outcomes.{done, refused, ◌>>=◌}
 use Rattle.mk_blocks.specs.Ties.{Does, Gives}
-use Rattle.mk_reader.specs.Moments.{Doing, Moment, moment_of}
-use Rattle.mk_reader.specs.Questions.{Answers}
-use Rattle.mk_reader.specs.Refusals.{sorted}
+use Rattle.mk_makefile.specs.Moments.{Doing, Moment, moment_of}
+use Rattle.mk_makefile.specs.Questions.{Answers}
+use Rattle.mk_makefile.specs.Refusals.{sorted}
+use Rattle.mk_makefile.specs.declared.fault.Refusal.{Refusal}
+use Rattle.mk_makefile.specs.declared.fault.Refusal.TheVariants.{Wrong, NoMemory}
+use Rattle.mk_makefile.specs.declared.fault.What.{What}
 use Rattle.mk_reader.specs.Ties.{Outer, leads_nowhere, reader_ties}
-use Rattle.mk_reader.specs.declared.fault.Refusal.{Refusal}
-use Rattle.mk_reader.specs.declared.fault.Refusal.TheVariants.{Wrong, NoMemory}
-use Rattle.mk_reader.specs.declared.fault.What.{What}
 use Rattle.mk_reader.specs.declared.reader.Reader.{Reader}
 use Rattle.mk_reader.proofs.TieLemmas.{Goes-as, Goes-bind, first-refused, first-then, left-then}
 use Rattle.mk_reader.proofs.GaveLemmas.{Given, Stays, gave-given, gave-want, gave-wrong, leads-same, nothing_done}

@@ -7,7 +7,7 @@ use Rattle.mk_blocks.specs.Ties.{Does, Gives, Goes, Refuses, Ties, failure_in}
 use Rattle.mk_blocks.specs.declared.fault.LanguageFault.{LanguageFault}
 use Rattle.mk_blocks.specs.declared.fault.LanguageFault.TheVariants.{Wrong, Failed, NoMemory}
 use Rattle.mk_blocks.proofs.OutcomeLemmas.{added, behind-behind, followed-acts}
-use Rattle.mk_reader.specs.ReadFaults.{outcome_as}
+use Rattle.mk_makefile.specs.ReadFaults.{outcome_as}
 
 -- Outcomes
 

@@ -2,17 +2,17 @@
 use Rattle.std.specs.Prelude.{◌≡◌, ℕ, List, [], ◌∷◌, Option, Some, Result, is_some}
 use Rattle.mk_cli.specs.declared.order.Order.{Order}
 use Rattle.mk_graph.specs.declared.Made.{Made}
+use Rattle.mk_makefile.specs.Acts.{acts_of}
+use Rattle.mk_makefile.specs.Questions.{Answers, Running, cuts_in, runnings_in}
+use Rattle.mk_makefile.specs.ReadFaults.{Reads}
+use Rattle.mk_makefile.specs.Reading.{reading}
+use Rattle.mk_makefile.specs.declared.fault.ReadFault.{ReadFault}
 use Rattle.mk_scopes.specs.declared.scopes.Env.{Env}
 use Rattle.mk_world.specs.Deeds.{Store}
 use Rattle.mk_world.specs.History.{files_of}
 use Rattle.mk_world.specs.Talks.{Meaning, after_doing, does}
 use Rattle.mk_world.specs.declared.history.History.{History}
-use Rattle.mk_reader.specs.Acts.{acts_of}
-use Rattle.mk_reader.specs.Questions.{Answers, Running, cuts_in, runnings_in}
-use Rattle.mk_reader.specs.ReadFaults.{Reads}
-use Rattle.mk_reader.specs.Reading.{reading}
 use Rattle.mk_reader.specs.Results.{Gave, ReadBy}
-use Rattle.mk_reader.specs.declared.fault.ReadFault.{ReadFault}
 
 -- what the outside answers where these are the files whenever it is asked
 abbrev pub answers_on : Meaning → Store → Answers

@@ -8,18 +8,18 @@ use Rattle.mk_world.specs.Talks.{Meaning}
 use Rattle.mk_world.specs.Told.{Told}
 use Rattle.mk_world.specs.declared.history.History.{History}
 use Rattle.mk_graph.specs.declared.mode.Mode.{Mode}
-use Rattle.mk_reader.specs.Acts.{Did, DidPart, acts_of}
-use Rattle.mk_reader.specs.Moments.{Moment, moment_of}
-use Rattle.mk_reader.specs.Reading.{run_read}
 use Rattle.mk_expand.specs.declared.facts.Asked.{Asked}
-use Rattle.mk_reader.specs.Questions.{Answered, Answers, AreAsked, Question, cuts_in, times_in}
-use Rattle.mk_reader.specs.ReadFaults.{Reads, sorted}
+use Rattle.mk_makefile.specs.Acts.{Did, DidPart, acts_of}
+use Rattle.mk_makefile.specs.Moments.{Moment, moment_of}
+use Rattle.mk_makefile.specs.Reading.{run_read}
+use Rattle.mk_makefile.specs.Questions.{Answered, Answers, AreAsked, Question, cuts_in, times_in}
+use Rattle.mk_makefile.specs.ReadFaults.{Reads, sorted}
+use Rattle.mk_makefile.specs.declared.fault.Outside.{Outside}
+use Rattle.mk_makefile.specs.declared.fault.Outside.TheVariants as outside
+use Rattle.mk_makefile.specs.declared.fault.ReadFault.{ReadFault}
+use Rattle.mk_makefile.specs.declared.fault.ReadFault.TheVariants.{World, Sink, NoMemory}
+use Rattle.mk_makefile.specs.declared.fault.Stop.{Stop}
 use Rattle.mk_reader.specs.Ties.{IsWhole, Outer, reader_ties}
-use Rattle.mk_reader.specs.declared.fault.Outside.{Outside}
-use Rattle.mk_reader.specs.declared.fault.Outside.TheVariants as outside
-use Rattle.mk_reader.specs.declared.fault.ReadFault.{ReadFault}
-use Rattle.mk_reader.specs.declared.fault.ReadFault.TheVariants.{World, Sink, NoMemory}
-use Rattle.mk_reader.specs.declared.fault.Stop.{Stop}
 use Rattle.mk_reader.specs.declared.reader.Reader.{Reader}
 
 -- where a reader stands

@@ -10,29 +10,29 @@ use Rattle.mk_expand.specs.Facts.{Means}
 use Rattle.mk_expand.specs.Facts as expand
 use Rattle.mk_expand.specs.declared.facts.Asked.{Asked}
 use Rattle.mk_expand.specs.declared.fault.ExpandFault.{ExpandFault}
+use Rattle.mk_makefile.specs.Acts.{Did, Did-both, Did-nothing, DidPart, DidPart-behind, DidPart-more, DidPart-whole, acts_of}
+use Rattle.mk_makefile.specs.Kinds.{line_kind}
+use Rattle.mk_makefile.specs.Languages.{meaning}
+use Rattle.mk_makefile.specs.Leads.{Led, told-none, told_both}
+use Rattle.mk_makefile.specs.Moments.{Doing, Moment, moment_of}
+use Rattle.mk_makefile.specs.Notes.{asked_by, question_of, questions_in}
+use Rattle.mk_makefile.specs.Questions.{Answered, Answers, AreAsked, Question}
+use Rattle.mk_makefile.specs.Questions.{bytes_of, cut, output_of, time_of}
+use Rattle.mk_makefile.specs.Questions.{cuts_in, cuts_in-append, readings_in, runnings_in, times_in}
+use Rattle.mk_makefile.specs.Questions.{readings_in-append, runnings_in-append, times_in-append}
+use Rattle.mk_makefile.specs.Refusals.{sorted}
+use Rattle.mk_makefile.specs.SomeAnswers.{answers_to, are_answered}
+use Rattle.mk_makefile.specs.declared.fault.Outside.{Outside}
+use Rattle.mk_makefile.specs.declared.fault.Outside.TheVariants as outside
+use Rattle.mk_makefile.specs.declared.fault.Refusal.{Refusal}
+use Rattle.mk_makefile.specs.declared.fault.What.{What}
+use Rattle.mk_makefile.specs.declared.note.Note.{Note}
+use Rattle.mk_makefile.specs.declared.state.State.{State}
 use Rattle.mk_world.specs.Causes.{HasCause}
 use Rattle.mk_world.specs.Talks.{Meaning}
 use Rattle.mk_world.specs.Told.{Told}
 use Rattle.mk_world.specs.declared.history.History.{History}
-use Rattle.mk_reader.specs.Acts.{Did, Did-both, Did-nothing, DidPart, DidPart-behind, DidPart-more, DidPart-whole, acts_of}
-use Rattle.mk_reader.specs.Kinds.{line_kind}
-use Rattle.mk_reader.specs.Languages.{meaning}
-use Rattle.mk_reader.specs.Leads.{Led, told-none, told_both}
-use Rattle.mk_reader.specs.Moments.{Doing, Moment, moment_of}
-use Rattle.mk_reader.specs.Notes.{asked_by, question_of, questions_in}
-use Rattle.mk_reader.specs.Questions.{Answered, Answers, AreAsked, Question}
-use Rattle.mk_reader.specs.Questions.{bytes_of, cut, output_of, time_of}
-use Rattle.mk_reader.specs.Questions.{cuts_in, cuts_in-append, readings_in, runnings_in, times_in}
-use Rattle.mk_reader.specs.Questions.{readings_in-append, runnings_in-append, times_in-append}
-use Rattle.mk_reader.specs.declared.fault.Outside.{Outside}
-use Rattle.mk_reader.specs.declared.fault.Outside.TheVariants as outside
-use Rattle.mk_reader.specs.Refusals.{sorted}
-use Rattle.mk_reader.specs.SomeAnswers.{answers_to, are_answered}
-use Rattle.mk_reader.specs.declared.fault.Refusal.{Refusal}
-use Rattle.mk_reader.specs.declared.fault.What.{What}
-use Rattle.mk_reader.specs.declared.note.Note.{Note}
 use Rattle.mk_reader.specs.declared.reader.Reader.{Reader}
-use Rattle.mk_reader.specs.declared.state.State.{State}
 
 -- a reader's world and sink, as they tell of themselves
 pub record Outer (W S : Type 0) : Type 1 where

@@ -1,63 +1,18 @@
 //! The lines that begin branches and loops.
-ghost use Rattle.std.specs.Prelude.{◌≡◌, ◌<◌, length};
+ghost use Rattle.std.specs.Prelude.{◌<◌, length};
 ghost use Rattle.mk_turns.specs.Turns.{loop_turns};
-ghost use Rattle.mk_bytes.specs.Agrees.{Agrees};
-ghost use Rattle.mk_reader.specs.Blocks as spec;
+ghost use Rattle.mk_makefile.specs.Blocks as spec;
 ghost use Rattle.mk_reader.specs.Ties.{Gave, outer};
 
-use crate::fault::{Refusal, What};
-use crate::kind::without_spaces;
 use crate::reader::Reader;
 use mk_blocks::Loop;
 use mk_bytes::Texts;
 use mk_cond::{Form, parse_cond};
-use mk_directive::{Directive, directive_on, heading_in, words};
+use mk_directive::{heading_in, words};
 use mk_lines::cut_comment;
+use mk_makefile::{Refusal, What, argument_on, condition_on, divide, without_spaces};
 use mk_world::{Sink, World};
 use std::alloc::Global;
-
-fn form_of(directive: Directive) -> Form
-    ensures { result ≡ spec.form_of directive }
-{
-    match directive {
-        Directive::If(form) => form,
-        Directive::ElseIf(form) => form,
-        _ => Form::If,
-    }
-}
-
-// The form of a line's condition, and its text.
-fn condition_on<'t>(line: &'t [u8]) -> (Form, &'t [u8])
-    ensures form { result.0 ≡ (spec.condition_on line.now).0 }
-    ensures text { result.1.now ≡ (spec.condition_on line.now).1 }
-{
-    match directive_on(line) {
-        Some(found) => (form_of(found.directive), found.argument),
-        None => (Form::If, line),
-    }
-}
-
-/// What follows the word of a line's directive, and the blanks behind that.
-pub fn argument_on<'t>(line: &'t [u8]) -> &'t [u8]
-    ensures { result.now ≡ spec.argument_on line.now }
-{
-    match directive_on(line) {
-        Some(found) => found.argument,
-        None => line,
-    }
-}
-
-// A loop whose names divide its words.
-fn divide(names: Texts, words: Texts) -> Result<Loop, What>
-    requires { 0 < length names }
-    ensures { spec.IsDivided names words result }
-{
-    let count = names.len();
-    if words.len() % count != 0 {
-        return Err(What::Count(words.len(), count));
-    }
-    Ok(Loop { names, words })
-}
 
 impl<'a, W: World, S: Sink> Reader<'a, W, S> {
     // Whether a condition of this form holds.

@@ -1,11 +1,10 @@
 //! The language of makefiles, line by line.
 ghost use Rattle.std.specs.Prelude.{◌≡◌};
-ghost use Rattle.mk_reader.specs.Refusals.{sorted};
+ghost use Rattle.mk_makefile.specs.Refusals.{sorted};
 
-use crate::fault::{Outside, Refusal, What};
-use crate::kind::line_kind;
 use crate::reader::Reader;
 use mk_blocks::{IncludedFile, Language, LanguageFault, LineKind, Loop};
+use mk_makefile::{Outside, Refusal, What, line_kind};
 use mk_world::{Sink, World};
 use std::alloc::Global;
 

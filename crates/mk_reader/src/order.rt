@@ -1,31 +1,13 @@
 //! What the words of a command line set before any makefile is read.
-ghost use Rattle.std.specs.Prelude.{◌≡◌, IfOk};
-ghost use Rattle.mk_expand.specs.Locals as names;
-ghost use Rattle.mk_reader.specs.Orders as spec;
+ghost use Rattle.mk_makefile.specs.Orders as spec;
 ghost use Rattle.mk_reader.specs.Ties.{Gave, outer};
 
-use crate::fault::Refusal;
 use crate::reader::Reader;
-use mk_bytes::{NoMemory, Text, Texts};
 use mk_cli::{Set, Sets};
+use mk_makefile::{Refusal, spaced};
 use mk_scopes::Class;
 use mk_world::{Sink, World};
 use std::alloc::Global;
-
-// The texts with one space between them.
-fn spaced(alloc: Global, texts: &Texts) -> Result<Text, NoMemory>
-    ensures { IfOk result (λ text. text ≡ names.spaced texts.now) }
-{
-    let [first, rest @ ..] = texts.as_slice() else {
-        return Ok(Text::new(alloc));
-    };
-    let mut text = first.copy(alloc)?;
-    for one in rest {
-        text.push(b" ")?;
-        text.push(one.bytes())?;
-    }
-    Ok(text)
-}
 
 impl<'a, W: World, S: Sink> Reader<'a, W, S> {
     // Applies one assignment of the command line.

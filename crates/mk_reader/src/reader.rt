@@ -1,7 +1,7 @@
 ghost use Rattle.std.specs.Prelude.{◌≡◌};
 
-use crate::state::State;
 use mk_cli::Order;
+use mk_makefile::State;
 
 /// What reads makefiles: the world that it asks, the sink of its messages, what the lines so far leave,
 /// and what the command line orders.

@@ -1,30 +1,27 @@
 //! Reading of the makefiles of a run.
-ghost use Rattle.std.specs.Prelude.{◌≡◌, ◌≤◌, ◌^◌, ◌<◌, [], length, IsTrue, IfErr, IfOk, OnOk};
+ghost use Rattle.std.specs.Prelude.{◌^◌, ◌<◌, [], length, IsTrue, OnOk};
 ghost use Rattle.mk_bytes.specs.Paths.{is_clean_directory};
-ghost use Rattle.mk_reader.specs.Reading as spec;
-ghost use Rattle.mk_reader.specs.Modes as modes;
-ghost use Rattle.mk_reader.specs.Moments.{moment_of};
-ghost use Rattle.mk_reader.specs.Orders.{first_moment};
+ghost use Rattle.mk_makefile.specs.Modes as modes;
+ghost use Rattle.mk_makefile.specs.Reading as spec;
+ghost use Rattle.mk_makefile.specs.declared.fault.ReadFault.TheVariants.{
+  Sink as sink_failed,
+  World as world_failed,
+};
 ghost use Rattle.mk_reader.specs.Results.{Ended, Found, LooksBy, ReadBy, Went};
 ghost use Rattle.mk_reader.specs.Ties.{Gave, outer};
-ghost use Rattle.mk_reader.specs.declared.fault.ReadFault.TheVariants.{
-  NoMemory as no_memory,
-  Sink as sink_failed,
-  World
-      as world_failed,
-};
 ghost use Rattle.mk_world.specs.Causes.{HasCause};
 
-use crate::fault::{Fault, ReadFault, Refusal, Stop, refused, refused_at_end};
 use crate::reader::Reader;
-use crate::state::{Draft, State};
 use mk_blocks::read_file;
-use mk_bytes::{NoMemory, Text, Texts, clean_path};
+use mk_bytes::{Text, Texts, clean_path};
 use mk_cli::Order;
 use mk_directive::words;
 use mk_graph::{Made, Mode};
-use mk_rules::{Rules, mode_by};
-use mk_scopes::{Env, Scopes};
+use mk_makefile::{
+    Fault, ReadFault, Refusal, Stop, first_state, made_of, refused, refused_at_end,
+};
+use mk_rules::mode_by;
+use mk_scopes::Env;
 use mk_world::{Sink, World};
 use std::alloc::Global;
 
@@ -185,51 +182,6 @@ impl<'a, W: World, S: Sink> Reader<'a, W, S> {
         let mut count = 0;
         self.read_all(alloc, &mut count)?;
         self.mode_at_end(alloc)
-    }
-}
-
-// The state before the first line.
-fn first_state(alloc: Global, env: &Env, order: &Order) -> Result<State, NoMemory>
-    requires { IsTrue (is_clean_directory env.now.cwd) }
-    ensures moment { IfOk result (λ state.
-        moment_of state order.now ≡ first_moment env.now order.now) }
-    ensures asked { IfOk result (λ state. state.notes.items ≡ []) }
-{
-    let scopes = Scopes::new(alloc, env, order.env_first)?;
-    match Rules::new(alloc) {
-        Ok(rules) => Ok(State {
-            made: Draft {
-                scopes,
-                rules,
-                file: Text::new(alloc),
-            },
-            in_group: false,
-            notes: Vec::new(alloc),
-        }),
-        Err(fault) => {
-            drop(scopes);
-            Err(fault)
-        }
-    }
-}
-
-// What makefiles leave.
-fn made_of(draft: Draft, mode: Mode) -> Result<Made, ReadFault>
-    ensures made { IfOk result (λ made. made ≡ modes.made_by draft mode) }
-    ensures want { IfErr result (λ fault. fault ≡ no_memory) }
-{
-    match draft.rules.finish() {
-        Ok(finished) => Ok(Made {
-            scopes: draft.scopes,
-            graph: finished.graph,
-            suffixes: finished.suffixes,
-            main: finished.main,
-            mode,
-        }),
-        Err(fault) => {
-            drop(draft.scopes);
-            Err(ReadFault::from(fault))
-        }
     }
 }
 

@@ -1,15 +1,14 @@
 //! What one logical line of a makefile does that is none of the blocks'.
 ghost use Rattle.std.specs.Option.{option_copied};
-ghost use Rattle.mk_reader.specs.Steps as spec;
+ghost use Rattle.mk_makefile.specs.Steps as spec;
 ghost use Rattle.mk_reader.specs.Ties.{Gave, outer};
 
-use crate::assignment::{Parts, assignment};
-use crate::dependency::{add_line, parted};
-use crate::fault::{Refusal, What};
-use crate::kind::{command_in, is_only_white, without_spaces};
 use crate::reader::Reader;
 use mk_directive::{Directed, Directive, directive_on};
 use mk_lines::cut_comment;
+use mk_makefile::{
+    Parts, Refusal, What, add_line, assignment, command_in, is_only_white, parted, without_spaces,
+};
 use mk_scopes::Class;
 use mk_world::{Sink, World};
 use std::alloc::Global;

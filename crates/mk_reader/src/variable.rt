@@ -1,81 +1,16 @@
 //! How assignments change variables (make(1), "VARIABLE ASSIGNMENTS").
-ghost use Rattle.std.specs.Prelude.{◌≡◌, ◌++◌, ◌∷◌, [], IfOk, OnOk, OnErr};
+ghost use Rattle.mk_makefile.specs.Moments.{stands};
+ghost use Rattle.mk_makefile.specs.Variables as spec;
 ghost use Rattle.mk_reader.specs.Ties.{Gave, outer};
-ghost use Rattle.mk_reader.specs.Moments.{stands};
-ghost use Rattle.mk_reader.specs.Variables as spec;
 
-use crate::fault::{Refusal, What};
 use crate::reader::Reader;
-use mk_bytes::{Items, NoMemory, Text};
+use mk_bytes::Text;
 use mk_cli::AssignOp;
 use mk_directive::words;
-use mk_scopes::{Class, Scopes};
+use mk_makefile::{Refusal, What, is_own_value, on_one_line, remove_all, set_default};
+use mk_scopes::Class;
 use mk_world::{Sink, World};
 use std::alloc::Global;
-
-// The most bytes of a name that is its own value for certain.
-const MAX_NAME: usize = 4_194_304;
-
-// Whether a name is its own value for certain, and names a variable.
-fn is_own_value(name: &[u8]) -> bool
-    ensures { result ≡ spec.is_own_value name.now }
-{
-    match name {
-        [] => false,
-        [_, ..] => name.len() <= MAX_NAME && !name.contains(&b'$'),
-    }
-}
-
-fn as_space(byte: u8) -> u8
-    ensures { result ≡ spec.as_space byte }
-{
-    if byte == b'\n' {
-        return b' ';
-    }
-    byte
-}
-
-fn without_newline<'t>(text: &'t [u8]) -> &'t [u8]
-    ensures { result.now ≡ spec.without_newline text.now }
-{
-    if let Some(line) = text.strip_suffix(b"\n".as_slice()) {
-        return line;
-    }
-    text
-}
-
-// The output of a command without one final newline, and with spaces for other ones.
-fn on_one_line(alloc: Global, text: &[u8]) -> Result<Text, NoMemory>
-    ensures { IfOk result (λ line. line ≡ spec.on_one_line text.now) }
-{
-    let mut line = Text::new(alloc);
-    let rest = without_newline(text);
-    for byte in rest {
-        line.push(&[as_space(*byte)])?;
-    }
-    Ok(line)
-}
-
-// Sets a variable that no class has.
-fn set_default(scopes: &mut Scopes, class: Class, name: &[u8], text: &[u8]) -> Result<(), NoMemory>
-    ensures ok { OnOk result
-        (scopes.new ≡ spec.defaulted_in scopes.old class name.now text.now) }
-    ensures err { OnErr result (scopes.new ≡ scopes.old) }
-{
-    if scopes.get(name).is_some() {
-        return Ok(());
-    }
-    scopes.assign(class, name, text)
-}
-
-// Removes the globals of these names.
-fn remove_all(scopes: &mut Scopes, names: &[Text])
-    ensures { scopes.new ≡ spec.without_globals scopes.old names.now }
-{
-    for name in names {
-        scopes.undef(name.bytes());
-    }
-}
 
 impl<'a, W: World, S: Sink> Reader<'a, W, S> {
     // The name of a variable, expanded.

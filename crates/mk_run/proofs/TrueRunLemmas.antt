@@ -8,8 +8,8 @@ use Rattle.mk_decision.specs.Makers.{work_on}
 use Rattle.mk_dry.proofs.TruthLemmas.{dry-runs-stay-true, dry-true}
 use Rattle.mk_flags.specs.declared.Flags.{Flags}
 use Rattle.mk_graph.specs.declared.Made.{Made}
+use Rattle.mk_makefile.specs.Questions.{AreAsked, IsAsked, Question, bytes_of, time_of, output_of, cut}
 use Rattle.mk_query.specs.Looks.{Saw, look_of}
-use Rattle.mk_reader.specs.Questions.{AreAsked, IsAsked, Question, bytes_of, time_of, output_of, cut}
 use Rattle.mk_scopes.specs.declared.scopes.Env.{Env}
 use Rattle.mk_trace.proofs.AlongLemmas.{OnlyAsked, all-append, asked-none, asked-true, built-true}
 use Rattle.mk_trace.specs.TrueBuilds.{IsQuestion}

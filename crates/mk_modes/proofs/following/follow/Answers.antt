@@ -1,5 +1,5 @@
 use Rattle.std.proofs.Common.{Err}
-use Rattle.mk_reader.specs.declared.fault.ReadFault.TheVariants.{World}
+use Rattle.mk_makefile.specs.declared.fault.ReadFault.TheVariants.{World}
 use Rattle.mk_modes.specs.Ends.{of_read}
 use Rattle.mk_modes.specs.declared.report.End.TheVariants.{WorldFault}
 use Rattle.mk_modes.proofs.MeaningLemmas.{Goes-ended, EndCause-behind, SinkCause-behind}

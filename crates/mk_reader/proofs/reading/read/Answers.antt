@@ -4,16 +4,16 @@ use Rattle.std.proofs.lemmas.Result.{err_from_is_err_and}
 use Rattle.mk_blocks.specs.Outcomes.{done, ◌>>=◌}
 use Rattle.mk_blocks.specs.Runs.{run_at}
 use Rattle.mk_graph.specs.declared.Made.{Made}
+use Rattle.mk_makefile.specs.Modes.{made_at}
+use Rattle.mk_makefile.specs.Orders.{first_moment}
+use Rattle.mk_makefile.specs.ReadFaults.{sorted}
+use Rattle.mk_makefile.specs.Reading.{looks, reading, run_read}
+use Rattle.mk_makefile.specs.declared.fault.ReadFault.{ReadFault}
+use Rattle.mk_makefile.specs.declared.fault.ReadFault.TheVariants as fault
+use Rattle.mk_makefile.specs.declared.fault.Stop.TheVariants as stop
 use Rattle.mk_world.specs.Causes.{HasCause}
-use Rattle.mk_reader.specs.Modes.{made_at}
-use Rattle.mk_reader.specs.Orders.{first_moment}
-use Rattle.mk_reader.specs.ReadFaults.{sorted}
-use Rattle.mk_reader.specs.Reading.{looks, reading, run_read}
 use Rattle.mk_reader.specs.Results.{LooksBy, ReadBy, standing}
 use Rattle.mk_reader.specs.Ties.{outer}
-use Rattle.mk_reader.specs.declared.fault.ReadFault.{ReadFault}
-use Rattle.mk_reader.specs.declared.fault.ReadFault.TheVariants as fault
-use Rattle.mk_reader.specs.declared.fault.Stop.TheVariants as stop
 use Rattle.mk_reader.proofs.ReadByLemmas.{looks_ok, made_or_want, read_err, read_nothing, read_ok, sink_by, sink_ok, world_by}
 use Rattle.mk_reader.proofs.ReadByLemmas.{world_ok}
 use Rattle.mk_reader.proofs.TieLemmas.{does-as, first-refused, first-then, still-given, still-want}

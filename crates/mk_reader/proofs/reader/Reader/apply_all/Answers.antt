@@ -1,7 +1,7 @@
 use Rattle.std.proofs.Common.{◌+◌, drop, refl, ap}
 use Rattle.std.proofs.lemmas.Result.{err_from_is_err_and}
-use Rattle.mk_reader.specs.Moments.{moment_of}
-use Rattle.mk_reader.specs.Orders.{all_set}
+use Rattle.mk_makefile.specs.Moments.{moment_of}
+use Rattle.mk_makefile.specs.Orders.{all_set}
 use Rattle.mk_reader.proofs.StepLemmas.{drop-item, given-as, left-as, left-first, left-given, left-here}
 use Rattle.mk_reader.proofs.StepLemmas.{left-on, then-fault}
 use Rattle.mk_reader.proofs.reader.Reader.apply_all.Goals as goal

@@ -1,6 +1,6 @@
 use Rattle.std.proofs.Common.{drop}
-use Rattle.mk_reader.specs.Moments.{moment_of}
-use Rattle.mk_reader.specs.Orders.{all_set}
+use Rattle.mk_makefile.specs.Moments.{moment_of}
+use Rattle.mk_makefile.specs.Orders.{all_set}
 use Rattle.mk_reader.specs.Ties.{outer}
 use Rattle.mk_reader.proofs.StepLemmas.{Left}
 use Rattle.mk_reader.proofs.reader.Reader.apply_all.Given as goal

@@ -1,7 +1,7 @@
 use Rattle.std.proofs.Common.{refl}
 use Rattle.std.proofs.lemmas.Result.{err_from_is_err_and}
-use Rattle.mk_reader.specs.Moments.{stands}
-use Rattle.mk_reader.specs.Orders.{with_targets}
+use Rattle.mk_makefile.specs.Moments.{stands}
+use Rattle.mk_makefile.specs.Orders.{with_targets}
 use Rattle.mk_reader.proofs.StepLemmas.{given-as, here-want, then-fault, then-given}
 use Rattle.mk_reader.proofs.reader.Reader.apply_order.Goals as goal
 

@@ -1,6 +1,6 @@
 use Rattle.std.proofs.Common.{refl}
-use Rattle.mk_reader.specs.ReadFaults.{of_what, sorted}
-use Rattle.mk_reader.specs.Refusals as refusals
+use Rattle.mk_makefile.specs.ReadFaults.{of_what, sorted}
+use Rattle.mk_makefile.specs.Refusals as refusals
 use Rattle.mk_reader.proofs.TieLemmas.{seen-given}
 use Rattle.mk_reader.proofs.reader.Reader.apply_words.Goals as goal
 

@@ -1,8 +1,8 @@
 use Rattle.std.proofs.Common.{refl, sym, ◌∙◌}
 use Rattle.std.proofs.lemmas.Result.{err_from_is_err_and}
-use Rattle.mk_reader.specs.Variables.{set_by}
+use Rattle.mk_makefile.specs.Variables.{set_by}
+use Rattle.mk_makefile.proofs.VariableLemmas.{variable_name-own}
 use Rattle.mk_reader.proofs.StepLemmas.{given-as, then-fault, then-given}
-use Rattle.mk_reader.proofs.VariableLemmas.{variable_name-own}
 use Rattle.mk_reader.proofs.reader.Reader.assign.Goals as goal
 
 pub returns-in_err-name : goal.returns-in_err-name

@@ -1,6 +1,6 @@
 use Rattle.std.proofs.Common.{refl}
 use Rattle.std.proofs.lemmas.Result.{err_from_is_err_and}
-use Rattle.mk_reader.specs.Inclusions.{may_miss, wanted_read}
+use Rattle.mk_makefile.specs.Inclusions.{may_miss, wanted_read}
 use Rattle.mk_reader.proofs.StepLemmas.{left-changed, left-given, then-fault, then-given}
 use Rattle.mk_reader.proofs.reader.Reader.file_on.Goals as goal
 

@@ -1,6 +1,6 @@
 use Rattle.std.proofs.Common.{refl}
 use Rattle.std.proofs.lemmas.Result.{err_from_is_err_and}
-use Rattle.mk_reader.specs.Inclusions.{required}
+use Rattle.mk_makefile.specs.Inclusions.{required}
 use Rattle.mk_reader.proofs.FileLemmas.{gave-required}
 use Rattle.mk_reader.proofs.StepLemmas.{given-as, here-want, here-wrong, then-fault, then-given}
 use Rattle.mk_reader.proofs.reader.Reader.find.Goals as goal

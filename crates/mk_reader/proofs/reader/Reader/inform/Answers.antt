@@ -1,5 +1,5 @@
 use Rattle.std.proofs.lemmas.Result.{err_from_is_err_and}
-use Rattle.mk_reader.specs.Messages.{message_line, said}
+use Rattle.mk_makefile.specs.Messages.{message_line, said}
 use Rattle.mk_reader.proofs.StepLemmas.{then-fault, then-given}
 use Rattle.mk_reader.proofs.reader.Reader.inform.Goals as goal
 

@@ -1,10 +1,10 @@
 use Rattle.std.proofs.Common.{[], ◌∷◌, ◌++◌, refl, ap, ◌∙◌}
 use Rattle.std.proofs.lemmas.Result.{err_from_is_err_and}
 use Rattle.mk_blocks.specs.Acts.{looked}
+use Rattle.mk_makefile.specs.declared.note.Note.TheVariants.{Read}
+use Rattle.mk_makefile.proofs.MomentLemmas.{contents-noted}
 use Rattle.mk_world.proofs.IdleLemmas.{IsIdle, looked_idle, same_idle}
-use Rattle.mk_reader.specs.declared.note.Note.TheVariants.{Read}
 use Rattle.mk_reader.proofs.GaveLemmas.{gave-asked, gave-unread, leads-noted, world-cause}
-use Rattle.mk_reader.proofs.MomentLemmas.{contents-noted}
 use Rattle.mk_reader.proofs.StepLemmas.{changed-want}
 use Rattle.mk_reader.proofs.reader.Reader.look.Goals as goal
 

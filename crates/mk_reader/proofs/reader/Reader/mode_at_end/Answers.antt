@@ -1,7 +1,7 @@
 use Rattle.std.proofs.Common.{refl}
 use Rattle.std.proofs.lemmas.Result.{err_from_is_err_and}
-use Rattle.mk_reader.specs.ReadFaults.{of_end, sorted}
-use Rattle.mk_reader.specs.Refusals as refusals
+use Rattle.mk_makefile.specs.ReadFaults.{of_end, sorted}
+use Rattle.mk_makefile.specs.Refusals as refusals
 use Rattle.mk_reader.proofs.ReadLemmas.{sorted-end}
 use Rattle.mk_reader.proofs.TieLemmas.{seen-given, seen-refused, still-want}
 use Rattle.mk_reader.proofs.reader.Reader.mode_at_end.Goals as goal

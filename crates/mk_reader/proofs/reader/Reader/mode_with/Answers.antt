@@ -1,6 +1,6 @@
 use Rattle.std.proofs.Common.{refl}
 use Rattle.std.proofs.lemmas.Result.{err_from_is_err_and}
-use Rattle.mk_reader.specs.Modes.{mode_at}
+use Rattle.mk_makefile.specs.Modes.{mode_at}
 use Rattle.mk_reader.proofs.StepLemmas.{here-given, then-fault, then-given}
 use Rattle.mk_reader.proofs.reader.Reader.mode_with.Goals as goal
 

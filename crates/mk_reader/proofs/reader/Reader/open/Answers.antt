@@ -1,6 +1,6 @@
 use Rattle.std.proofs.Common.{refl}
 use Rattle.std.proofs.lemmas.Result.{err_from_is_err_and}
-use Rattle.mk_reader.specs.Inclusions.{opened}
+use Rattle.mk_makefile.specs.Inclusions.{opened}
 use Rattle.mk_reader.proofs.StepLemmas.{here-given, here-want, then-fault, then-given}
 use Rattle.mk_reader.proofs.reader.Reader.open.Goals as goal
 

@@ -1,5 +1,5 @@
 use Rattle.std.proofs.lemmas.Result.{err_from_is_err_and}
-use Rattle.mk_reader.specs.Values.{output}
+use Rattle.mk_makefile.specs.Values.{output}
 use Rattle.mk_reader.proofs.StepLemmas.{then-fault, then-given}
 use Rattle.mk_reader.proofs.reader.Reader.output_of.Goals as goal
 

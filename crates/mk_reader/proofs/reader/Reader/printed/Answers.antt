@@ -1,13 +1,13 @@
 use Rattle.std.proofs.Common.{◌≡◌, [], ◌∷◌, ◌++◌, refl, ap, ◌∙◌}
 use Rattle.mk_blocks.specs.Acts.{Act, ran}
+use Rattle.mk_makefile.specs.Moments.{moment_of}
+use Rattle.mk_makefile.specs.Values.{command_at}
+use Rattle.mk_makefile.specs.declared.note.Note.TheVariants.{Cut, Ran}
+use Rattle.mk_makefile.proofs.MomentLemmas.{output-noted}
 use Rattle.mk_world.proofs.AskLemmas.{asked_idle, unanswered_idle}
 use Rattle.mk_world.proofs.IdleLemmas.{IsIdle}
 use Rattle.mk_world.specs.declared.command.Cmd.{Cmd}
-use Rattle.mk_reader.specs.Moments.{moment_of}
-use Rattle.mk_reader.specs.Values.{command_at}
-use Rattle.mk_reader.specs.declared.note.Note.TheVariants.{Cut, Ran}
 use Rattle.mk_reader.proofs.GaveLemmas.{gave-asked, gave-cut_off, leads-noted, world-cause}
-use Rattle.mk_reader.proofs.MomentLemmas.{output-noted}
 use Rattle.mk_reader.proofs.StepLemmas.{changed-want}
 use Rattle.mk_reader.proofs.reader.Reader.printed.Goals as goal
 

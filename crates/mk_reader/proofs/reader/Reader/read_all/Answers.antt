@@ -1,8 +1,8 @@
 use Rattle.std.proofs.Common.{refl}
 use Rattle.std.proofs.lemmas.Result.{err_from_is_err_and}
 use Rattle.mk_blocks.specs.Runs.{run_at}
-use Rattle.mk_reader.specs.ReadFaults.{sorted}
-use Rattle.mk_reader.specs.Reading.{makefiles_read}
+use Rattle.mk_makefile.specs.ReadFaults.{sorted}
+use Rattle.mk_makefile.specs.Reading.{makefiles_read}
 use Rattle.mk_reader.proofs.TieLemmas.{does-as, first-refused, first-then}
 use Rattle.mk_reader.proofs.reader.Reader.read_all.Goals as goal
 

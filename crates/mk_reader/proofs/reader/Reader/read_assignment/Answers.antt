@@ -1,7 +1,7 @@
 use Rattle.std.proofs.Common.{refl}
+use Rattle.mk_makefile.specs.Moments.{closed, moment_of, stands}
+use Rattle.mk_makefile.specs.Variables.{assigned_by}
 use Rattle.mk_scopes.specs.declared.scopes.Class.TheVariants.{Global}
-use Rattle.mk_reader.specs.Moments.{closed, moment_of, stands}
-use Rattle.mk_reader.specs.Variables.{assigned_by}
 use Rattle.mk_reader.proofs.StepLemmas.{changed-given, then-given}
 use Rattle.mk_reader.proofs.reader.Reader.read_assignment.Goals as goal
 

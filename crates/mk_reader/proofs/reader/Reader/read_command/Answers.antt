@@ -1,6 +1,6 @@
 use Rattle.std.proofs.Common.{◌≡◌, true, false, refl, sym, ◌∙◌, rules}
 use Rattle.std.proofs.lemmas.Result.{err_from_is_err_and}
-use Rattle.mk_reader.specs.Kinds.{is_only_white}
+use Rattle.mk_makefile.specs.Kinds.{is_only_white}
 use Rattle.mk_reader.proofs.StepLemmas.{changed-given, changed-want}
 use Rattle.mk_reader.proofs.reader.Reader.read_command.Goals as goal
 

@@ -1,6 +1,6 @@
 use Rattle.std.specs.Option.{option_copied}
 use Rattle.std.proofs.lemmas.Result.{err_from_is_err_and}
-use Rattle.mk_reader.specs.Steps.{line_added}
+use Rattle.mk_makefile.specs.Steps.{line_added}
 use Rattle.mk_reader.proofs.DependencyLemmas.{part-refused, parts-read}
 use Rattle.mk_reader.proofs.StepLemmas.{given-as, then-fault, then-given}
 use Rattle.mk_reader.proofs.reader.Reader.read_dependency.Goals as goal

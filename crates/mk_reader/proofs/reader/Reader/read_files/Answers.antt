@@ -3,8 +3,8 @@ use Rattle.std.proofs.Math.ListN.{drop_of_length-le}
 use Rattle.std.proofs.lemmas.Grind.{common_steps}
 use Rattle.std.proofs.lemmas.Result.{err_from_is_err_and}
 use Rattle.mk_blocks.specs.Runs.{run_at}
-use Rattle.mk_reader.specs.ReadFaults.{sorted}
-use Rattle.mk_reader.specs.Reading.{files_read}
+use Rattle.mk_makefile.specs.ReadFaults.{sorted}
+use Rattle.mk_makefile.specs.Reading.{files_read}
 use Rattle.mk_reader.specs.Results.{standing}
 use Rattle.mk_reader.proofs.StepLemmas.{drop-item}
 use Rattle.mk_reader.proofs.TieLemmas.{does-as, first-refused, first-then, left-then, still-given}

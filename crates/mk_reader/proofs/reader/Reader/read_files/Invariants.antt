@@ -2,8 +2,8 @@ use Rattle.std.specs.Prelude.{Ok}
 use Rattle.std.proofs.Common.{drop}
 use Rattle.mk_blocks.specs.Runs.{run_at}
 use Rattle.mk_blocks.specs.Ties.{Does}
-use Rattle.mk_reader.specs.ReadFaults.{sorted}
-use Rattle.mk_reader.specs.Reading.{files_read}
+use Rattle.mk_makefile.specs.ReadFaults.{sorted}
+use Rattle.mk_makefile.specs.Reading.{files_read}
 use Rattle.mk_reader.specs.Results.{standing}
 use Rattle.mk_reader.specs.Ties.{outer, reader_ties}
 use Rattle.mk_reader.proofs.reader.Reader.read_files.Given as goal

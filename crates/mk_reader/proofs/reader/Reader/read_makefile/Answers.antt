@@ -1,7 +1,7 @@
 use Rattle.std.proofs.Common.{refl}
 use Rattle.std.proofs.lemmas.Result.{err_from_is_err_and}
-use Rattle.mk_reader.specs.ReadFaults.{sorted}
-use Rattle.mk_reader.specs.Reading.{found_read}
+use Rattle.mk_makefile.specs.ReadFaults.{sorted}
+use Rattle.mk_makefile.specs.Reading.{found_read}
 use Rattle.mk_reader.proofs.TieLemmas.{does-as, first-refused, first-then, still-want, still-wrong}
 use Rattle.mk_reader.proofs.reader.Reader.read_makefile.Goals as goal
 

@@ -1,5 +1,5 @@
 use Rattle.std.proofs.Common.{◌≡◌, []}
-use Rattle.mk_reader.specs.ReadFaults.{sorted}
+use Rattle.mk_makefile.specs.ReadFaults.{sorted}
 use Rattle.mk_reader.proofs.ReadLemmas.{makefiles-none, makefiles-some}
 use Rattle.mk_reader.proofs.TieLemmas.{does-as}
 use Rattle.mk_reader.proofs.reader.Reader.read_makefiles.Goals as goal

@@ -1,5 +1,5 @@
 use Rattle.std.proofs.lemmas.Result.{err_from_is_err_and}
-use Rattle.mk_reader.specs.Modes.{mode_with}
+use Rattle.mk_makefile.specs.Modes.{mode_with}
 use Rattle.mk_reader.proofs.StepLemmas.{then-fault, then-given}
 use Rattle.mk_reader.proofs.reader.Reader.read_mode.Goals as goal
 

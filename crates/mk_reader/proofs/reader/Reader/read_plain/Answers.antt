@@ -1,5 +1,5 @@
 use Rattle.std.proofs.Common.{refl, sym, ◌∙◌}
-use Rattle.mk_reader.proofs.LineLemmas.{plain_read-none, plain_read-some}
+use Rattle.mk_makefile.proofs.LineLemmas.{plain_read-none, plain_read-some}
 use Rattle.mk_reader.proofs.StepLemmas.{given-as, here-given}
 use Rattle.mk_reader.proofs.reader.Reader.read_plain.Goals as goal
 

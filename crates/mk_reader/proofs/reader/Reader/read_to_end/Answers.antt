@@ -1,6 +1,6 @@
 use Rattle.std.proofs.lemmas.Result.{err_from_is_err_and}
-use Rattle.mk_reader.specs.ReadFaults.{sorted}
-use Rattle.mk_reader.specs.Reading.{mode_ended}
+use Rattle.mk_makefile.specs.ReadFaults.{sorted}
+use Rattle.mk_makefile.specs.Reading.{mode_ended}
 use Rattle.mk_reader.proofs.TieLemmas.{first-refused, first-then}
 use Rattle.mk_reader.proofs.reader.Reader.read_to_end.Goals as goal
 

@@ -1,7 +1,7 @@
 use Rattle.std.proofs.Common.{refl}
 use Rattle.std.proofs.lemmas.Result.{err_from_is_err_and}
 use Rattle.mk_blocks.specs.Ties as blocks
-use Rattle.mk_reader.specs.ReadFaults.{file_fault, sorted}
+use Rattle.mk_makefile.specs.ReadFaults.{file_fault, sorted}
 use Rattle.mk_reader.proofs.FirstLemmas.{changed-first}
 use Rattle.mk_reader.proofs.ReadLemmas.{sorted-file}
 use Rattle.mk_reader.proofs.TieLemmas.{seen-given, seen-refused, still-want}

@@ -1,7 +1,7 @@
 use Rattle.std.proofs.Common.{◌+◌, drop, refl, ap}
 use Rattle.std.proofs.lemmas.Result.{err_from_is_err_and}
-use Rattle.mk_reader.specs.Inclusions.{or_next, sought}
-use Rattle.mk_reader.specs.Moments.{moment_of}
+use Rattle.mk_makefile.specs.Inclusions.{or_next, sought}
+use Rattle.mk_makefile.specs.Moments.{moment_of}
 use Rattle.mk_reader.proofs.StepLemmas.{drop-item, given-as, here-given, left-as, left-first, left-given}
 use Rattle.mk_reader.proofs.StepLemmas.{left-here, left-on, then-fault, then-given}
 use Rattle.mk_reader.proofs.reader.Reader.seek.Goals as goal

@@ -1,6 +1,6 @@
 use Rattle.std.proofs.lemmas.Result.{err_from_is_err_and}
-use Rattle.mk_reader.specs.Moments.{stands}
-use Rattle.mk_reader.specs.Variables.{assigned_at, on_one_line}
+use Rattle.mk_makefile.specs.Moments.{stands}
+use Rattle.mk_makefile.specs.Variables.{assigned_at, on_one_line}
 use Rattle.mk_reader.proofs.StepLemmas.{here-want, then-fault, then-given}
 use Rattle.mk_reader.proofs.reader.Reader.set_output.Goals as goal
 

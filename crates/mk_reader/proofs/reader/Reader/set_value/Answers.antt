@@ -1,6 +1,6 @@
 use Rattle.std.proofs.lemmas.Result.{err_from_is_err_and}
-use Rattle.mk_reader.specs.Moments.{stands}
-use Rattle.mk_reader.specs.Variables.{assigned_at}
+use Rattle.mk_makefile.specs.Moments.{stands}
+use Rattle.mk_makefile.specs.Variables.{assigned_at}
 use Rattle.mk_reader.proofs.StepLemmas.{then-fault, then-given}
 use Rattle.mk_reader.proofs.reader.Reader.set_value.Goals as goal
 

@@ -1,7 +1,7 @@
 use Rattle.std.proofs.Common.{refl}
 use Rattle.std.proofs.lemmas.Result.{err_from_is_err_and}
 use Rattle.mk_blocks.specs.Outcomes.{refused}
-use Rattle.mk_reader.specs.declared.fault.What.TheVariants.{Error}
+use Rattle.mk_makefile.specs.declared.fault.What.TheVariants.{Error}
 use Rattle.mk_reader.proofs.StepLemmas.{here-wrong, then-fault, then-given}
 use Rattle.mk_reader.proofs.reader.Reader.stop.Goals as goal
 

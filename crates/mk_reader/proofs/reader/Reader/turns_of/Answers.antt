@@ -1,7 +1,7 @@
 use Rattle.std.proofs.lemmas.Result.{err_from_is_err_and}
 use Rattle.mk_directive.specs.Words.{words_of}
-use Rattle.mk_reader.specs.Blocks.{divided}
-use Rattle.mk_reader.proofs.LineLemmas.{divided-err, divided-ok}
+use Rattle.mk_makefile.specs.Blocks.{divided}
+use Rattle.mk_makefile.proofs.LineLemmas.{divided-err, divided-ok}
 use Rattle.mk_reader.proofs.StepLemmas.{here-given, here-want, here-wrong, then-fault, then-given}
 use Rattle.mk_reader.proofs.reader.Reader.turns_of.Goals as goal
 

@@ -1,7 +1,7 @@
 use Rattle.std.proofs.Common.{[], ◌≡◌, refl, rules}
 use Rattle.std.proofs.lemmas.Result.{err_from_is_err_and}
-use Rattle.mk_reader.specs.Variables.{not_empty}
-use Rattle.mk_reader.proofs.VariableLemmas.{not_empty-some}
+use Rattle.mk_makefile.specs.Variables.{not_empty}
+use Rattle.mk_makefile.proofs.VariableLemmas.{not_empty-some}
 use Rattle.mk_reader.proofs.StepLemmas.{here-given, here-wrong, then-fault, then-given}
 use Rattle.mk_reader.proofs.reader.Reader.variable_name.Goals as goal
 

@@ -1,7 +1,7 @@
 use Rattle.std.proofs.Common.{refl}
 use Rattle.std.proofs.lemmas.Result.{err_from_is_err_and}
 use Rattle.mk_directive.specs.Words.{words_of}
-use Rattle.mk_reader.specs.Moments.{given}
+use Rattle.mk_makefile.specs.Moments.{given}
 use Rattle.mk_reader.proofs.StepLemmas.{here-given, here-want, then-fault, then-given}
 use Rattle.mk_reader.proofs.reader.Reader.words_of.Goals as goal
 

@@ -1,0 +1,125 @@
+-- What reading does outside, by the questions that it asks and the messages that it writes.
+use Rattle.std.specs.Prelude.{◌≡◌, ℕ, List, [], ◌∷◌, ◌++◌, Option, Some, None}
+use Rattle.std.proofs.Common.{refl, sym, ap, subst, ◌∙◌, append_assoc}
+use Rattle.std.proofs.lemmas.List.{append-nil}
+use Rattle.mk_blocks.specs.Acts.{Act, wrote, looked, ran}
+use Rattle.mk_world.specs.Sinks.{Gains, GainsPart}
+use Rattle.mk_world.proofs.SinkLemmas.{Gains-nothing, Gains-then, GainsPart-more, GainsPart-then}
+use Rattle.mk_makefile.specs.Questions.{Question, bytes_of, time_of, output_of, cut}
+
+-- The files and commands that questions ask for. A command that was not answered is one of them.
+abbrev pub acts_of : List Question → List Act
+acts_of [] = []
+acts_of (bytes_of path found ∷ more) = looked path ∷ acts_of more
+acts_of (time_of path when ∷ more) = acts_of more
+acts_of (output_of cmd ended ∷ more) = ran cmd ∷ acts_of more
+acts_of (cut cmd ∷ more) = ran cmd ∷ acts_of more
+
+-- the files and commands among acts
+abbrev pub asked_in : List Act → List Act
+asked_in [] = []
+asked_in (wrote message ∷ acts) = asked_in acts
+asked_in (looked path ∷ acts) = looked path ∷ asked_in acts
+asked_in (ran cmd ∷ acts) = ran cmd ∷ asked_in acts
+
+-- the bytes of the messages among acts
+abbrev pub written : List Act → List ℕ
+written [] = []
+written (wrote message ∷ acts) = message ++ written acts
+written (looked path ∷ acts) = written acts
+written (ran cmd ∷ acts) = written acts
+
+-- Exactly these acts were done: a sink gained their messages, and their files and commands were asked
+-- for behind those before.
+pub record Did (before after : Option (List ℕ)) (asked asked_now acts : List Act) : Type 0 where
+  pub gains : Gains before after (written acts)
+  pub asks : asked_now ≡ asked ++ asked_in acts
+
+-- A first part of the messages was written, and a first part of the files and commands asked for.
+pub record DidPart (before after : Option (List ℕ)) (asked asked_now acts : List Act) : Type 0 where
+  pub gains : GainsPart before after (written acts)
+  pub part : List Act
+  pub rest : List Act
+  pub whole : asked_in acts ≡ part ++ rest
+  pub asks : asked_now ≡ asked ++ part
+
+pub acts_of-append : (first second : List Question)
+    → acts_of (first ++ second) ≡ acts_of first ++ acts_of second
+acts_of-append [] second = refl
+acts_of-append (bytes_of path found ∷ more) second =
+    ap (λ (l : List Act). looked path ∷ l) (acts_of-append more second)
+acts_of-append (time_of path when ∷ more) second = acts_of-append more second
+acts_of-append (output_of cmd ended ∷ more) second =
+    ap (λ (l : List Act). ran cmd ∷ l) (acts_of-append more second)
+acts_of-append (cut cmd ∷ more) second =
+    ap (λ (l : List Act). ran cmd ∷ l) (acts_of-append more second)
+
+asked_in-append : (first second : List Act)
+    → asked_in (first ++ second) ≡ asked_in first ++ asked_in second
+asked_in-append [] second = refl
+asked_in-append (wrote message ∷ more) second = asked_in-append more second
+asked_in-append (looked path ∷ more) second =
+    ap (λ (l : List Act). looked path ∷ l) (asked_in-append more second)
+asked_in-append (ran cmd ∷ more) second =
+    ap (λ (l : List Act). ran cmd ∷ l) (asked_in-append more second)
+
+written-append : (first second : List Act)
+    → written (first ++ second) ≡ written first ++ written second
+written-append [] second = refl
+written-append (wrote message ∷ more) second =
+    ap (λ l. message ++ l) (written-append more second)
+    ∙ sym (append_assoc message (written more) (written second))
+written-append (looked path ∷ more) second = written-append more second
+written-append (ran cmd ∷ more) second = written-append more second
+
+GainsPart-whole : (a b : Option (List ℕ)) (bytes : List ℕ) → Gains a b bytes → GainsPart a b bytes
+GainsPart-whole a None bytes gains = tt
+GainsPart-whole None (Some b) bytes gains = gains
+GainsPart-whole (Some a) (Some b) bytes gains =
+    (bytes, record { rest = []; is = sym (append-nil bytes) }, gains)
+
+pub Did-nothing : (held : Option (List ℕ)) (asked : List Act) → Did held held asked asked []
+Did-nothing held asked = record { gains = Gains-nothing held; asks = sym (append-nil asked) }
+
+module _ (a b c : Option (List ℕ)) (k l m first second : List Act) where
+  pub Did-both : Did a b k l first → Did b c l m second → Did a c k m (first ++ second)
+  Did-both did more = record {
+    gains = subst (Gains a c) (sym (written-append first second))
+        (Gains-then a b c (written first) (written second) did.gains more.gains);
+    asks = more.asks ∙ ap (λ s. s ++ asked_in second) did.asks
+        ∙ append_assoc k (asked_in first) (asked_in second)
+        ∙ ap (λ s. k ++ s) (sym (asked_in-append first second));
+  }
+
+  pub DidPart-behind : Did a b k l first → DidPart b c l m second → DidPart a c k m (first ++ second)
+  DidPart-behind did more = record {
+    gains = subst (GainsPart a c) (sym (written-append first second))
+        (GainsPart-then a b c (written first) (written second) did.gains more.gains);
+    part = asked_in first ++ more.part;
+    rest = more.rest;
+    whole = asked_in-append first second ∙ ap (λ s. asked_in first ++ s) more.whole
+        ∙ sym (append_assoc (asked_in first) more.part more.rest);
+    asks = more.asks ∙ ap (λ s. s ++ more.part) did.asks
+        ∙ append_assoc k (asked_in first) more.part;
+  }
+
+module _ (a b : Option (List ℕ)) (k l : List Act) where
+  pub DidPart-whole : (acts : List Act) → Did a b k l acts → DidPart a b k l acts
+  DidPart-whole acts did = record {
+    gains = GainsPart-whole a b (written acts) did.gains;
+    part = asked_in acts;
+    rest = [];
+    whole = sym (append-nil (asked_in acts));
+    asks = did.asks;
+  }
+
+  pub DidPart-more : (part more : List Act) → DidPart a b k l part → DidPart a b k l (part ++ more)
+  DidPart-more part more did = record {
+    gains = subst (GainsPart a b) (sym (written-append part more))
+        (GainsPart-more a b (written part) (written more) did.gains);
+    part = did.part;
+    rest = did.rest ++ asked_in more;
+    whole = asked_in-append part more ∙ ap (λ s. s ++ asked_in more) did.whole
+        ∙ append_assoc did.part did.rest (asked_in more);
+    asks = did.asks;
+  }
