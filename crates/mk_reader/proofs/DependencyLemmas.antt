@@ -8,7 +8,7 @@ use Rattle.mk_depline.specs.Lines.{dep_line}
 use Rattle.mk_depline.specs.declared.fault.DepFault.{DepFault}
 use Rattle.mk_depline.specs.declared.fault.DepFault.TheVariants as line
 use Rattle.mk_depline.specs.declared.line.DepLine.{DepLine}
-use Rattle.mk_expand.specs.Texts.{of_tree}
+use Rattle.mk_values.specs.Texts.{of_tree}
 use Rattle.mk_rules.specs.Lines.{line_read}
 use Rattle.mk_rules.specs.Rules.{Ruled}
 use Rattle.mk_rules.specs.declared.fault.RuleFault.{RuleFault}

@@ -2,7 +2,7 @@
 use Rattle.std.proofs.Common.{◌≡◌, ℕ, zero, suc, not, List, [], ◌∷◌, ◌++◌, Option, Some, None, is_some, slice_get}
 use Rattle.std.proofs.Common.{refl, sym, ap, subst, ◌∙◌, map}
 use Rattle.std.specs.Option.{option_map}
-use Rattle.mk_expand.specs.declared.facts.Asked.{Asked}
+use Rattle.mk_values.specs.declared.facts.Asked.{Asked}
 use Rattle.mk_world.proofs.CallLemmas.{after_all-append}
 use Rattle.mk_world.specs.Calls.{when_of}
 use Rattle.mk_world.specs.Deeds.{Store}

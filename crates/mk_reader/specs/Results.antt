@@ -11,7 +11,7 @@ use Rattle.mk_graph.specs.declared.mode.Mode.{Mode}
 use Rattle.mk_reader.specs.Acts.{Did, DidPart, acts_of}
 use Rattle.mk_reader.specs.Moments.{Moment, moment_of}
 use Rattle.mk_reader.specs.Reading.{run_read}
-use Rattle.mk_expand.specs.declared.facts.Asked.{Asked}
+use Rattle.mk_values.specs.declared.facts.Asked.{Asked}
 use Rattle.mk_reader.specs.Questions.{Answered, Answers, AreAsked, Question, cuts_in, times_in}
 use Rattle.mk_reader.specs.ReadFaults.{Reads, sorted}
 use Rattle.mk_reader.specs.Ties.{IsWhole, Outer, reader_ties}

@@ -6,10 +6,10 @@ use Rattle.std.proofs.lemmas.List.{append-nil, map-append}
 use Rattle.mk_blocks.specs.Acts.{Act}
 use Rattle.mk_blocks.specs.Outcomes.{done}
 use Rattle.mk_blocks.specs.Ties.{Does, Ties}
-use Rattle.mk_expand.specs.Facts.{Means}
-use Rattle.mk_expand.specs.Facts as expand
-use Rattle.mk_expand.specs.declared.facts.Asked.{Asked}
-use Rattle.mk_expand.specs.declared.fault.ExpandFault.{ExpandFault}
+use Rattle.mk_values.specs.Facts.{Means}
+use Rattle.mk_values.specs.Facts as expand
+use Rattle.mk_values.specs.declared.facts.Asked.{Asked}
+use Rattle.mk_values.specs.declared.fault.ExpandFault.{ExpandFault}
 use Rattle.mk_world.specs.Causes.{HasCause}
 use Rattle.mk_world.specs.Talks.{Meaning}
 use Rattle.mk_world.specs.Told.{Told}
