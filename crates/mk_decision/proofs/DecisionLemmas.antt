@@ -1,9 +1,9 @@
 -- How a node is judged, by looks, and what is decided of it.
 use Rattle.std.proofs.Common.{◌≡◌, ◌≢◌, ◌⊎◌, ℕ, ◌<◌, List, [], ◌++◌, map, length, Option, Some, None}
 use Rattle.std.proofs.Common.{inl, inr, Result, Ok, Err, IfOk, IfErr, append_assoc, sym, refl, ap, ◌∙◌}
-use Rattle.mk_expand.specs.Facts.{AnsweredBy, Answers}
-use Rattle.mk_expand.specs.declared.facts.Asked.{Asked}
-use Rattle.mk_expand.specs.declared.fault.ExpandFault.TheVariants as expand
+use Rattle.mk_values.specs.Facts.{AnsweredBy, Answers}
+use Rattle.mk_values.specs.declared.facts.Asked.{Asked}
+use Rattle.mk_values.specs.declared.fault.ExpandFault.TheVariants as expand
 use Rattle.mk_oodate.specs.declared.reason.Why.{Why}
 use Rattle.mk_plan.specs.Asking.{as_asked}
 use Rattle.mk_plan.specs.Plans.{node_at}

@@ -2,7 +2,7 @@
 use Rattle.std.specs.Prelude.{◌≡◌, ◌⊎◌, List, map, Option, Result, IfErr}
 use Rattle.std.specs.Option.{option_map}
 use Rattle.mk_bytes.specs.Agrees.{AgreesBut}
-use Rattle.mk_expand.specs.declared.facts.Asked.{Asked}
+use Rattle.mk_values.specs.declared.facts.Asked.{Asked}
 use Rattle.mk_plan.specs.Asking.{as_asked}
 use Rattle.mk_plan.specs.Refusals.{IsFree}
 use Rattle.mk_plan.specs.declared.fault.TaskFault.{TaskFault}

@@ -1,8 +1,8 @@
 -- What is decided of a node, and why: that it is kept, started or refused.
 use Rattle.std.specs.Prelude.{◌≡◌, ◌⊎◌, ℕ, ◌<◌, List, [], ◌++◌, map, length, Option, Some, None, Result, Ok, Err}
-use Rattle.mk_expand.specs.Facts.{Lists}
-use Rattle.mk_expand.specs.declared.facts.Asked.{Asked}
-use Rattle.mk_expand.specs.declared.fault.ExpandFault.{ExpandFault}
+use Rattle.mk_values.specs.Facts.{Lists}
+use Rattle.mk_values.specs.declared.facts.Asked.{Asked}
+use Rattle.mk_values.specs.declared.fault.ExpandFault.{ExpandFault}
 use Rattle.mk_flags.specs.declared.Flags.{Flags}
 use Rattle.mk_graph.specs.declared.mode.Mode.{Mode}
 use Rattle.mk_meta.specs.TrueHistory.{meta_path}

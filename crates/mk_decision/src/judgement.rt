@@ -10,7 +10,7 @@ ghost use Rattle.mk_decision.specs.Metas.{MetaSight, meta_looks};
 ghost use Rattle.mk_decision.specs.Reasons.{IsMetaSight};
 ghost use Rattle.mk_decision.specs.Sights.{SawSome, seen_of};
 ghost use Rattle.mk_decision.specs.declared.judgement.Judgement.TheVariants.{Judged as judged, Refused as refuse};
-ghost use Rattle.mk_expand.specs.declared.fault.ExpandFault.TheVariants.{Failed as failed};
+ghost use Rattle.mk_values.specs.declared.fault.ExpandFault.TheVariants.{Failed as failed};
 ghost use Rattle.mk_meta.specs.TrueHistory.{meta_path};
 ghost use Rattle.mk_plan.specs.Plans.{node_at};
 ghost use Rattle.mk_plan.specs.Refusals.{IsOwn, without_line};

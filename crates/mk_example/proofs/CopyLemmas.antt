@@ -12,8 +12,8 @@ use Rattle.mk_cli.specs.Orders.{no_order}
 use Rattle.mk_cli.specs.declared.order.Order.{Order}
 use Rattle.mk_decision.specs.Decisions.{Work, mode_at, newer_of}
 use Rattle.mk_decision.specs.Makers.{jobs_of, work_on}
-use Rattle.mk_expand.specs.Parts as parts
-use Rattle.mk_expand.specs.declared.facts.Asked.{Asked}
+use Rattle.mk_values.specs.Parts as parts
+use Rattle.mk_values.specs.declared.facts.Asked.{Asked}
 use Rattle.mk_filemon.proofs.PathLemmas.{same_bytes}
 use Rattle.mk_graph.specs.declared.Made.{Made}
 use Rattle.mk_headline.proofs.PlanLemmas.{meta_path-is}

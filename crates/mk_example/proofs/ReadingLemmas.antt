@@ -4,7 +4,7 @@ use Rattle.std.proofs.Common.{refl, sym, ap, subst, append_assoc}
 use Rattle.std.proofs.lemmas.List.{append-nil}
 use Rattle.std.specs.List.{AllByRecursion}
 use Rattle.mk_blocks.specs.Acts.{Act, wrote, looked, ran}
-use Rattle.mk_expand.specs.declared.facts.Asked.{Asked}
+use Rattle.mk_values.specs.declared.facts.Asked.{Asked}
 use Rattle.mk_makefile.specs.Acts.{acts_of}
 use Rattle.mk_makefile.specs.Questions.{Answered, Answers, AreAsked, Question, Reading, Running, bytes_of, cut, output_of, time_of, readings_in, runnings_in, times_in}
 use Rattle.mk_trace.specs.TrueBuilds.{LeavesFiles, longer}

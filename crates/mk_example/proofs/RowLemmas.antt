@@ -25,10 +25,10 @@ use Rattle.mk_decision.specs.Decisions.{Work, asked_task}
 use Rattle.mk_decision.specs.Makers.{work_on}
 use Rattle.mk_depline.specs.Braces.{place_from, alternatives_from, spelled_in}
 use Rattle.mk_directive.specs.Arguments.{in_at}
-use Rattle.mk_expand.specs.Chains.{all_modified, each_behind}
-use Rattle.mk_expand.specs.Conditions.{truth_of, any_truth, all_truth, without_front, without_back}
-use Rattle.mk_expand.specs.Parts as parts
-use Rattle.mk_expand.specs.Value.{found_at}
+use Rattle.mk_values.specs.Chains.{all_modified, each_behind}
+use Rattle.mk_values.specs.Conditions.{truth_of, any_truth, all_truth, without_front, without_back}
+use Rattle.mk_values.specs.Parts as parts
+use Rattle.mk_values.specs.Value.{found_at}
 use Rattle.mk_filemon.proofs.PathLemmas.{same_bytes}
 use Rattle.mk_for.specs.Substitution.{replaced_behind}
 use Rattle.mk_glob.specs.Patterns.{parts_of}

@@ -2,19 +2,15 @@
 ghost use Rattle.std.specs.Prelude.{◌≡◌, ◌∷◌, [], false, OnOk};
 ghost use Rattle.mk_ast.specs.View.{tree_view};
 ghost use Rattle.mk_cond.specs.View.{cond_view, side_view};
-ghost use Rattle.mk_expand.specs.Calls.{AsksOf, Finds, Keeps};
-ghost use Rattle.mk_expand.specs.Conditions as spec;
-ghost use Rattle.mk_expand.specs.Value.{found_at};
+ghost use Rattle.mk_values.specs.Calls.{AsksOf, Finds, Keeps};
+ghost use Rattle.mk_values.specs.Conditions as spec;
+ghost use Rattle.mk_values.specs.Value.{found_at};
 
-use crate::answer::{answer_of, if_defined, lone_reference};
-use crate::evaluation::{Run, found, tree_value};
-use crate::facts::Facts;
-use crate::fault::ExpandFault;
-use crate::name::Names;
-use crate::plain::plain_bytes;
+use crate::evaluation::{found, tree_value};
 use mk_ast::Tree;
 use mk_bytes::Text;
 use mk_cond::{CmpOp, Cond, Fun, Leaf, Side, Step, compare, entered, left_behind, truth};
+use mk_values::{ExpandFault, Facts, Names, Run, answer_of, if_defined, lone_reference, plain_bytes};
 
 /// The truth of a condition. The conditions round the one that is evaluated stand in a list.
 #[cycle(value)]

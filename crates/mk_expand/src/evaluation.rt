@@ -1,34 +1,19 @@
 //! The value of a tree: the values of its parts, joined.
 ghost use Rattle.std.specs.Prelude.{◌≡◌, ◌∷◌, [], OnOk};
 ghost use Rattle.mk_ast.specs.View.{mods_view, part_view, tree_view};
-ghost use Rattle.mk_expand.specs.Calls.{AsksOf, Finds, FindsAs, Keeps};
-ghost use Rattle.mk_expand.specs.Parts as joint;
-ghost use Rattle.mk_expand.specs.Steps.{named};
-ghost use Rattle.mk_expand.specs.Value as spec;
-ghost use Rattle.mk_expand.specs.Value.{found_at};
+ghost use Rattle.mk_values.specs.Calls.{AsksOf, Finds, FindsAs, Keeps};
+ghost use Rattle.mk_values.specs.Parts as joint;
+ghost use Rattle.mk_values.specs.Steps.{named};
+ghost use Rattle.mk_values.specs.Value as spec;
+ghost use Rattle.mk_values.specs.Value.{found_at};
 
-use crate::bound::{Binding, lent_word};
-use crate::chain::{Found, append_found, nothing_found, plain_found};
-use crate::facts::Facts;
-use crate::fault::ExpandFault;
-use crate::limit::{append, open_reference};
 use crate::modifiers::chained;
-use crate::name::{Names, known, raw_above};
-use crate::plain::{double, has_dollar, plain_bytes, plain_value};
 use mk_ast::{ModTrees, Part, Tree, parse};
-use mk_bytes::{Text, Texts, is_among};
-use mk_pool::Region;
-
-/// How far an evaluation is: the variables whose values are being expanded, the variables of `:@`
-/// with the innermost last, the number of references evaluated so far, and the region in which the
-/// words of modifiers lie.
-#[derive(Drop)]
-pub struct Run {
-    pub open_names: Texts,
-    pub bound: Vec<Binding>,
-    pub references: u32,
-    pub region: Region,
-}
+use mk_bytes::{Text, is_among};
+use mk_values::{
+    ExpandFault, Facts, Found, Names, Run, append, append_found, double, has_dollar, known,
+    lent_word, nothing_found, open_reference, plain_bytes, plain_found, plain_value, raw_above,
+};
 
 /// The value of a text, which is read as a whole first.
 #[cycle(value)]

@@ -2,30 +2,28 @@
 ghost use Rattle.std.specs.Prelude.{◌≡◌, ◌≤◌, length, false, IfOk, IfSome, OnOk};
 ghost use Rattle.mk_ast.specs.Tree.{if_undefined, mod_then, no_mods};
 ghost use Rattle.mk_ast.specs.View.{mod_view, mods_view, tree_view};
-ghost use Rattle.mk_expand.specs.Calls.{AsksOf, Extends, Finds, FindsAs, Keeps, Modifies};
-ghost use Rattle.mk_expand.specs.Chains as spec;
-ghost use Rattle.mk_expand.specs.Names.{while_bound};
-ghost use Rattle.mk_expand.specs.Parts.{tree_value};
-ghost use Rattle.mk_expand.specs.Value.{found_at};
-ghost use Rattle.mk_expand.specs.View.{chain_view};
+ghost use Rattle.mk_values.specs.Calls.{AsksOf, Extends, Finds, FindsAs, Keeps, Modifies};
+ghost use Rattle.mk_values.specs.Chains as spec;
+ghost use Rattle.mk_values.specs.Names.{while_bound};
+ghost use Rattle.mk_values.specs.Parts.{tree_value};
+ghost use Rattle.mk_values.specs.Value.{found_at};
+ghost use Rattle.mk_values.specs.View.{chain_view};
 ghost use Rattle.mk_pieces.specs.Pieces.{texts_of};
 ghost use Rattle.mk_mods.specs.Pieces.{end_of, seen};
 ghost use Rattle.mk_mods.specs.Results.{no_results};
 ghost use Rattle.mk_mods.specs.State.{words_of};
 
-use crate::bound::{Binding, bind, unbind};
-use crate::chain::{Chain, Found, compacted, given};
 use crate::conditions::truth_of;
-use crate::evaluation::{Run, tree_value};
-use crate::facts::Facts;
-use crate::fault::ExpandFault;
-use crate::name::Names;
+use crate::evaluation::tree_value;
 use crate::words::modifier;
 use mk_ast::{ModTree, ModTrees, Tree};
 use mk_bytes::Text;
 use mk_cond::{Form, parse_cond};
 use mk_mods::{Results, Val, apply, shown, text, with_results, word_pieces};
 use mk_pool::Piece;
+use mk_values::{
+    Binding, Chain, ExpandFault, Facts, Found, Names, Run, bind, compacted, given, unbind,
+};
 
 // The text of a `:U`, where that is the one modifier.
 #[tactic(auto, using(mk_ast::proofs::Views::views))]
@@ -63,7 +61,7 @@ fn default_found<F: Facts>(
 /// A value behind its modifiers. What they place in the region is taken away again. A `:U` alone,
 /// as loops write each of their words, needs no region.
 #[cycle(value)]
-#[tactic(auto, using(crate::proofs::ChainLemmas::chained_none))]
+#[tactic(auto, using(mk_values::proofs::ChainLemmas::chained_none))]
 pub fn chained<F: Facts>(
     names: &Names<'_>,
     run: &mut Run,

@@ -2,26 +2,21 @@
 ghost use Rattle.std.specs.Prelude.{◌≡◌, IfOk};
 ghost use Rattle.mk_ast.specs.View.{tree_view};
 ghost use Rattle.mk_cond.specs.View.{cond_view};
-ghost use Rattle.mk_expand.specs.Calls.{IsFirst};
-ghost use Rattle.mk_expand.specs.Facts.{AsksMore, Means, RefusedBehind};
-ghost use Rattle.mk_expand.specs.Texts.{name_tree};
-ghost use Rattle.mk_expand.specs.Value as spec;
-ghost use Rattle.mk_expand.specs.declared.fault.ExpandFault.TheVariants.{Failed as failed};
+ghost use Rattle.mk_values.specs.Calls.{IsFirst};
+ghost use Rattle.mk_values.specs.Facts.{AsksMore, Means, RefusedBehind};
+ghost use Rattle.mk_values.specs.Texts.{name_tree};
+ghost use Rattle.mk_values.specs.Value as spec;
+ghost use Rattle.mk_values.specs.declared.fault.ExpandFault.TheVariants.{Failed as failed};
 ghost use Rattle.mk_world.specs.Causes.{HasCause};
 
 use crate::conditions::truth_of;
-use crate::evaluation::{Run, text_value, tree_value};
-use crate::facts::Facts;
-use crate::fault::ExpandFault;
-use crate::limit::MAX_OPEN;
-use crate::local::Locals;
-use crate::name::Names;
-use crate::plain::{has_dollar, plain_value};
+use crate::evaluation::{text_value, tree_value};
 use mk_ast::{Part, Tree};
 use mk_bytes::{Items, NoMemory, Text};
 use mk_cond::Cond;
 use mk_pool::Region;
 use mk_scopes::Scopes;
+use mk_values::{ExpandFault, Facts, Locals, MAX_OPEN, Names, Run, has_dollar, plain_value};
 use std::alloc::Global;
 
 fn first_run(alloc: Global) -> Result<Run, NoMemory>

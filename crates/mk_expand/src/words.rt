@@ -1,23 +1,21 @@
 //! The modifiers of words, with their texts evaluated.
 ghost use Rattle.std.specs.Prelude.{◌≡◌, false, Some, OnOk};
 ghost use Rattle.mk_ast.specs.View.{mod_view, part_view, tree_view};
-ghost use Rattle.mk_expand.specs.Calls.{AsksOf, Finds, FindsAs, Keeps};
-ghost use Rattle.mk_expand.specs.Chains as spec;
-ghost use Rattle.mk_expand.specs.Parts.{part_appended, tree_value};
-ghost use Rattle.mk_expand.specs.Substitutions.{old_in_part, old_in_tree, without_anchors};
-ghost use Rattle.mk_expand.specs.Value.{found_at};
+ghost use Rattle.mk_values.specs.Calls.{AsksOf, Finds, FindsAs, Keeps};
+ghost use Rattle.mk_values.specs.Chains as spec;
+ghost use Rattle.mk_values.specs.Parts.{part_appended, tree_value};
+ghost use Rattle.mk_values.specs.Substitutions.{old_in_part, old_in_tree, without_anchors};
+ghost use Rattle.mk_values.specs.Value.{found_at};
 ghost use Rattle.mk_mods.specs.declared.modifier.Mod.TheVariants.{Range};
 
-use crate::chain::textless;
-use crate::evaluation::{Run, append_part, joined, tree_value};
-use crate::facts::Facts;
-use crate::fault::ExpandFault;
-use crate::limit::append;
-use crate::name::Names;
-use crate::substitution::{append_with_old, at_end, at_start, has_flag, starting, without_end};
+use crate::evaluation::{append_part, joined, tree_value};
 use mk_ast::{ModTree, Part, Tree};
 use mk_bytes::Text;
 use mk_mods::Mod;
+use mk_values::{
+    ExpandFault, Facts, Names, Run, append, append_with_old, at_end, at_start, has_flag, starting,
+    textless, without_end,
+};
 
 /// A modifier with its texts evaluated, from left to right.
 #[cycle(value)]
@@ -129,7 +127,7 @@ fn suffix<F: Facts>(
 
 // What `:S` replaces, without its anchors.
 #[cycle(value)]
-#[tactic(auto, using(crate::proofs::ValueLemmas::old_text_start, crate::proofs::ValueLemmas::old_text_none))]
+#[tactic(auto, using(mk_values::proofs::ValueLemmas::old_text_start, mk_values::proofs::ValueLemmas::old_text_none))]
 fn old_text<F: Facts>(
     names: &Names<'_>,
     run: &mut Run,

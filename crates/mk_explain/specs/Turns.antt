@@ -5,7 +5,7 @@ use Rattle.mk_decision.specs.Ages.{source_ages}
 use Rattle.mk_decision.specs.Decisions.{Work, IsJudged, IsRefused}
 use Rattle.mk_decision.specs.Looks.{LooksAt}
 use Rattle.mk_decision.specs.Reasons.{times_by, value_in}
-use Rattle.mk_expand.specs.declared.fault.ExpandFault.{ExpandFault}
+use Rattle.mk_values.specs.declared.fault.ExpandFault.{ExpandFault}
 use Rattle.mk_plan.specs.AsNew.{as_new}
 use Rattle.mk_plan.specs.Plans.{node_at}
 use Rattle.mk_world.specs.Calls.{when_of}

@@ -6,7 +6,7 @@ use Rattle.mk_clean.specs.Clean.{Plan}
 use Rattle.mk_clean.specs.Turns as turn
 use Rattle.mk_clean.specs.Turns.{waiting, Turn, after_turns, SourcesSettled, MayTurns}
 use Rattle.mk_decision.specs.Decisions.{Work, IsBegun, newer_of, setting_by}
-use Rattle.mk_expand.specs.declared.facts.Asked.{Asked}
+use Rattle.mk_values.specs.declared.facts.Asked.{Asked}
 use Rattle.mk_headline.proofs.PastLemmas.{Past, past-more, together, sources-settled}
 use Rattle.mk_headline.proofs.PlanLemmas.{job-among}
 use Rattle.mk_headline.proofs.StageLemmas.{FitsNode, may-append, after-append, ready}
@@ -20,7 +20,7 @@ use Rattle.mk_plan.specs.Tasks.{Setting, lines_from, locals_of, manner_of, task_
 use Rattle.mk_plan.specs.declared.plan.NodeState.{NodeState}
 use Rattle.mk_plan.specs.declared.plan.NodeState.TheVariants.{Undecided, Open, Settled}
 use Rattle.mk_plan.specs.declared.tasks.Manner.{Manner}
-use Rattle.mk_expand.specs.declared.local.Locals.{Locals}
+use Rattle.mk_values.specs.declared.local.Locals.{Locals}
 use Rattle.mk_bytes.specs.Agrees.{◌>>=◌}
 use Rattle.mk_trace.proofs.BegunLemmas.{may-undecided, Steady, steady-all}
 use Rattle.mk_trace.proofs.TrueRuns.{ended_run, IsFree, free-ended}

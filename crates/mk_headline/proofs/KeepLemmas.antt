@@ -23,7 +23,7 @@ use Rattle.mk_decision.specs.Metas.{AreOf, IsValueOf, MetaSight, paths_in, times
 use Rattle.mk_decision.specs.Reasons.{IsMetaSight, by_file, reason, records_asked, times_by}
 use Rattle.mk_decision.specs.Sights.{look_at, looks_of, seen_of}
 use Rattle.mk_decision.specs.declared.sight.Sighting.{Sighting}
-use Rattle.mk_expand.specs.declared.facts.Asked.{Asked}
+use Rattle.mk_values.specs.declared.facts.Asked.{Asked}
 use Rattle.mk_filemon.proofs.PathLemmas.{bytes_eq-same}
 use Rattle.mk_filemon.specs.Outer.{counted, ops_of, outer_found, outer_missed}
 use Rattle.mk_filemon.specs.Steps.{IsToldBy}

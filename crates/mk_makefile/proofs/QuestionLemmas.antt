@@ -2,7 +2,7 @@
 use Rattle.std.proofs.Common.{◌≡◌, ℕ, List, [], ◌∷◌, ◌++◌, Option, Some, None}
 use Rattle.std.proofs.Common.{refl, sym, ap, subst, ◌∙◌}
 use Rattle.std.proofs.lemmas.List.{append-nil, map-append}
-use Rattle.mk_expand.specs.declared.facts.Asked.{Asked}
+use Rattle.mk_values.specs.declared.facts.Asked.{Asked}
 use Rattle.mk_world.specs.Calls.{Adds, AddsEvents, OwnNothing, OwnTime}
 use Rattle.mk_world.specs.History.{after_all, state_of, tickets_of}
 use Rattle.mk_world.specs.Looks.{DatesOnce}

@@ -12,11 +12,11 @@ use Rattle.mk_ast.specs.Rows as rows
 use Rattle.mk_ast.specs.References.{mods_at, ref_at}
 use Rattle.mk_cond.specs.Conditions.{more_at, inner_at}
 use Rattle.mk_cond.specs.Terms.{begins, is_call, skip_blanks}
-use Rattle.mk_expand.specs.Chains.{all_modified, each_behind}
-use Rattle.mk_expand.specs.Conditions.{truth_of, any_truth, all_truth, without_front, without_back}
-use Rattle.mk_expand.specs.Parts as parts
-use Rattle.mk_expand.specs.Value.{found_at}
-use Rattle.mk_expand.specs.declared.fault.ExpandFault.TheVariants.{Undefined}
+use Rattle.mk_values.specs.Chains.{all_modified, each_behind}
+use Rattle.mk_values.specs.Conditions.{truth_of, any_truth, all_truth, without_front, without_back}
+use Rattle.mk_values.specs.Parts as parts
+use Rattle.mk_values.specs.Value.{found_at}
+use Rattle.mk_values.specs.declared.fault.ExpandFault.TheVariants.{Undefined}
 use Rattle.mk_glob.specs.Patterns.{parts_of}
 use Rattle.mk_lines.specs.Comment.{before_comment, unescaped}
 use Rattle.mk_lines.specs.Lines.{physical_lines, line_groups, joined}

@@ -1,13 +1,13 @@
 -- Names of variables.
 use Rattle.std.proofs.Common.{◌≡◌, ℕ, ◌+◌, nat_lt, true, false, List, [], ◌∷◌, length, refl, ap, arith}
 use Rattle.std.proofs.lemmas.Bool.Decides.{nat_tests}
-use Rattle.mk_expand.specs.Limits.{max_text}
-use Rattle.mk_expand.specs.Locals.{no_locals}
-use Rattle.mk_expand.specs.Texts.{has_dollar}
-use Rattle.mk_expand.specs.Names.{context}
-use Rattle.mk_expand.specs.Value.{finder}
-use Rattle.mk_expand.specs.Evaluators.{progress}
-use Rattle.mk_expand.proofs.PlainLemmas.{text_value-plain}
+use Rattle.mk_values.specs.Limits.{max_text}
+use Rattle.mk_values.specs.Locals.{no_locals}
+use Rattle.mk_values.specs.Texts.{has_dollar}
+use Rattle.mk_values.specs.Names.{context}
+use Rattle.mk_values.specs.Value.{finder}
+use Rattle.mk_values.specs.Evaluators.{progress}
+use Rattle.mk_values.proofs.PlainLemmas.{text_value-plain}
 use Rattle.mk_makefile.specs.Moments.{Moment, given}
 use Rattle.mk_makefile.specs.Questions.{Answers}
 use Rattle.mk_makefile.specs.Values.{lists_at}

@@ -15,7 +15,7 @@ use Rattle.mk_directive.specs.Directives.{Directed, directive_on}
 use Rattle.mk_directive.specs.Words.{words_of}
 use Rattle.mk_directive.specs.declared.directive.Directive.{Directive}
 use Rattle.mk_directive.specs.declared.directive.Directive.TheVariants.{If, ElseIf}
-use Rattle.mk_expand.specs.declared.fault.ExpandFault.TheVariants as expand
+use Rattle.mk_values.specs.declared.fault.ExpandFault.TheVariants as expand
 use Rattle.mk_makefile.specs.Kinds.{plain_text}
 use Rattle.mk_makefile.specs.Moments.{Doing, Moment, given}
 use Rattle.mk_makefile.specs.Questions.{Answers}

@@ -2,7 +2,7 @@
 use Rattle.std.specs.Prelude.{ℕ, Bool, false, List, length}
 use Rattle.mk_blocks.specs.Outcomes.{Outcome, done}
 use Rattle.mk_cli.specs.declared.order.Order.{Order}
-use Rattle.mk_expand.specs.declared.facts.Asked.{Asked}
+use Rattle.mk_values.specs.declared.facts.Asked.{Asked}
 use Rattle.mk_makefile.specs.declared.state.Draft.{Draft}
 use Rattle.mk_scopes.specs.Scopes.{Variables}
 use Rattle.mk_makefile.specs.Notes.{questions_in}

@@ -3,7 +3,7 @@ use Rattle.std.specs.Prelude.{false, List, [], ◌∷◌, codes}
 use Rattle.mk_blocks.specs.Outcomes.{◌>>=◌}
 use Rattle.mk_cli.specs.declared.order.Order.{Order}
 use Rattle.mk_cli.specs.declared.order.Set.{Set}
-use Rattle.mk_expand.specs.Locals.{spaced}
+use Rattle.mk_values.specs.Locals.{spaced}
 use Rattle.mk_scopes.specs.Scopes.{first_scopes}
 use Rattle.mk_scopes.specs.declared.scopes.Class.{Class}
 use Rattle.mk_scopes.specs.declared.scopes.Class.TheVariants.{Global, Command}

@@ -1,9 +1,9 @@
 -- Questions that reading asks of the world, and their answers.
 use Rattle.std.specs.Prelude.{◌≡◌, ℕ, not, List, [], ◌∷◌, ◌++◌, Option, Some, slice_get}
 use Rattle.std.proofs.Common.{refl, ap}
-use Rattle.mk_expand.specs.Facts.{AnsweredBy}
-use Rattle.mk_expand.specs.Facts as expand
-use Rattle.mk_expand.specs.declared.facts.Asked.{Asked}
+use Rattle.mk_values.specs.Facts.{AnsweredBy}
+use Rattle.mk_values.specs.Facts as expand
+use Rattle.mk_values.specs.declared.facts.Asked.{Asked}
 use Rattle.mk_world.specs.Looks.{DatesOnce, is_missing}
 use Rattle.mk_world.specs.Runs.{Looked, RanAtMost}
 use Rattle.mk_world.specs.Runs as runs

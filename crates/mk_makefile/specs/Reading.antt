@@ -5,7 +5,7 @@ use Rattle.mk_blocks.specs.Outcomes.{done, refused, ◌>>=◌}
 use Rattle.mk_blocks.specs.Runs.{Run, run_at}
 use Rattle.mk_bytes.specs.Paths.{clean}
 use Rattle.mk_cli.specs.declared.order.Order.{Order}
-use Rattle.mk_expand.specs.declared.facts.Asked.{Asked}
+use Rattle.mk_values.specs.declared.facts.Asked.{Asked}
 use Rattle.mk_graph.specs.declared.Made.{Made}
 use Rattle.mk_graph.specs.declared.mode.Mode.{Mode}
 use Rattle.mk_scopes.specs.declared.scopes.Env.{Env}

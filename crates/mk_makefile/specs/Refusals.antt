@@ -3,9 +3,9 @@ use Rattle.mk_blocks.specs.declared.fault.LanguageFault.{LanguageFault}
 use Rattle.mk_blocks.specs.declared.fault.LanguageFault.TheVariants as language
 use Rattle.mk_cond.specs.declared.fault.CondFault.{CondFault}
 use Rattle.mk_cond.specs.declared.fault.CondFault.TheVariants as cond
-use Rattle.mk_expand.specs.Texts.{of_tree}
-use Rattle.mk_expand.specs.declared.fault.ExpandFault.{ExpandFault}
-use Rattle.mk_expand.specs.declared.fault.ExpandFault.TheVariants as expand
+use Rattle.mk_values.specs.Texts.{of_tree}
+use Rattle.mk_values.specs.declared.fault.ExpandFault.{ExpandFault}
+use Rattle.mk_values.specs.declared.fault.ExpandFault.TheVariants as expand
 use Rattle.mk_world.specs.declared.fault.WorldFault.{WorldFault}
 use Rattle.mk_world.specs.declared.fault.WorldFault.TheVariants as world
 use Rattle.mk_ast.specs.declared.fault.AstFault.{AstFault}

@@ -2,7 +2,7 @@
 -- with the questions so far is never said of none.
 use Rattle.std.specs.Prelude.{◌≡◌, ℕ, Bool, false, List, [], Option, Some, None, slice_get}
 use Rattle.std.proofs.Common.{refl}
-use Rattle.mk_expand.specs.declared.facts.Asked.{Asked}
+use Rattle.mk_values.specs.declared.facts.Asked.{Asked}
 use Rattle.mk_makefile.specs.Questions.{Answered, Answers, Question, Reading, Running}
 use Rattle.mk_makefile.specs.Questions.{readings_in, runnings_in, times_in}
 

@@ -6,7 +6,7 @@ use Rattle.mk_directive.specs.Directives.{Directed, directive_on}
 use Rattle.mk_directive.specs.declared.directive.Directive.{Directive}
 use Rattle.mk_directive.specs.declared.directive.Directive.TheVariants.{Undef, Error, Warning, Info}
 use Rattle.mk_ast.specs.declared.fault.AstFault.{AstFault}
-use Rattle.mk_expand.specs.Texts.{of_tree}
+use Rattle.mk_values.specs.Texts.{of_tree}
 use Rattle.mk_rules.specs.Rules.{Ruled, commanded}
 use Rattle.mk_scopes.specs.declared.scopes.Class.TheVariants.{Global}
 use Rattle.mk_makefile.specs.Assignments.{Parts, assignment}

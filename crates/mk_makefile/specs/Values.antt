@@ -3,11 +3,11 @@ use Rattle.std.specs.Prelude.{ℕ, ◌+◌, Bool, List, [], ◌∷◌, Option, R
 use Rattle.mk_blocks.specs.Acts.{Act, looked, ran}
 use Rattle.mk_blocks.specs.Outcomes.{refused}
 use Rattle.mk_cond.specs.Cond.{Cond}
-use Rattle.mk_expand.specs.Facts.{Lists}
-use Rattle.mk_expand.specs.Locals.{no_locals}
-use Rattle.mk_expand.specs.Value as expand
-use Rattle.mk_expand.specs.declared.facts.Asked.{Asked}
-use Rattle.mk_expand.specs.declared.fault.ExpandFault.{ExpandFault}
+use Rattle.mk_values.specs.Facts.{Lists}
+use Rattle.mk_values.specs.Locals.{no_locals}
+use Rattle.mk_values.specs.Value as expand
+use Rattle.mk_values.specs.declared.facts.Asked.{Asked}
+use Rattle.mk_values.specs.declared.fault.ExpandFault.{ExpandFault}
 use Rattle.mk_world.specs.declared.command.Cmd.{Cmd}
 use Rattle.mk_makefile.specs.Facts.{lists_of}
 use Rattle.mk_makefile.specs.Moments.{Doing, Moment, given}

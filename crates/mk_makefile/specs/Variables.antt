@@ -7,8 +7,8 @@ use Rattle.mk_bytes.specs.Bytes.{newline, space}
 use Rattle.mk_cli.specs.declared.order.AssignOp.{AssignOp}
 use Rattle.mk_cli.specs.declared.order.AssignOp.TheVariants.{Plain, Append, Default, Now, Shell}
 use Rattle.mk_directive.specs.Words.{words_of}
-use Rattle.mk_expand.specs.Limits.{max_text}
-use Rattle.mk_expand.specs.Texts.{has_dollar}
+use Rattle.mk_values.specs.Limits.{max_text}
+use Rattle.mk_values.specs.Texts.{has_dollar}
 use Rattle.mk_scopes.specs.Scopes.{Variables, raw_value, assigned_in, appended_in, without_global}
 use Rattle.mk_scopes.specs.declared.scopes.Class.{Class}
 use Rattle.mk_makefile.specs.Moments.{Doing, Moment, given, stands, with_variables}

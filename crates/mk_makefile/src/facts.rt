@@ -2,8 +2,8 @@
 ghost use Rattle.std.specs.Prelude.{◌≡◌, [], IsTrue, IfOk, OnErr};
 ghost use Rattle.std.specs.List.{list_any};
 ghost use Rattle.mk_cond.specs.declared.cond.Fun.TheVariants.{Exists as exists};
-ghost use Rattle.mk_expand.specs.Facts.{IsTold, asked_with, is_fact};
-ghost use Rattle.mk_expand.specs.declared.facts.FactFault.TheVariants.{Failed};
+ghost use Rattle.mk_values.specs.Facts.{IsTold, asked_with, is_fact};
+ghost use Rattle.mk_values.specs.declared.facts.FactFault.TheVariants.{Failed};
 ghost use Rattle.mk_glob.specs.Patterns as patterns;
 ghost use Rattle.mk_makefile.specs.Facts as spec;
 ghost use Rattle.mk_makefile.specs.Leads.{Led};

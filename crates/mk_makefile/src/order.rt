@@ -1,6 +1,6 @@
 //! What the words of a command line set before any makefile is read.
 ghost use Rattle.std.specs.Prelude.{◌≡◌, IfOk};
-ghost use Rattle.mk_expand.specs.Locals as names;
+ghost use Rattle.mk_values.specs.Locals as names;
 
 use mk_bytes::{NoMemory, Text, Texts};
 use std::alloc::Global;

@@ -5,12 +5,12 @@ use Rattle.std.proofs.lemmas.Grind.{common_steps}
 use Rattle.std.proofs.Common.{append_assoc}
 use Rattle.mk_bytes.specs.Bytes.{newline}
 use Rattle.mk_cli.specs.declared.order.Print.{Print}
-use Rattle.mk_expand.specs.declared.fault.ExpandFault.{ExpandFault}
-use Rattle.mk_expand.specs.Facts.{IsOutside as IsOutsideText}
-use Rattle.mk_expand.specs.declared.facts.Asked.{Asked}
-use Rattle.mk_expand.specs.Facts.{Lists}
-use Rattle.mk_expand.proofs.FactLemmas.{asks_nothing}
-use Rattle.mk_expand.specs.Facts.{AsksMore}
+use Rattle.mk_values.specs.declared.fault.ExpandFault.{ExpandFault}
+use Rattle.mk_values.specs.Facts.{IsOutside as IsOutsideText}
+use Rattle.mk_values.specs.declared.facts.Asked.{Asked}
+use Rattle.mk_values.specs.Facts.{Lists}
+use Rattle.mk_values.proofs.FactLemmas.{asks_nothing}
+use Rattle.mk_values.specs.Facts.{AsksMore}
 use Rattle.mk_plan.specs.Tasks.{Setting}
 use Rattle.mk_world.specs.Sinks.{Gains, GainsPart}
 use Rattle.mk_world.proofs.SinkLemmas.{Gains-nothing, Gains-then, GainsPart-more, GainsPart-then}

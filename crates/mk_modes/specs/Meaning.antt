@@ -6,14 +6,14 @@ use Rattle.mk_cli.specs.declared.order.Order.{Order}
 use Rattle.mk_cli.specs.declared.order.Print.{Print}
 use Rattle.mk_cli.specs.declared.order.Usage.{Usage}
 use Rattle.mk_cli.specs.declared.order.Usage.TheVariants as usage
-use Rattle.mk_expand.specs.Locals.{no_locals}
-use Rattle.mk_expand.specs.Names.{known}
-use Rattle.mk_expand.specs.Texts.{has_dollar, name_tree}
-use Rattle.mk_expand.specs.Facts.{Lists}
-use Rattle.mk_expand.specs.Value.{value, value_of_text}
-use Rattle.mk_expand.specs.declared.facts.Asked.{Asked}
-use Rattle.mk_expand.specs.declared.fault.ExpandFault.{ExpandFault}
-use Rattle.mk_expand.specs.declared.fault.ExpandFault.TheVariants as expand
+use Rattle.mk_values.specs.Locals.{no_locals}
+use Rattle.mk_values.specs.Names.{known}
+use Rattle.mk_values.specs.Texts.{has_dollar, name_tree}
+use Rattle.mk_values.specs.Facts.{Lists}
+use Rattle.mk_values.specs.Value.{value, value_of_text}
+use Rattle.mk_values.specs.declared.facts.Asked.{Asked}
+use Rattle.mk_values.specs.declared.fault.ExpandFault.{ExpandFault}
+use Rattle.mk_values.specs.declared.fault.ExpandFault.TheVariants as expand
 use Rattle.mk_flags.specs.declared.Flags.{Flags}
 use Rattle.mk_graph.specs.declared.Made.{Made}
 use Rattle.mk_makefile.specs.declared.fault.ReadFault.{ReadFault}

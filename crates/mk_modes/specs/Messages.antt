@@ -5,8 +5,8 @@ use Rattle.mk_ast.specs.declared.fault.TreeFault.TheVariants as tree
 use Rattle.mk_bytes.specs.Bytes.{newline, space}
 use Rattle.mk_bytes.specs.declared.kind.Kind.{Kind}
 use Rattle.mk_bytes.specs.declared.kind.Kind.TheVariants.{Names, Lines, Includes}
-use Rattle.mk_expand.specs.declared.fault.ExpandFault.{ExpandFault}
-use Rattle.mk_expand.specs.declared.fault.ExpandFault.TheVariants as expand
+use Rattle.mk_values.specs.declared.fault.ExpandFault.{ExpandFault}
+use Rattle.mk_values.specs.declared.fault.ExpandFault.TheVariants as expand
 use Rattle.mk_makefile.specs.declared.fault.What.{What}
 use Rattle.mk_makefile.specs.declared.fault.What.TheVariants as what
 use Rattle.mk_modes.specs.Words.{word_at}

@@ -4,9 +4,9 @@ use Rattle.std.specs.Prelude.{Result, Ok, Err}
 use Rattle.mk_bytes.specs.Bytes.{newline}
 use Rattle.mk_cli.specs.declared.order.Order.{Order}
 use Rattle.mk_cli.specs.declared.order.Print.{Print}
-use Rattle.mk_expand.specs.Facts.{AsksMore, Lists}
-use Rattle.mk_expand.specs.declared.facts.Asked.{Asked}
-use Rattle.mk_expand.specs.declared.fault.ExpandFault.{ExpandFault}
+use Rattle.mk_values.specs.Facts.{AsksMore, Lists}
+use Rattle.mk_values.specs.declared.facts.Asked.{Asked}
+use Rattle.mk_values.specs.declared.fault.ExpandFault.{ExpandFault}
 use Rattle.mk_graph.specs.declared.Made.{Made}
 use Rattle.mk_makefile.specs.Reading.{reading}
 use Rattle.mk_makefile.specs.declared.fault.ReadFault.{ReadFault}

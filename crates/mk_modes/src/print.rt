@@ -1,11 +1,11 @@
 //! Prints of variables and texts (make(1), `-V` and `-v`).
 ghost use Rattle.std.specs.Prelude.{◌≡◌, List, ◌++◌, ◌∷◌, [], unwrap_or, IfErr, OnOk, OnErr};
 ghost use Rattle.mk_bytes.specs.Bytes.{newline};
-ghost use Rattle.mk_expand.specs.Calls.{Asks};
-ghost use Rattle.mk_expand.specs.Facts.{Answers, AnsweredBy, Means};
-ghost use Rattle.mk_expand.specs.Names as names;
-ghost use Rattle.mk_expand.specs.Texts as texts;
-ghost use Rattle.mk_expand.specs.declared.facts.Asked.{Asked};
+ghost use Rattle.mk_values.specs.Calls.{Asks};
+ghost use Rattle.mk_values.specs.Facts.{Answers, AnsweredBy, Means};
+ghost use Rattle.mk_values.specs.Names as names;
+ghost use Rattle.mk_values.specs.Texts as texts;
+ghost use Rattle.mk_values.specs.declared.facts.Asked.{Asked};
 ghost use Rattle.mk_plan.specs.Tasks.{setting_of};
 ghost use Rattle.mk_modes.specs.Meaning as spec;
 ghost use Rattle.mk_modes.specs.Modes as modes;

@@ -3,8 +3,8 @@ use Rattle.std.proofs.Common.{◌≡◌, ℕ, zero, suc, not, List, [], ◌∷�
 use Rattle.std.proofs.Common.{refl, sym, ap, ◌∙◌, subst}
 use Rattle.std.proofs.lemmas.List.{append-nil}
 use Rattle.std.specs.Option.{option_map}
-use Rattle.mk_expand.specs.Facts.{AnsweredBy}
-use Rattle.mk_expand.specs.declared.facts.Asked.{Asked}
+use Rattle.mk_values.specs.Facts.{AnsweredBy}
+use Rattle.mk_values.specs.declared.facts.Asked.{Asked}
 use Rattle.mk_world.specs.Calls.{AddsEvents, Adds, OwnNothing, OwnTime}
 use Rattle.mk_world.specs.History.{after_all, state_of, tickets_of}
 use Rattle.mk_world.specs.Looks.{Dated, DatesAll, DatesOnce, LooksAll, OwnLook, dated, is_missing}

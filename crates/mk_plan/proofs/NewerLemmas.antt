@@ -3,14 +3,14 @@ use Rattle.std.proofs.Common.{◌≡◌, ℕ, ◌+◌, false, List, [], ◌∷�
 use Rattle.std.proofs.lemmas.Bool.{or_parts}
 use Rattle.mk_ast.specs.Tree.{Tree}
 use Rattle.mk_bytes.specs.Agrees.{◌>>=◌}
-use Rattle.mk_expand.proofs.NewerLemmas.{newer_do_not_count as value-newer}
-use Rattle.mk_expand.specs.Evaluators.{Counted}
-use Rattle.mk_expand.specs.Looks.{is_newer_name, looks_for_newer, with_newer}
-use Rattle.mk_expand.specs.Texts.{parsed}
-use Rattle.mk_expand.specs.Value.{with_asked}
-use Rattle.mk_expand.specs.declared.facts.Asked.{Asked}
-use Rattle.mk_expand.specs.declared.fault.ExpandFault.{ExpandFault}
-use Rattle.mk_expand.specs.declared.local.Locals.{Locals}
+use Rattle.mk_looks.proofs.NewerLemmas.{newer_do_not_count as value-newer}
+use Rattle.mk_values.specs.Evaluators.{Counted}
+use Rattle.mk_looks.specs.Looks.{is_newer_name, looks_for_newer, with_newer}
+use Rattle.mk_values.specs.Texts.{parsed}
+use Rattle.mk_values.specs.Value.{with_asked}
+use Rattle.mk_values.specs.declared.facts.Asked.{Asked}
+use Rattle.mk_values.specs.declared.fault.ExpandFault.{ExpandFault}
+use Rattle.mk_values.specs.declared.local.Locals.{Locals}
 use Rattle.mk_world.specs.declared.command.TaskLine.{TaskLine}
 use Rattle.mk_plan.specs.Newer.{NewerDoNotCount, line_names, names_behind, names_from, tree_names}
 use Rattle.mk_plan.specs.Oodate.{refers}

@@ -2,10 +2,10 @@
 use Rattle.std.proofs.Common.{◌≡◌, ◌∙◌, ◌⊎◌, ℕ, ◌+◌, length, List, [], ◌∷◌, ◌++◌, Ok, Err, Result, inl, inr, refl, length-append, arith}
 use Rattle.std.proofs.lemmas.Grind.{common_steps}
 use Rattle.mk_bytes.specs.Agrees.{◌>>=◌}
-use Rattle.mk_expand.specs.Facts.{IsOutside}
-use Rattle.mk_expand.specs.declared.facts.Asked.{Asked}
-use Rattle.mk_expand.specs.declared.fault.ExpandFault.{ExpandFault}
-use Rattle.mk_expand.specs.declared.local.Locals.{Locals}
+use Rattle.mk_values.specs.Facts.{IsOutside}
+use Rattle.mk_values.specs.declared.facts.Asked.{Asked}
+use Rattle.mk_values.specs.declared.fault.ExpandFault.{ExpandFault}
+use Rattle.mk_values.specs.declared.local.Locals.{Locals}
 use Rattle.mk_flags.specs.declared.Flags.{Flags}
 use Rattle.mk_graph.specs.declared.mode.Mode.{Mode}
 use Rattle.mk_scopes.specs.Scopes.{Variables}

@@ -2,8 +2,8 @@
 -- that run.
 use Rattle.std.specs.Prelude.{◌≡◌, Bool, not, List, ◌++◌, map, Option, Some, None, false, slice_get}
 use Rattle.std.specs.Option.{option_map}
-use Rattle.mk_expand.specs.Facts.{Answers}
-use Rattle.mk_expand.specs.declared.facts.Asked.{Asked}
+use Rattle.mk_values.specs.Facts.{Answers}
+use Rattle.mk_values.specs.declared.facts.Asked.{Asked}
 use Rattle.mk_world.specs.Looks.{Dated, DatesAll, LooksAll, answered, dated, is_missing}
 use Rattle.mk_world.specs.Talks.{Meaning}
 use Rattle.mk_world.specs.Told.{Told}

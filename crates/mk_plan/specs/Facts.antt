@@ -1,6 +1,6 @@
 -- What conditions ask of the makefiles that were read.
 use Rattle.std.specs.Prelude.{ℕ, List, [], ◌∷◌}
-use Rattle.mk_expand.specs.Facts.{Lists}
+use Rattle.mk_values.specs.Facts.{Lists}
 use Rattle.mk_graph.specs.Where.{has_commands, is_target, names_where}
 use Rattle.mk_graph.specs.declared.Made.{Made}
 

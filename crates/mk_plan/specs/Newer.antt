@@ -1,12 +1,12 @@
 -- The names that are looked up in a task, and the sources that are newer than the target.
 use Rattle.std.specs.Prelude.{◌≡◌, ℕ, false, List, [], ◌∷◌, ◌++◌, Result, Ok, Err}
 use Rattle.mk_ast.specs.Tree.{Tree}
-use Rattle.mk_expand.specs.Looks.{looks_for_newer}
-use Rattle.mk_expand.specs.Texts.{parsed}
-use Rattle.mk_expand.specs.Value.{names}
-use Rattle.mk_expand.specs.declared.facts.Asked.{Asked}
-use Rattle.mk_expand.specs.declared.fault.ExpandFault.{ExpandFault}
-use Rattle.mk_expand.specs.declared.local.Locals.{Locals}
+use Rattle.mk_looks.specs.Looks.{looks_for_newer}
+use Rattle.mk_values.specs.Texts.{parsed}
+use Rattle.mk_values.specs.Value.{names}
+use Rattle.mk_values.specs.declared.facts.Asked.{Asked}
+use Rattle.mk_values.specs.declared.fault.ExpandFault.{ExpandFault}
+use Rattle.mk_values.specs.declared.local.Locals.{Locals}
 use Rattle.mk_flags.specs.declared.Flags.{Flags}
 use Rattle.mk_graph.specs.declared.mode.Mode.{Mode}
 use Rattle.mk_world.specs.declared.command.TaskLine.{TaskLine}

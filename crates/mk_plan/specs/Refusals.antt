@@ -7,10 +7,10 @@ use Rattle.mk_bytes.specs.declared.kind.Kind.TheVariants.{Names}
 use Rattle.mk_closure.specs.declared.fault.CloseFault.{CloseFault}
 use Rattle.mk_closure.specs.declared.fault.CloseFault.TheVariants as close
 use Rattle.mk_pool.specs.declared.pool.TheConstants.{MAX_NAMES}
-use Rattle.mk_expand.specs.Facts.{Answers, AnsweredBy, IsOutside as IsOutsideText}
-use Rattle.mk_expand.specs.declared.facts.Asked.{Asked}
-use Rattle.mk_expand.specs.declared.fault.ExpandFault.{ExpandFault}
-use Rattle.mk_expand.specs.declared.fault.ExpandFault.TheVariants as expand
+use Rattle.mk_values.specs.Facts.{Answers, AnsweredBy, IsOutside as IsOutsideText}
+use Rattle.mk_values.specs.declared.facts.Asked.{Asked}
+use Rattle.mk_values.specs.declared.fault.ExpandFault.{ExpandFault}
+use Rattle.mk_values.specs.declared.fault.ExpandFault.TheVariants as expand
 use Rattle.mk_plan.specs.declared.fault.PlanFault.{PlanFault}
 use Rattle.mk_plan.specs.declared.fault.PlanFault.TheVariants.{NoTarget, NoRule, Cycle, Limit}
 use Rattle.mk_plan.specs.declared.fault.PlanFault.TheVariants.{Failed, NoMemory}

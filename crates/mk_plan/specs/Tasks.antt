@@ -4,12 +4,12 @@ use Rattle.std.specs.List.{list_any}
 use Rattle.mk_ast.specs.Tree.{Tree}
 use Rattle.mk_bytes.specs.Agrees.{◌>>=◌}
 use Rattle.mk_bytes.specs.Bytes.{at_sign, minus, plus, is_blank}
-use Rattle.mk_expand.specs.Texts.{parsed}
-use Rattle.mk_expand.specs.Facts.{Answers, Lists}
-use Rattle.mk_expand.specs.Value.{of_tree, questions_of, value}
-use Rattle.mk_expand.specs.declared.facts.Asked.{Asked}
-use Rattle.mk_expand.specs.declared.fault.ExpandFault.{ExpandFault}
-use Rattle.mk_expand.specs.declared.local.Locals.{Locals}
+use Rattle.mk_values.specs.Texts.{parsed}
+use Rattle.mk_values.specs.Facts.{Answers, Lists}
+use Rattle.mk_values.specs.Value.{of_tree, questions_of, value}
+use Rattle.mk_values.specs.declared.facts.Asked.{Asked}
+use Rattle.mk_values.specs.declared.fault.ExpandFault.{ExpandFault}
+use Rattle.mk_values.specs.declared.local.Locals.{Locals}
 use Rattle.mk_flags.specs.declared.Flags.{Flags}
 use Rattle.mk_graph.specs.declared.attr.Marks.{Marks}
 use Rattle.mk_graph.specs.declared.mode.Mode.{Mode}

@@ -1,8 +1,8 @@
 //! What conditions ask of the makefiles that were read and of the world.
 ghost use Rattle.std.specs.Prelude.{◌≡◌, ℕ, List, [], IsTrue, IfOk, OnErr};
 ghost use Rattle.std.specs.List.{list_any};
-ghost use Rattle.mk_expand.specs.Facts.{IsTold, asked_with, is_fact};
-ghost use Rattle.mk_expand.specs.declared.facts.FactFault.TheVariants.{Failed};
+ghost use Rattle.mk_values.specs.Facts.{IsTold, asked_with, is_fact};
+ghost use Rattle.mk_values.specs.declared.facts.FactFault.TheVariants.{Failed};
 ghost use Rattle.mk_glob.specs.Patterns as patterns;
 ghost use Rattle.mk_cond.specs.declared.cond.Fun.TheVariants.{Exists as exists};
 ghost use Rattle.mk_plan.specs.Asking.{Asking, AskingBeside};

@@ -1,9 +1,9 @@
 //! The task of a node: its command lines, expanded.
 ghost use Rattle.std.specs.Prelude.{◌≡◌, ◌<◌, ◌+◌, ◌^◌, [], length, position, Ok, IfSome, IfOk, IfErr, if◌then◌else◌};
 ghost use Rattle.mk_bytes.specs.Agrees.{Agrees};
-ghost use Rattle.mk_expand.specs.Calls.{Asks};
-ghost use Rattle.mk_expand.specs.Facts.{Means, RefusedBehind as RefusedText};
-ghost use Rattle.mk_expand.specs.declared.fault.ExpandFault.TheVariants.{NoMemory as no_memory};
+ghost use Rattle.mk_values.specs.Calls.{Asks};
+ghost use Rattle.mk_values.specs.Facts.{Means, RefusedBehind as RefusedText};
+ghost use Rattle.mk_values.specs.declared.fault.ExpandFault.TheVariants.{NoMemory as no_memory};
 ghost use Rattle.mk_plan.specs.Plans.{node_at};
 ghost use Rattle.mk_plan.specs.Refusals.{MeansLines, RefusedBehind, without_line};
 ghost use Rattle.mk_plan.specs.Tasks as spec;

@@ -8,7 +8,7 @@ use Rattle.mk_depline.specs.Lines.{dep_line}
 use Rattle.mk_depline.specs.declared.fault.DepFault.{DepFault}
 use Rattle.mk_depline.specs.declared.fault.DepFault.TheVariants as line
 use Rattle.mk_depline.specs.declared.line.DepLine.{DepLine}
-use Rattle.mk_expand.specs.Texts.{of_tree}
+use Rattle.mk_values.specs.Texts.{of_tree}
 use Rattle.mk_makefile.specs.Dependencies.{Parted, of_line, of_rule, parted, ruled, with_first}
 use Rattle.mk_makefile.specs.DependencyView.{IsRefusedLine}
 use Rattle.mk_makefile.specs.Questions.{Answers}

@@ -2,7 +2,7 @@
 use Rattle.std.proofs.Common.{◌≡◌, ℕ, zero, suc, not, List, [], ◌∷◌, ◌++◌, Option, Some, None, is_some, slice_get}
 use Rattle.std.proofs.Common.{refl, sym, ap, subst, ◌∙◌, map}
 use Rattle.std.specs.Option.{option_map}
-use Rattle.mk_expand.specs.declared.facts.Asked.{Asked}
+use Rattle.mk_values.specs.declared.facts.Asked.{Asked}
 use Rattle.mk_makefile.specs.Questions.{Answered, AreAsked, IsAsked, Question, Reading, Running}
 use Rattle.mk_makefile.specs.Questions.{bytes_of, cut, output_of, time_of}
 use Rattle.mk_makefile.specs.Questions.{cuts_in, readings_in, runnings_in, times_in}

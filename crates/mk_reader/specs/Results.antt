@@ -8,7 +8,7 @@ use Rattle.mk_world.specs.Talks.{Meaning}
 use Rattle.mk_world.specs.Told.{Told}
 use Rattle.mk_world.specs.declared.history.History.{History}
 use Rattle.mk_graph.specs.declared.mode.Mode.{Mode}
-use Rattle.mk_expand.specs.declared.facts.Asked.{Asked}
+use Rattle.mk_values.specs.declared.facts.Asked.{Asked}
 use Rattle.mk_makefile.specs.Acts.{Did, DidPart, acts_of}
 use Rattle.mk_makefile.specs.Moments.{Moment, moment_of}
 use Rattle.mk_makefile.specs.Reading.{run_read}

@@ -6,10 +6,10 @@ use Rattle.std.proofs.lemmas.List.{append-nil, map-append}
 use Rattle.mk_blocks.specs.Acts.{Act}
 use Rattle.mk_blocks.specs.Outcomes.{done}
 use Rattle.mk_blocks.specs.Ties.{Does, Ties}
-use Rattle.mk_expand.specs.Facts.{Means}
-use Rattle.mk_expand.specs.Facts as expand
-use Rattle.mk_expand.specs.declared.facts.Asked.{Asked}
-use Rattle.mk_expand.specs.declared.fault.ExpandFault.{ExpandFault}
+use Rattle.mk_values.specs.Facts.{Means}
+use Rattle.mk_values.specs.Facts as expand
+use Rattle.mk_values.specs.declared.facts.Asked.{Asked}
+use Rattle.mk_values.specs.declared.fault.ExpandFault.{ExpandFault}
 use Rattle.mk_makefile.specs.Acts.{Did, Did-both, Did-nothing, DidPart, DidPart-behind, DidPart-more, DidPart-whole, acts_of}
 use Rattle.mk_makefile.specs.Kinds.{line_kind}
 use Rattle.mk_makefile.specs.Languages.{meaning}

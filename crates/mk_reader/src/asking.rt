@@ -2,9 +2,9 @@
 ghost use Rattle.std.specs.Prelude.{◌≡◌, [], IfOk, IsTrue};
 ghost use Rattle.mk_bytes.specs.Paths.{is_clean_directory};
 ghost use Rattle.mk_cond.specs.View.{cond_view};
-ghost use Rattle.mk_expand.specs.Locals.{no_locals};
-ghost use Rattle.mk_expand.specs.Value as expand;
-ghost use Rattle.mk_expand.specs.declared.fault.ExpandFault.TheVariants.{Failed as failed};
+ghost use Rattle.mk_values.specs.Locals.{no_locals};
+ghost use Rattle.mk_values.specs.Value as expand;
+ghost use Rattle.mk_values.specs.declared.fault.ExpandFault.TheVariants.{Failed as failed};
 ghost use Rattle.mk_makefile.specs.Facts.{lists_of};
 ghost use Rattle.mk_makefile.specs.Moments.{moment_of};
 ghost use Rattle.mk_makefile.specs.Notes.{asked_by};

@@ -12,7 +12,7 @@ use Rattle.mk_clean.specs.Turns.{MayTurns}
 use Rattle.mk_cli.specs.declared.order.Order.{Order}
 use Rattle.mk_decision.specs.Decisions.{Work}
 use Rattle.mk_decision.specs.Makers.{work_on}
-use Rattle.mk_expand.specs.declared.facts.Asked.{Asked}
+use Rattle.mk_values.specs.declared.facts.Asked.{Asked}
 use Rattle.mk_flags.specs.declared.Flags.{Flags}
 use Rattle.mk_graph.specs.Nodes as graph
 use Rattle.mk_graph.specs.declared.Made.{Made}

@@ -13,8 +13,8 @@ use Rattle.mk_clean.specs.Turns as turn
 use Rattle.mk_cli.specs.declared.order.Order.{Order}
 use Rattle.mk_decision.specs.Decisions.{Work, source_names}
 use Rattle.mk_decision.specs.Makers.{work_on}
-use Rattle.mk_expand.specs.Facts.{Answers}
-use Rattle.mk_expand.specs.declared.facts.Asked.{Asked}
+use Rattle.mk_values.specs.Facts.{Answers}
+use Rattle.mk_values.specs.declared.facts.Asked.{Asked}
 use Rattle.mk_graph.specs.declared.Made.{Made}
 use Rattle.mk_headline.specs.Laws.{IsBuildOfTurns}
 use Rattle.mk_headline.specs.Plans.{clean_plan, is_called, is_meta_path, jobs_from, makes_file}

@@ -3,7 +3,7 @@ use Rattle.std.specs.Prelude.{◌≡◌, ◌⊎◌, ℕ, List, [], None, Result,
 use Rattle.std.proofs.Common.{inl, inr}
 use Rattle.mk_cli.specs.declared.order.Order.{Order}
 use Rattle.mk_dry.specs.Items.{dry_tasks}
-use Rattle.mk_expand.specs.declared.fault.ExpandFault.{ExpandFault}
+use Rattle.mk_values.specs.declared.fault.ExpandFault.{ExpandFault}
 use Rattle.mk_explain.specs.declared.fault.ExplainFault.{ExplainFault}
 use Rattle.mk_explain.specs.declared.fault.ExplainFault.TheVariants as explain
 use Rattle.mk_explain.specs.declared.reason.Reason.{Reason}

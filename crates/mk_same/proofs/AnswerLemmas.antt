@@ -11,30 +11,30 @@ use Rattle.mk_mods.specs.Results.{no_results, with_result}
 use Rattle.mk_mods.specs.State.{State, words_of}
 use Rattle.mk_mods.specs.declared.modifier.Mod.{Mod}
 use Rattle.mk_mods.specs.declared.modifier.Mod.TheVariants.{Keep, Without, Select, Range}
-use Rattle.mk_expand.specs.Chains as chain
-use Rattle.mk_expand.specs.Chains.{Chain, substitution, given_as, applied, with_state, name_condition}
-use Rattle.mk_expand.specs.Chains.{chain_of, undefined, defined_as}
-use Rattle.mk_expand.specs.Conditions as cond
-use Rattle.mk_expand.specs.Conditions.{trimmed, lone_reference}
-use Rattle.mk_expand.specs.Evaluators.{Counted, Finder, Progress, progress, with_reference}
-use Rattle.mk_expand.specs.Limits.{max_open, max_references}
-use Rattle.mk_expand.specs.ModFaults.{with_fault}
+use Rattle.mk_values.specs.Chains as chain
+use Rattle.mk_values.specs.Chains.{Chain, substitution, given_as, applied, with_state, name_condition}
+use Rattle.mk_values.specs.Chains.{chain_of, undefined, defined_as}
+use Rattle.mk_values.specs.Conditions as cond
+use Rattle.mk_values.specs.Conditions.{trimmed, lone_reference}
+use Rattle.mk_values.specs.Evaluators.{Counted, Finder, Progress, progress, with_reference}
+use Rattle.mk_values.specs.Limits.{max_open, max_references}
+use Rattle.mk_values.specs.ModFaults.{with_fault}
 use Rattle.mk_bytes.specs.Paths.{clean}
 use Rattle.mk_bytes.specs.Texts.{is_among}
-use Rattle.mk_expand.specs.Facts.{Answers, Lists}
-use Rattle.mk_expand.specs.Names.{Context, context, in_name, raw_of, while_bound, while_open}
-use Rattle.mk_expand.specs.declared.facts.Asked.{Asked}
+use Rattle.mk_values.specs.Facts.{Answers, Lists}
+use Rattle.mk_values.specs.Names.{Context, context, in_name, raw_of, while_bound, while_open}
+use Rattle.mk_values.specs.declared.facts.Asked.{Asked}
 use Rattle.mk_same.specs.Answered.{ConditionsAreByAnswers, TreesAreByAnswers}
-use Rattle.mk_expand.specs.Parts as joint
-use Rattle.mk_expand.specs.Parts.{shown, double_value}
-use Rattle.mk_expand.specs.Substitutions.{without_anchors, old_in_tree}
-use Rattle.mk_expand.specs.Texts.{parsed}
-use Rattle.mk_expand.specs.Value as value
-use Rattle.mk_expand.specs.Value.{finder, found_at, of_tree}
-use Rattle.mk_expand.specs.declared.local.Locals.{Locals}
+use Rattle.mk_values.specs.Parts as joint
+use Rattle.mk_values.specs.Parts.{shown, double_value}
+use Rattle.mk_values.specs.Substitutions.{without_anchors, old_in_tree}
+use Rattle.mk_values.specs.Texts.{parsed}
+use Rattle.mk_values.specs.Value as value
+use Rattle.mk_values.specs.Value.{finder, found_at, of_tree}
+use Rattle.mk_values.specs.declared.local.Locals.{Locals}
 use Rattle.mk_scopes.specs.Scopes.{Variables}
-use Rattle.mk_expand.specs.declared.chain.Found.{Found}
-use Rattle.mk_expand.specs.declared.fault.ExpandFault.TheVariants.{Recursive, TooDeep, TooManyReferences}
+use Rattle.mk_values.specs.declared.chain.Found.{Found}
+use Rattle.mk_values.specs.declared.fault.ExpandFault.TheVariants.{Recursive, TooDeep, TooManyReferences}
 use Rattle.mk_same.proofs.SameLemmas.{Same-asked, Same, Same-gives, Same-tried, Same-looking, Same-either, Same-then}
 
 -- the same meaning, but for the answers

@@ -10,8 +10,8 @@ use Rattle.mk_decision.specs.Reasons.{IsMetaSight, reason, records_asked}
 use Rattle.mk_decision.specs.Sights.{look_at, looks_of, seen_of}
 use Rattle.mk_decision.specs.Tests.{newer_names}
 use Rattle.mk_decision.specs.declared.sight.Sighting.{Sighting}
-use Rattle.mk_expand.specs.Facts.{Answers}
-use Rattle.mk_expand.specs.declared.facts.Asked.{Asked}
+use Rattle.mk_values.specs.Facts.{Answers}
+use Rattle.mk_values.specs.declared.facts.Asked.{Asked}
 use Rattle.mk_explain.specs.Turns.{IsAnswered}
 use Rattle.mk_meta.proofs.MetaLemmas.{meta_in-again}
 use Rattle.mk_meta.specs.Reading.{meta_in}

@@ -1,11 +1,11 @@
 -- Evaluations that are the same where the answers to what they ask are.
 use Rattle.std.proofs.Common.{◌≡◌, ◌∙◌, ℕ, zero, suc, Bool, true, false, List, [], ◌∷◌, ◌++◌, length, Some, Result, Ok, Err, slice_get}
 use Rattle.std.proofs.Common.{refl, sym, ap}
-use Rattle.mk_expand.specs.Evaluators.{Answer, Counted, Progress, ◌>>=◌, either, gives, looking, tried, with_asked}
-use Rattle.mk_expand.specs.Facts.{AnsweredBy, Answers}
-use Rattle.mk_expand.specs.Value.{questions_of}
-use Rattle.mk_expand.specs.declared.facts.Asked.{Asked}
-use Rattle.mk_expand.specs.declared.fault.ExpandFault.{ExpandFault}
+use Rattle.mk_values.specs.Evaluators.{Answer, Counted, Progress, ◌>>=◌, either, gives, looking, tried, with_asked}
+use Rattle.mk_values.specs.Facts.{AnsweredBy, Answers}
+use Rattle.mk_values.specs.Value.{questions_of}
+use Rattle.mk_values.specs.declared.facts.Asked.{Asked}
+use Rattle.mk_values.specs.declared.fault.ExpandFault.{ExpandFault}
 
 -- The second is the first where these answers agree with all that the first has asked; and then they agree with
 -- what was asked before.

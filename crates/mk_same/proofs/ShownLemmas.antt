@@ -13,7 +13,7 @@ use Rattle.mk_dry.specs.Progress.{IsGoneThrough, is_ready}
 use Rattle.mk_dry.specs.Runs.{Dry, Makes, MayShow, dry_after, dry_after_all, first_dry, rules_of, with_shown, work_after}
 use Rattle.mk_explain.specs.Turns.{AreTurns, IsAnswered, IsExplained, IsQuiet, IsTold, IsTurn, Turn, behind, looks_of, quiet, reasons_of, tells}
 use Rattle.mk_explain.specs.declared.reason.Reason.{Reason}
-use Rattle.mk_expand.specs.declared.facts.Asked.{Asked}
+use Rattle.mk_values.specs.declared.facts.Asked.{Asked}
 use Rattle.mk_flags.specs.declared.Flags.{Flags}
 use Rattle.mk_graph.specs.Walks.{is_among, preds_of}
 use Rattle.mk_oodate.specs.declared.reason.Why.{Why}

@@ -3,13 +3,13 @@ use Rattle.std.proofs.Common.{◌≡◌, ◌∙◌, ℕ, ◌+◌, false, not, Li
 use Rattle.std.proofs.Common.{refl, sym, ap, subst}
 use Rattle.mk_ast.specs.Tree.{Tree}
 use Rattle.mk_bytes.specs.Agrees.{◌>>=◌}
-use Rattle.mk_expand.specs.Evaluators.{Answer}
-use Rattle.mk_expand.specs.Facts.{AnsweredBy, Answers}
-use Rattle.mk_expand.specs.Texts.{parsed}
-use Rattle.mk_expand.specs.Value.{of_tree, questions_of, value, with_asked}
-use Rattle.mk_expand.specs.declared.facts.Asked.{Asked}
-use Rattle.mk_expand.specs.declared.fault.ExpandFault.{ExpandFault}
-use Rattle.mk_expand.specs.declared.local.Locals.{Locals}
+use Rattle.mk_values.specs.Evaluators.{Answer}
+use Rattle.mk_values.specs.Facts.{AnsweredBy, Answers}
+use Rattle.mk_values.specs.Texts.{parsed}
+use Rattle.mk_values.specs.Value.{of_tree, questions_of, value, with_asked}
+use Rattle.mk_values.specs.declared.facts.Asked.{Asked}
+use Rattle.mk_values.specs.declared.fault.ExpandFault.{ExpandFault}
+use Rattle.mk_values.specs.declared.local.Locals.{Locals}
 use Rattle.mk_plan.specs.Oodate.{refers}
 use Rattle.mk_plan.specs.Plans.{node_at}
 use Rattle.mk_plan.specs.Tasks.{Setting, at_line, line_as, line_of, line_of_tree, lines_from, locals_of, manner_of, task_with}

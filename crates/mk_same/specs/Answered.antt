@@ -2,10 +2,10 @@
 use Rattle.std.specs.Prelude.{◌≡◌, ℕ, Bool, List, Ok}
 use Rattle.mk_ast.specs.Tree.{Tree}
 use Rattle.mk_cond.specs.Cond.{Cond}
-use Rattle.mk_expand.specs.Facts.{AnsweredBy, Answers, Lists}
-use Rattle.mk_expand.specs.Value.{of_condition, of_tree, questions_of}
-use Rattle.mk_expand.specs.declared.facts.Asked.{Asked}
-use Rattle.mk_expand.specs.declared.local.Locals.{Locals}
+use Rattle.mk_values.specs.Facts.{AnsweredBy, Answers, Lists}
+use Rattle.mk_values.specs.Value.{of_condition, of_tree, questions_of}
+use Rattle.mk_values.specs.declared.facts.Asked.{Asked}
+use Rattle.mk_values.specs.declared.local.Locals.{Locals}
 use Rattle.mk_flags.specs.declared.Flags.{Flags}
 use Rattle.mk_graph.specs.declared.mode.Mode.{Mode}
 use Rattle.mk_plan.specs.Tasks.{Setting, setting_of, task_of}

@@ -7,11 +7,11 @@ use Rattle.std.proofs.lemmas.Grind.{common_steps}
 use Rattle.std.specs.List.{AllByRecursion, prefix_len, position_or_len}
 use Rattle.std.specs.Prelude.{unwrap_or}
 use Rattle.mk_bytes.specs.Agrees.{◌>>=◌}
-use Rattle.mk_expand.specs.Texts.{parsed}
-use Rattle.mk_expand.specs.Value.{value}
-use Rattle.mk_expand.specs.declared.facts.Asked.{Asked}
-use Rattle.mk_expand.specs.declared.fault.ExpandFault.{ExpandFault}
-use Rattle.mk_expand.specs.declared.local.Locals.{Locals}
+use Rattle.mk_values.specs.Texts.{parsed}
+use Rattle.mk_values.specs.Value.{value}
+use Rattle.mk_values.specs.declared.facts.Asked.{Asked}
+use Rattle.mk_values.specs.declared.fault.ExpandFault.{ExpandFault}
+use Rattle.mk_values.specs.declared.local.Locals.{Locals}
 use Rattle.mk_meta.specs.Lawful.{is_command}
 use Rattle.mk_plan.specs.Plans.{node_at}
 use Rattle.mk_plan.specs.Tasks.{Setting, at_line, is_mark, is_no_mark, line_of, line_of_tree, lines_from, locals_of, manner_of, marks_len, task_with}

@@ -1,6 +1,6 @@
 -- A build as one list: what its report tells and what happened in the world, woven together.
 use Rattle.std.specs.Prelude.{◌≡◌, ℕ, List, [], ◌∷◌, ◌++◌, Option, Some, None}
-use Rattle.mk_expand.specs.declared.fault.ExpandFault.{ExpandFault}
+use Rattle.mk_values.specs.declared.fault.ExpandFault.{ExpandFault}
 use Rattle.mk_world.specs.Calls.{EndsAs, when_of}
 use Rattle.mk_world.specs.History.{State as Stand, MayAll as MayHappen, after_all as stand_after, child_in, contents, state_of}
 use Rattle.mk_world.specs.Looks.{Seen, dated, read}

@@ -13,28 +13,28 @@ use Rattle.mk_cond.proofs.WalkLemmas.{behind_all-push, weight-push}
 use Rattle.mk_cond.specs.View.{cond_view, side_view}
 use Rattle.mk_cond.specs.Walk.{behind_all, step_size, way, weight}
 use Rattle.mk_pieces.proofs.PieceLemmas.{Begins-refl, Begins-trans}
-use Rattle.mk_expand.specs.Calls.{at, here}
-use Rattle.mk_expand.specs.Value.{found_at}
-use Rattle.mk_expand.specs.View.{chain_view}
-use Rattle.mk_expand.specs.declared.chain.Found.{Found}
-use Rattle.mk_expand.proofs.ChainLemmas.{all_modified-mod, all_modified-end, each_behind-word}
-use Rattle.mk_expand.proofs.ChainLemmas.{each_behind-end, modified-words, modified-given}
-use Rattle.mk_expand.proofs.ChainLemmas.{chained-default}
-use Rattle.mk_expand.proofs.FactLemmas.{earlier, never_fails, ok_never, Asks-none, Asks-err, Asks-ok, Asks-then}
-use Rattle.mk_expand.proofs.FactLemmas.{Keeps-then, Extends-then, fault_of_all, gives_at, outside}
-use Rattle.mk_expand.proofs.FaultLemmas.{never-appended, never-raw_above, err_never, fault_never}
-use Rattle.mk_expand.proofs.FaultLemmas.{never-of_cond, never-of_mod, never-opened}
-use Rattle.mk_expand.proofs.RefusalLemmas.{never-of_tree, refused, refused_if, refused_as, holds}
-use Rattle.mk_expand.proofs.RefusalLemmas.{Asks-refused, Asks-never, Keeps-behind, Keeps-same}
-use Rattle.mk_expand.specs.Evaluators.{Counted, gives, progress}
-use Rattle.mk_expand.proofs.LentLemmas.{gives-lent, gives-not}
-use Rattle.mk_expand.proofs.NameLemmas.{raw_of-above, raw_of-fault}
-use Rattle.mk_expand.proofs.PlainLemmas.{opened_value-plain}
-use Rattle.mk_expand.proofs.PlainLemmas.{side_value-plain, text_value-plain, tree_value-plain}
-use Rattle.mk_expand.proofs.PlainLemmas.{variable-plain, variable-fault}
-use Rattle.mk_expand.proofs.ValueLemmas.{joined-part, joined-end, joined-new, joined-new-end}
-use Rattle.mk_expand.proofs.ValueLemmas.{found-not, found-may, old_text_start}
-use Rattle.mk_expand.proofs.WalkLemmas.{done, walked, walked-done, walked-fault, walked-on, walked-whole}
+use Rattle.mk_values.specs.Calls.{at, here}
+use Rattle.mk_values.specs.Value.{found_at}
+use Rattle.mk_values.specs.View.{chain_view}
+use Rattle.mk_values.specs.declared.chain.Found.{Found}
+use Rattle.mk_values.proofs.ChainLemmas.{all_modified-mod, all_modified-end, each_behind-word}
+use Rattle.mk_values.proofs.ChainLemmas.{each_behind-end, modified-words, modified-given}
+use Rattle.mk_values.proofs.ChainLemmas.{chained-default}
+use Rattle.mk_values.proofs.FactLemmas.{earlier, never_fails, ok_never, Asks-none, Asks-err, Asks-ok, Asks-then}
+use Rattle.mk_values.proofs.FactLemmas.{Keeps-then, Extends-then, fault_of_all, gives_at, outside}
+use Rattle.mk_values.proofs.FaultLemmas.{never-appended, never-raw_above, err_never, fault_never}
+use Rattle.mk_values.proofs.FaultLemmas.{never-of_cond, never-of_mod, never-opened}
+use Rattle.mk_values.proofs.RefusalLemmas.{never-of_tree, refused, refused_if, refused_as, holds}
+use Rattle.mk_values.proofs.RefusalLemmas.{Asks-refused, Asks-never, Keeps-behind, Keeps-same}
+use Rattle.mk_values.specs.Evaluators.{Counted, gives, progress}
+use Rattle.mk_values.proofs.LentLemmas.{gives-lent, gives-not}
+use Rattle.mk_values.proofs.NameLemmas.{raw_of-above, raw_of-fault}
+use Rattle.mk_values.proofs.PlainLemmas.{opened_value-plain}
+use Rattle.mk_values.proofs.PlainLemmas.{side_value-plain, text_value-plain, tree_value-plain}
+use Rattle.mk_values.proofs.PlainLemmas.{variable-plain, variable-fault}
+use Rattle.mk_values.proofs.ValueLemmas.{joined-part, joined-end, joined-new, joined-new-end}
+use Rattle.mk_values.proofs.ValueLemmas.{found-not, found-may, old_text_start}
+use Rattle.mk_values.proofs.WalkLemmas.{done, walked, walked-done, walked-fault, walked-on, walked-whole}
 use Rattle.mk_expand.proofs.+value.Goals as goal
 
 pub evaluation::joined-loop-part-init : goal.evaluation::joined-loop-part-init

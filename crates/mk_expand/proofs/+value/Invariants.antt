@@ -4,15 +4,15 @@ use Rattle.mk_cond.specs.View.{cond_view}
 use Rattle.mk_cond.specs.Walk.{behind_all, step_size, step_walk, weight}
 use Rattle.mk_pieces.specs.Pieces.{texts_of}
 use Rattle.mk_mods.specs.Pieces.{end_of}
-use Rattle.mk_expand.specs.Calls.{Asks, Extends, Keeps, at, here}
-use Rattle.mk_expand.specs.Chains.{all_modified, each_behind}
-use Rattle.mk_expand.specs.Conditions.{truth_of}
-use Rattle.mk_expand.specs.Facts.{Answers, AnsweredBy}
-use Rattle.mk_expand.specs.Parts.{joined, tree_value}
-use Rattle.mk_expand.specs.Substitutions.{old_in_tree}
-use Rattle.mk_expand.specs.Value.{found_at}
-use Rattle.mk_expand.specs.View.{chain_view}
-use Rattle.mk_expand.proofs.WalkLemmas.{done, walked}
+use Rattle.mk_values.specs.Calls.{Asks, Extends, Keeps, at, here}
+use Rattle.mk_values.specs.Chains.{all_modified, each_behind}
+use Rattle.mk_values.specs.Conditions.{truth_of}
+use Rattle.mk_values.specs.Facts.{Answers, AnsweredBy}
+use Rattle.mk_values.specs.Parts.{joined, tree_value}
+use Rattle.mk_values.specs.Substitutions.{old_in_tree}
+use Rattle.mk_values.specs.Value.{found_at}
+use Rattle.mk_values.specs.View.{chain_view}
+use Rattle.mk_values.proofs.WalkLemmas.{done, walked}
 use Rattle.mk_expand.proofs.+value.Given as goal
 
 abbrev pub decreases-evaluation::found : goal.decreases-evaluation::found

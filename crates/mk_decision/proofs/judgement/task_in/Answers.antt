@@ -1,5 +1,5 @@
 use Rattle.std.proofs.Common.{rules, ◌∙◌, ◌++◌, map, ap, sym, subst}
-use Rattle.mk_expand.specs.Facts.{AnsweredBy}
+use Rattle.mk_values.specs.Facts.{AnsweredBy}
 use Rattle.mk_plan.specs.Asking.{answers_by, as_asked}
 use Rattle.mk_plan.proofs.AskingLemmas.{answered-all}
 use Rattle.mk_world.specs.Looks.{answered}

@@ -1,6 +1,6 @@
 use Rattle.mk_cond.specs.View.{cond_view}
-use Rattle.mk_expand.proofs.FactLemmas.{agrees_asked, refused_behind}
-use Rattle.mk_expand.specs.Value.{of_condition}
+use Rattle.mk_values.proofs.FactLemmas.{agrees_asked, refused_behind}
+use Rattle.mk_values.specs.Value.{of_condition}
 use Rattle.mk_expand.proofs.whole.eval_cond.Goals as goal
 
 pub returns-clause-truth : goal.returns-clause-truth

@@ -1,6 +1,6 @@
 use Rattle.mk_ast.specs.View.{tree_view}
-use Rattle.mk_expand.proofs.FactLemmas.{agrees_asked, refused_behind}
-use Rattle.mk_expand.specs.Value.{of_tree}
+use Rattle.mk_values.proofs.FactLemmas.{agrees_asked, refused_behind}
+use Rattle.mk_values.specs.Value.{of_tree}
 use Rattle.mk_expand.proofs.whole.expand.Goals as goal
 
 pub returns-clause-value : goal.returns-clause-value

@@ -1,10 +1,10 @@
 use Rattle.std.proofs.Common.{[], sym, ap, ◌∙◌}
-use Rattle.mk_expand.specs.Evaluators.{progress}
-use Rattle.mk_expand.specs.Names.{context}
-use Rattle.mk_expand.specs.Value.{finder, of_text}
-use Rattle.mk_expand.proofs.FactLemmas.{agrees_asked, asks_nothing, gives_at, never_fails, refused_behind, Asks-none}
-use Rattle.mk_expand.proofs.FaultLemmas.{never-appended}
-use Rattle.mk_expand.proofs.PlainLemmas.{text_value-plain}
+use Rattle.mk_values.specs.Evaluators.{progress}
+use Rattle.mk_values.specs.Names.{context}
+use Rattle.mk_values.specs.Value.{finder, of_text}
+use Rattle.mk_values.proofs.FactLemmas.{agrees_asked, asks_nothing, gives_at, never_fails, refused_behind, Asks-none}
+use Rattle.mk_values.proofs.FaultLemmas.{never-appended}
+use Rattle.mk_values.proofs.PlainLemmas.{text_value-plain}
 use Rattle.mk_expand.proofs.whole.value_of_text.Goals as goal
 
 pub returns-clause-value : goal.returns-clause-value

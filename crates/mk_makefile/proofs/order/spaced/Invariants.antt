@@ -1,5 +1,5 @@
 use Rattle.std.proofs.Common.{◌≡◌, ◌++◌, drop}
-use Rattle.mk_expand.specs.Locals.{spaced, behind_spaces}
+use Rattle.mk_values.specs.Locals.{spaced, behind_spaces}
 use Rattle.mk_makefile.proofs.order.spaced.Given as goal
 
 -- the texts so far, and then the rest

@@ -1,6 +1,6 @@
 use Rattle.std.proofs.Common.{◌≡◌, ◌∷◌, ◌+◌, ◌∙◌, ◌≤◌, drop, length, refl, arith}
 use Rattle.std.proofs.lemmas.Result.{err_from_is_err_and}
-use Rattle.mk_expand.proofs.FactLemmas.{earlier}
+use Rattle.mk_values.proofs.FactLemmas.{earlier}
 use Rattle.mk_plan.specs.Tasks.{setting_of}
 use Rattle.mk_modes.specs.declared.report.End.TheVariants.{Done, SinkFault, WorldFault}
 use Rattle.mk_modes.proofs.MeaningLemmas.{HasCause-same}

@@ -1,5 +1,5 @@
 use Rattle.std.proofs.Common.{◌≡◌, ℕ, List, Option, drop}
-use Rattle.mk_expand.specs.Facts.{Answers, AnsweredBy}
+use Rattle.mk_values.specs.Facts.{Answers, AnsweredBy}
 use Rattle.mk_plan.specs.Tasks.{setting_of}
 use Rattle.mk_modes.specs.Meaning.{printed}
 use Rattle.mk_modes.specs.Modes.{Printed, Questions}

@@ -1,6 +1,6 @@
 use Rattle.std.proofs.Common.{◌≡◌, ◌∙◌, ◌+◌, [], ◌∷◌, drop, arith, rules, subst, sym}
 use Rattle.std.proofs.lemmas.Grind.{common_steps}
-use Rattle.mk_expand.proofs.FactLemmas.{earlier, Asks-ok, Asks-then}
+use Rattle.mk_values.proofs.FactLemmas.{earlier, Asks-ok, Asks-then}
 use Rattle.mk_plan.proofs.TaskLemmas.{lines_from-end, lines_from-line, lines_from-fault}
 use Rattle.mk_plan.proofs.TaskLemmas.{questions_from-fault, questions_from-line}
 use Rattle.mk_plan.specs.Refusals.{IsTaskFault}

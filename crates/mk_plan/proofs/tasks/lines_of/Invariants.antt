@@ -1,6 +1,6 @@
 use Rattle.std.proofs.Common.{◌≡◌, ◌+◌, [], drop, Ok}
-use Rattle.mk_expand.specs.Calls.{Asks}
-use Rattle.mk_expand.specs.Facts.{Answers, AnsweredBy}
+use Rattle.mk_values.specs.Calls.{Asks}
+use Rattle.mk_values.specs.Facts.{Answers, AnsweredBy}
 use Rattle.mk_plan.specs.Tasks as spec
 use Rattle.mk_plan.specs.Tasks.{setting_of}
 use Rattle.mk_plan.proofs.tasks.lines_of.Given as goal

@@ -1,0 +1,5 @@
+mod ConditionRows
+pub mod LookLemmas
+pub mod NewerLemmas
+mod Rows
+pub mod SameLemmas

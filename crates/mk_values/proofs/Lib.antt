@@ -1,0 +1,13 @@
+pub mod ChainLemmas
+pub mod ConditionLemmas
+pub mod FactLemmas
+pub mod FaultLemmas
+pub mod LentLemmas
+pub mod NameLemmas
+pub mod NeverLemmas
+pub mod PlainLemmas
+pub mod RefusalLemmas
+pub mod SeparatorLemmas
+pub mod SubstitutionLemmas
+pub mod ValueLemmas
+pub mod WalkLemmas

@@ -1,0 +1,17 @@
+pub mod Calls
+pub mod Chains
+pub mod Conditions
+pub mod Evaluators
+pub mod Facts
+pub mod Limits
+pub mod Locals
+pub mod ModFaults
+pub mod Names
+pub mod Parts
+pub mod Plain
+pub mod Separators
+pub mod Steps
+pub mod Substitutions
+pub mod Texts
+pub mod Value
+pub mod View
