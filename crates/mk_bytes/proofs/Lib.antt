@@ -4,4 +4,5 @@ mod NumberRows
 pub mod PathLemmas
 mod PathRows
 pub mod PieceLemmas
+pub mod RefusalLemmas
 pub mod WordLemmas

@@ -9,7 +9,6 @@ pub mod LevelLemmas
 pub mod LookLemmas
 pub mod MadeLemmas
 pub mod NameLemmas
-pub mod RefusalLemmas
 pub mod Rows
 pub mod SearchLemmas
 pub mod WayLemmas

@@ -1,5 +1,5 @@
 use Rattle.mk_pieces.proofs.PieceLemmas.{Begins-refl}
-use Rattle.mk_pieces.proofs.RefusalLemmas.{refused_if}
+use Rattle.mk_bytes.proofs.RefusalLemmas.{refused_if}
 use Rattle.mk_mods.proofs.chain.quote.Goals as goal
 
 pub returns-in_err-text-clause-shown : goal.returns-in_err-text-clause-shown

@@ -8,7 +8,7 @@ use Rattle.mk_mods.specs.Pieces.{seen}
 use Rattle.mk_pieces.specs.declared.fault.ModFault.TheVariants.{NoMemory as no_memory, TooLong as too_long}
 use Rattle.mk_pieces.specs.Limits.{IsEarly}
 use Rattle.mk_pieces.proofs.LimitLemmas.{fault_is}
-use Rattle.mk_pieces.proofs.RefusalLemmas.{refused_if}
+use Rattle.mk_bytes.proofs.RefusalLemmas.{refused_if}
 use Rattle.mk_mods.proofs.ChainLemmas.{found-map, AgreesBut-map}
 use Rattle.mk_mods.proofs.LongLemmas.{worked_long}
 use Rattle.mk_mods.proofs.chain.with_words_behind.Goals as goal

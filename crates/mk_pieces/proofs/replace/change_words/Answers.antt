@@ -11,7 +11,8 @@ use Rattle.mk_pieces.proofs.LimitLemmas.{fault_is}
 use Rattle.mk_pieces.proofs.PieceLemmas.{Begins-under, length-begins, texts_of-begins, texts_of-push, furthest-push, furthest-at, Begins-refl}
 use Rattle.mk_pieces.proofs.PieceLemmas.{texts_of-more}
 use Rattle.mk_pieces.proofs.ReplaceLemmas.{rest_changed, rest_changed-more, rest_changed-none, still_ready}
-use Rattle.mk_pieces.proofs.RefusalLemmas.{early_as, refused_if}
+use Rattle.mk_bytes.proofs.RefusalLemmas.{refused_if}
+use Rattle.mk_pieces.proofs.RefusalLemmas.{early_as}
 use Rattle.mk_pieces.proofs.replace.change_words.Goals as goal
 
 pub changed_piece-requires : goal.changed_piece-requires

@@ -6,7 +6,8 @@ use Rattle.mk_pieces.specs.Pieces.{bytes_of}
 use Rattle.mk_pieces.specs.declared.fault.ModFault.TheVariants.{TooLong as too_long}
 use Rattle.mk_pieces.proofs.LimitLemmas.{fault_is, pushed_if-none, pushed_if-same, pushed_if-some, pushed_if-long, pushed_if-early}
 use Rattle.mk_pieces.proofs.PieceLemmas.{Begins-append, Begins-refl, bytes_of-begins, bytes_of-new}
-use Rattle.mk_pieces.proofs.RefusalLemmas.{early_as, refused_if}
+use Rattle.mk_bytes.proofs.RefusalLemmas.{refused_if}
+use Rattle.mk_pieces.proofs.RefusalLemmas.{early_as}
 use Rattle.mk_pieces.proofs.ReplaceLemmas.{word_changed-none, word_changed-some}
 use Rattle.mk_pieces.proofs.replace.changed_piece.Goals as goal
 

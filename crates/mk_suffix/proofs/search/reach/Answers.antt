@@ -1,13 +1,13 @@
 use Rattle.std.proofs.Common.{◌≡◌, ◌∙◌, [], ◌∷◌, ◌++◌, Some, None, false, rules, refl, sym, ap}
 use Rattle.mk_suffix.proofs.FoundLemmas.{NoneFound-push}
 use Rattle.mk_suffix.specs.SearchView.{way_of}
-use Rattle.mk_world.proofs.CauseLemmas.{HasCause-behind_ok}
+use Rattle.mk_bytes.proofs.RefusalLemmas.{refused_if}
+use Rattle.mk_world.proofs.CauseLemmas.{HasCause-behind, HasCause-behind_ok, HasCause-other}
+use Rattle.mk_world.proofs.CauseLemmas.{HasCause-passed_on, HasCause-stays}
 use Rattle.mk_suffix.specs.Extends.{Found}
 use Rattle.mk_suffix.specs.Found.{is_found}
-use Rattle.mk_suffix.specs.declared.fault.SuffixFault.TheVariants.{Failed as failed}
+use Rattle.mk_suffix.specs.declared.fault.SuffixFault.TheVariants.{Failed as failed, NoMemory as no_memory}
 use Rattle.mk_suffix.proofs.LookLemmas.{OnErr-looked, OnLooks-none, OnLooks-map}
-use Rattle.mk_suffix.proofs.RefusalLemmas.{refused, HasCause-of_memory, HasCause-stays}
-use Rattle.mk_suffix.proofs.RefusalLemmas.{HasCause-passed_on, HasCause-behind}
 use Rattle.mk_suffix.proofs.ExtendsLemmas.{Extends-skip, Extends-push, IsHit-here}
 use Rattle.mk_suffix.proofs.search.reach.Goals as goal
 
@@ -32,10 +32,10 @@ returns-clause-goes_on g c = λ old more extends.
 
 pub returns-in_err-step-clause-goes_on : goal.returns-in_err-step-clause-goes_on
 returns-in_err-step-clause-goes_on g c =
-    refused _ _ c.from_residual.result c.from_residual.ensures.1
+    refused_if _ _ c.from_residual.result c.from_residual.ensures.1
 
 pub returns-in_err-step-clause-told : goal.returns-in_err-step-clause-told
-returns-in_err-step-clause-told g c = refused _ _ c.from_residual.result c.from_residual.ensures.1
+returns-in_err-step-clause-told g c = refused_if _ _ c.from_residual.result c.from_residual.ensures.1
 
 pub returns-in_err-step-clause-refused : goal.returns-in_err-step-clause-refused
 returns-in_err-step-clause-refused g c =
@@ -43,7 +43,7 @@ returns-in_err-step-clause-refused g c =
 
 pub returns-in_err-step-clause-cause : goal.returns-in_err-step-clause-cause
 returns-in_err-step-clause-cause g c =
-    HasCause-of_memory _ c.from_residual.result c.from_residual.ensures.1
+    HasCause-other failed no_memory (λ is. cc) _ c.from_residual.result c.from_residual.ensures.1
 
 pub returns-in_err-step-clause-idle : goal.returns-in_err-step-clause-idle
 returns-in_err-step-clause-idle g c = c.requires.idle
@@ -57,18 +57,18 @@ pub returns-in_default-clause-refused : goal.returns-in_default-clause-refused
 returns-in_default-clause-refused g c = tt
 
 pub returns-in_default-clause-cause : goal.returns-in_default-clause-cause
-returns-in_default-clause-cause g c = HasCause-stays _ _
+returns-in_default-clause-cause g c = HasCause-stays failed _ _
 
 pub returns-in_default-clause-idle : goal.returns-in_default-clause-idle
 returns-in_default-clause-idle g c = c.requires.idle
 
 pub returns-in_err-name-clause-goes_on : goal.returns-in_err-name-clause-goes_on
 returns-in_err-name-clause-goes_on g c =
-    refused _ _ c.from_residual-in_err-name.result c.from_residual-in_err-name.ensures.1
+    refused_if _ _ c.from_residual-in_err-name.result c.from_residual-in_err-name.ensures.1
 
 pub returns-in_err-name-clause-told : goal.returns-in_err-name-clause-told
 returns-in_err-name-clause-told g c =
-    refused _ _ c.from_residual-in_err-name.result c.from_residual-in_err-name.ensures.1
+    refused_if _ _ c.from_residual-in_err-name.result c.from_residual-in_err-name.ensures.1
 
 pub returns-in_err-name-clause-refused : goal.returns-in_err-name-clause-refused
 returns-in_err-name-clause-refused g c =
@@ -76,18 +76,18 @@ returns-in_err-name-clause-refused g c =
 
 pub returns-in_err-name-clause-cause : goal.returns-in_err-name-clause-cause
 returns-in_err-name-clause-cause g c =
-    HasCause-of_memory _ c.from_residual-in_err-name.result c.from_residual-in_err-name.ensures.1
+    HasCause-other failed no_memory (λ is. cc) _ c.from_residual-in_err-name.result c.from_residual-in_err-name.ensures.1
 
 pub returns-in_err-name-clause-idle : goal.returns-in_err-name-clause-idle
 returns-in_err-name-clause-idle g c = c.requires.idle
 
 pub returns-in_err-is_found-clause-goes_on : goal.returns-in_err-is_found-clause-goes_on
 returns-in_err-is_found-clause-goes_on g c =
-    refused _ _ c.from_residual-in_err-is_found.result c.from_residual-in_err-is_found.ensures.1
+    refused_if _ _ c.from_residual-in_err-is_found.result c.from_residual-in_err-is_found.ensures.1
 
 pub returns-in_err-is_found-clause-told : goal.returns-in_err-is_found-clause-told
 returns-in_err-is_found-clause-told g c =
-    refused _ _ c.from_residual-in_err-is_found.result c.from_residual-in_err-is_found.ensures.1
+    refused_if _ _ c.from_residual-in_err-is_found.result c.from_residual-in_err-is_found.ensures.1
 
 pub returns-in_err-is_found-clause-refused : goal.returns-in_err-is_found-clause-refused
 returns-in_err-is_found-clause-refused g c =
@@ -95,7 +95,7 @@ returns-in_err-is_found-clause-refused g c =
 
 pub returns-in_err-is_found-clause-cause : goal.returns-in_err-is_found-clause-cause
 returns-in_err-is_found-clause-cause g c =
-    HasCause-passed_on _ _ c.from_residual-in_err-is_found.result
+    HasCause-passed_on failed _ _ c.from_residual-in_err-is_found.result
     c.from_residual-in_err-is_found.ensures.1
     c.in_err-is_found.ensures.cause
 
@@ -131,11 +131,11 @@ returns-then-branch-clause-idle g c = c.in_ok-is_found.ensures.idle
 
 pub returns-in_err-push-clause-goes_on : goal.returns-in_err-push-clause-goes_on
 returns-in_err-push-clause-goes_on g c =
-    refused _ _ c.from_residual-in_err-push.result c.from_residual-in_err-push.ensures.1
+    refused_if _ _ c.from_residual-in_err-push.result c.from_residual-in_err-push.ensures.1
 
 pub returns-in_err-push-clause-told : goal.returns-in_err-push-clause-told
 returns-in_err-push-clause-told g c =
-    refused _ _ c.from_residual-in_err-push.result c.from_residual-in_err-push.ensures.1
+    refused_if _ _ c.from_residual-in_err-push.result c.from_residual-in_err-push.ensures.1
 
 pub returns-in_err-push-clause-refused : goal.returns-in_err-push-clause-refused
 returns-in_err-push-clause-refused g c =
@@ -145,7 +145,7 @@ returns-in_err-push-clause-refused g c =
 
 pub returns-in_err-push-clause-cause : goal.returns-in_err-push-clause-cause
 returns-in_err-push-clause-cause g c =
-    HasCause-behind _ _ c.from_residual-in_err-push.result c.from_residual-in_err-push.ensures.1
+    HasCause-behind failed no_memory (λ is. cc) _ _ c.from_residual-in_err-push.result c.from_residual-in_err-push.ensures.1
     c.in_ok-is_found.ensures.cause
 
 pub returns-in_err-push-clause-idle : goal.returns-in_err-push-clause-idle
