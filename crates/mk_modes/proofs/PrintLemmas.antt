@@ -9,7 +9,7 @@ use Rattle.mk_values.specs.declared.fault.ExpandFault.{ExpandFault}
 use Rattle.mk_values.specs.Facts.{IsOutside as IsOutsideText}
 use Rattle.mk_values.specs.declared.facts.Asked.{Asked}
 use Rattle.mk_values.specs.Facts.{Lists}
-use Rattle.mk_values.proofs.FactLemmas.{asks_nothing}
+use Rattle.mk_values.proofs.FactLemmas.{asks_both, asks_nothing}
 use Rattle.mk_values.specs.Facts.{AsksMore}
 use Rattle.mk_plan.specs.Tasks.{Setting}
 use Rattle.mk_world.specs.Sinks.{Gains, GainsPart}
@@ -156,14 +156,6 @@ drop-all items i behind = grind (arith, common_steps)
 pub questions-none : {leads : Type 0} (stays : leads) (lists : Lists) (asked : List Asked)
     → Questions leads lists lists asked asked
 questions-none stays lists asked = record { led = stays; lists = refl; asked = asks_nothing asked }
-
--- questions that are added, one after the other
-asks_both : (a b c : List Asked) → AsksMore a b → AsksMore b c → AsksMore a c
-asks_both a b c first second = record {
-  more = first.more ++ second.more;
-  added = second.added
-      ∙ (ap (λ asked. asked ++ second.more) first.added ∙ append_assoc a first.more second.more);
-}
 
 -- questions, one after the other
 pub questions-then : {one two both : Type 0} {l0 l1 l2 : Lists} {a0 a1 a2 : List Asked}

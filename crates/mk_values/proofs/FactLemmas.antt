@@ -31,7 +31,7 @@ earlier old new answers asks by =
 pub asks_nothing : (asked : List Asked) → AsksMore asked asked
 asks_nothing asked = record { more = []; added = sym (append-nil asked) }
 
-asks_both : (a b c : List Asked) → AsksMore a b → AsksMore b c → AsksMore a c
+pub asks_both : (a b c : List Asked) → AsksMore a b → AsksMore b c → AsksMore a c
 asks_both a b c first second = record {
   more = first.more ++ second.more;
   added = second.added ∙ (ap (λ asked. asked ++ second.more) first.added ∙ simp append_assoc);

@@ -1,6 +1,6 @@
 -- What is known of an answer that is a refusal.
 use Rattle.std.proofs.Common.{◌≡◌, ◌⊎◌, ℕ, List, Result, Ok, Err, refl}
-use Rattle.std.proofs.Common.{IsErrAnd, IfOk, OnOk}
+use Rattle.std.proofs.Common.{IsErrAnd, OnOk}
 use Rattle.mk_ast.specs.declared.fault.AstFault.{AstFault}
 use Rattle.mk_ast.specs.declared.fault.AstFault.TheVariants as of_trees
 use Rattle.mk_values.specs.Calls.{Asks, Gives, Keeps}
@@ -24,22 +24,6 @@ pub Keeps-same : (run : Run) → Keeps run run
 Keeps-same run = record { open_names = refl; bound = refl; region = refl }
 
 module _ {A : Type 0} where
-  -- what is said of answers that went well
-  pub refused : (Q : ExpandFault → Type 0) (P : Type 0) (answer : Result A ExpandFault)
-      → IsErrAnd answer Q → OnOk answer P
-  refused Q P (Ok given) is = absurd is
-  refused Q P (Err fault) is = tt
-
-  pub refused_if : (Q : ExpandFault → Type 0) (P : A → Type 0) (answer : Result A ExpandFault)
-      → IsErrAnd answer Q → IfOk answer P
-  refused_if Q P (Ok given) is = absurd is
-  refused_if Q P (Err fault) is = tt
-
-  -- what holds whatever the answer is
-  pub holds : {P : Type 0} (answer : Result A ExpandFault) → P → OnOk answer P
-  holds (Ok given) is = is
-  holds (Err fault) is = tt
-
   -- a run behind a call that went well and one more call
   pub Keeps-behind : (a b c : Run) (answer : Result A ExpandFault)
       → Keeps a b → OnOk answer (Keeps b c) → OnOk answer (Keeps a c)

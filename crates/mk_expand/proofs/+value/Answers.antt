@@ -9,6 +9,7 @@ use Rattle.mk_ast.specs.Tree.{range_to}
 use Rattle.mk_ast.specs.View.{mod_view, part_view, tree_view}
 use Rattle.mk_ast.specs.declared.tree.ModTree.{the_lemmas as mod_lemmas}
 use Rattle.mk_bytes.specs.declared.pair.Pair.{Pair}
+use Rattle.mk_bytes.proofs.RefusalLemmas.{holds, refused, refused_if}
 use Rattle.mk_cond.proofs.WalkLemmas.{behind_all-push, weight-push}
 use Rattle.mk_cond.specs.View.{cond_view, side_view}
 use Rattle.mk_cond.specs.Walk.{behind_all, step_size, way, weight}
@@ -24,7 +25,7 @@ use Rattle.mk_values.proofs.FactLemmas.{earlier, never_fails, ok_never, Asks-non
 use Rattle.mk_values.proofs.FactLemmas.{Keeps-then, Extends-then, fault_of_all, gives_at, outside}
 use Rattle.mk_values.proofs.FaultLemmas.{never-appended, never-raw_above, err_never, fault_never}
 use Rattle.mk_values.proofs.FaultLemmas.{never-of_cond, never-of_mod, never-opened}
-use Rattle.mk_values.proofs.RefusalLemmas.{never-of_tree, refused, refused_if, refused_as, holds}
+use Rattle.mk_values.proofs.RefusalLemmas.{never-of_tree, refused_as}
 use Rattle.mk_values.proofs.RefusalLemmas.{Asks-refused, Asks-never, Keeps-behind, Keeps-same}
 use Rattle.mk_values.specs.Evaluators.{Counted, gives, progress}
 use Rattle.mk_values.proofs.LentLemmas.{gives-lent, gives-not}
