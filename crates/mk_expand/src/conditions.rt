@@ -10,7 +10,9 @@ use crate::evaluation::{found, tree_value};
 use mk_ast::Tree;
 use mk_bytes::Text;
 use mk_cond::{CmpOp, Cond, Fun, Leaf, Side, Step, compare, entered, left_behind, truth};
-use mk_values::{ExpandFault, Facts, Names, Run, answer_of, if_defined, lone_reference, plain_bytes};
+use mk_values::{
+    ExpandFault, Facts, Names, Run, answer_of, if_defined, lone_reference, plain_bytes,
+};
 
 /// The truth of a condition. The conditions round the one that is evaluated stand in a list.
 #[cycle(value)]

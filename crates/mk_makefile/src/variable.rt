@@ -50,7 +50,12 @@ pub fn on_one_line(alloc: Global, text: &[u8]) -> Result<Text, NoMemory>
 }
 
 /// Sets a variable that no class has.
-pub fn set_default(scopes: &mut Scopes, class: Class, name: &[u8], text: &[u8]) -> Result<(), NoMemory>
+pub fn set_default(
+    scopes: &mut Scopes,
+    class: Class,
+    name: &[u8],
+    text: &[u8],
+) -> Result<(), NoMemory>
     ensures ok { OnOk result
         (scopes.new ≡ spec.defaulted_in scopes.old class name.now text.now) }
     ensures err { OnErr result (scopes.new ≡ scopes.old) }

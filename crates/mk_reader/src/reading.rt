@@ -17,9 +17,7 @@ use mk_bytes::{Text, Texts, clean_path};
 use mk_cli::Order;
 use mk_directive::words;
 use mk_graph::{Made, Mode};
-use mk_makefile::{
-    Fault, ReadFault, Refusal, Stop, first_state, made_of, refused, refused_at_end,
-};
+use mk_makefile::{Fault, ReadFault, Refusal, Stop, first_state, made_of, refused, refused_at_end};
 use mk_rules::mode_by;
 use mk_scopes::Env;
 use mk_world::{Sink, World};

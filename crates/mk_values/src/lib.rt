@@ -22,7 +22,9 @@ mod trim;
 
 pub use answer::{answer_of, if_defined, lone_reference};
 pub use bound::{Binding, bind, lent_word, unbind};
-pub use chain::{Chain, Found, append_found, compacted, given, nothing_found, plain_found, textless};
+pub use chain::{
+    Chain, Found, append_found, compacted, given, nothing_found, plain_found, textless,
+};
 pub use facts::{Asked, FactFault, Facts};
 pub use fault::ExpandFault;
 pub use limit::{MAX_OPEN, append, open_reference};
