@@ -1,6 +1,6 @@
 -- What is answered where the files stay as they are.
 use Rattle.std.proofs.Common.{◌≡◌, ℕ, zero, suc, not, List, [], ◌∷◌, ◌++◌, Option, Some, None, is_some, slice_get}
-use Rattle.std.proofs.Common.{refl, sym, ap, subst, ◌∙◌, map}
+use Rattle.std.proofs.Common.{refl, ap, subst, ◌∙◌}
 use Rattle.std.specs.Option.{option_map}
 use Rattle.mk_values.specs.declared.facts.Asked.{Asked}
 use Rattle.mk_makefile.specs.Questions.{Answered, AreAsked, IsAsked, Question, Reading, Running}
@@ -12,12 +12,8 @@ use Rattle.mk_world.specs.Deeds.{Store}
 use Rattle.mk_world.specs.History.{Filed, after_all, contents, files_of, first_state, state_of}
 use Rattle.mk_world.specs.Looks.{is_missing}
 use Rattle.mk_world.specs.Talks.{Meaning, after_doing, does}
-use Rattle.mk_world.specs.declared.command.Cmd.{Cmd}
-use Rattle.mk_world.specs.declared.history.Happening.{Happening}
 use Rattle.mk_world.specs.declared.history.Happening.TheVariants.{Look}
 use Rattle.mk_world.specs.declared.history.History.{History}
-use Rattle.mk_world.specs.declared.step.Ended.{Ended}
-use Rattle.mk_world.specs.declared.time.When.{When}
 use Rattle.mk_reader.specs.OnMaps.{LeaveAll, ReadsTheMap, answers_on}
 
 -- a look changes no file
