@@ -10,7 +10,6 @@ use Rattle.mk_values.specs.Facts.{IsOutside as IsOutsideText}
 use Rattle.mk_values.specs.declared.facts.Asked.{Asked}
 use Rattle.mk_values.specs.Facts.{Lists}
 use Rattle.mk_values.proofs.FactLemmas.{asks_both, asks_nothing}
-use Rattle.mk_values.specs.Facts.{AsksMore}
 use Rattle.mk_plan.specs.Tasks.{Setting}
 use Rattle.mk_world.specs.Sinks.{Gains, GainsPart}
 use Rattle.mk_world.proofs.SinkLemmas.{Gains-nothing, Gains-then, GainsPart-more, GainsPart-then}
