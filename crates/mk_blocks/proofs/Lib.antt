@@ -6,7 +6,7 @@ mod FitLemmas
 mod IncludeLemmas
 mod LineLemmas
 mod LoopLemmas
-mod OutcomeLemmas
+pub mod OutcomeLemmas
 mod PlaceLemmas
 mod Rows
 mod RunLemmas
