@@ -36,7 +36,8 @@ fn scopes(rt: &impl Abort, alloc: Global) -> Result<Scopes, NoMemory> {
     let cwd = Text::from_bytes(alloc, b"/w")?;
     assert!(rt; is_clean_directory(cwd.bytes()));
     let vars = Items::new(alloc, 0)?;
-    Scopes::new(alloc, &Env { vars, cwd }, false)
+    let program = Text::from_bytes(alloc, b"bmake")?;
+    Scopes::new(alloc, &Env { vars, cwd, program }, false)
 }
 
 fn has_value(alloc: Global, scopes: &Scopes, name: &[u8], wanted: &[u8]) -> bool {

@@ -100,7 +100,8 @@ pub fn environment_of(alloc: Global, case: &Case) -> Result<Env, Trouble>
         return Err(Trouble::Bad(case.head.line));
     }
     let vars = variables_of(alloc, case)?;
-    Ok(Env { vars, cwd })
+    let program = Text::from_bytes(alloc, b"bmake")?;
+    Ok(Env { vars, cwd, program })
 }
 
 // A number of a line.

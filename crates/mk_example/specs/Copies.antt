@@ -20,7 +20,7 @@ makefile = codes ".MAKE.MODE=meta curdirOk=yes missing-meta=yes missing-filemon=
 
 -- an environment without variables
 abbrev pub env : Env
-env = record { vars = []; cwd = codes "/w" }
+env = record { vars = []; cwd = codes "/w"; program = codes "bmake" }
 
 -- Before a run the makefile and its source stand, no child runs, the history is one that may have come about, and each
 -- meta file that stands tells what happened. Anything else may stand, and anything may have been built and edited.

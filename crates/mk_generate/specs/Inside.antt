@@ -36,7 +36,7 @@ order = record no_order {
 }
 
 abbrev pub env : Env
-env = record { vars = []; cwd = codes "/w" }
+env = record { vars = []; cwd = codes "/w"; program = codes "bmake" }
 
 abbrev pub request : Request
 request = record { words = words; order = order; env = env }

@@ -86,6 +86,7 @@ fn new_request(alloc: Global) -> Result<Request, NoMemory>
     let env = Env {
         vars: Items::new(alloc, 0)?,
         cwd: directory(alloc)?,
+        program: Text::from_bytes(alloc, b"bmake")?,
     };
     Ok(Request {
         words: words(alloc)?,

@@ -417,6 +417,31 @@ impl World for MemWorld {
         Ok(when)
     }
 
+    /// The time of a file: here it is that of its last change, and the call counts as one for its time.
+    fn changed(&mut self, alloc: Global, path: &[u8]) -> Result<When, WorldFault>
+        ensures done { IfOk result (λ when. Adds language (Some self.old.chronicle)
+            (Some self.new.chronicle) (OwnTime path.now when)) }
+        ensures history { OnOk result
+            (self.new.chronicle ≡ with_event (turned self.old) (Look path.now)) }
+        ensures course { OnOk result (self.new.schedule
+            ≡ course_after self.old.chronicle self.old.schedule) }
+        ensures refused { OnErr result (Adds language (Some self.old.chronicle)
+            (Some self.new.chronicle) OwnNothing) }
+        ensures cause { HasCause Failed self.old.outages.faults self.new.outages.faults result }
+        ensures children { (kids : List ℕ)
+            → tickets_of (state_of self.old.chronicle).children ≡ kids
+            → tickets_of (state_of self.new.chronicle).children ≡ kids }
+        ensures exactly { FailsWhere
+            (IsStruck self.old.outages kind.Time ⊎ IsTooShort self.old 0) result }
+        ensures failed { OnFailed result (HasFailed 0 self.old self.new) }
+        ensures out_of_memory { OnNoMemory result (IsOldOrTurned self.old self.new) }
+        ensures taken { self.new.schedule.numbers ≡ drop 1 self.old.schedule.numbers }
+        ensures counted { self.new.outages
+            ≡ with_answer (with_call self.old.outages kind.Time) result }
+    {
+        self.time(alloc, path)
+    }
+
     /// Writes the head of a meta file at the next time; where this is not later than `after`, at the
     /// time behind `after`, from which the clock goes on. This is one change, for which the clock
     /// needs a number, beside that for the step of the child that goes on; and it is too short as

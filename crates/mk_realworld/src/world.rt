@@ -71,6 +71,11 @@ impl<R: Files<File = File> + Processes + Clock + AllocGlobal> World for RealWorl
         }
     }
 
+    /// The time of a file or directory, as `time`.
+    fn changed(&mut self, alloc: Global, path: &[u8]) -> Result<When, WorldFault> {
+        self.time(alloc, path)
+    }
+
     /// Writes the head of a meta file, until its time is later than `after`. Missing directories above
     /// it are made. At every moment the file is as before, or holds bytes of the head from its
     /// beginning. A head above 64 MiB, a path that is not UTF-8, and no later time after 1,048,576 tries

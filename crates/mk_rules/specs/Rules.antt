@@ -1,7 +1,10 @@
 -- What dependency lines leave.
 use denote.Ref.{Bor}
-use Rattle.std.specs.Prelude.{ℕ, ◌==◌, ◌||◌, Bool, false, not, List, [], ◌∷◌, length, Option, Some, None}
-use Rattle.std.specs.Prelude.{if◌then◌else◌, nat_eq}
+use Rattle.std.specs.Prelude.{ℕ, ◌==◌, ◌||◌, ◌&&◌, Bool, false, not, List, [], ◌∷◌, length, Option, Some}
+use Rattle.std.specs.Prelude.{None, if◌then◌else◌, nat_eq, nat_le}
+use Rattle.std.specs.List.{list_any}
+use Rattle.mk_bytes.specs.Bytes.{dot}
+use Rattle.mk_bytes.specs.Paths.{is_slash}
 use Rattle.mk_graph.specs.Nodes.{Node, node_at, with_command}
 use Rattle.mk_graph.specs.Numbers.{AreBelow}
 use Rattle.mk_graph.specs.declared.attr.Marks.{Marks}
@@ -61,19 +64,31 @@ commanded r text = record r { nodes = all_commanded text r.nodes r.group }
 
 -- Main targets
 
+-- an upper-case letter, from `A` to `Z`
+abbrev pub is_upper : ℕ → Bool
+is_upper byte = nat_le 65 byte && nat_le byte 90
+
+-- A name that make(1) keeps for itself: a dot, an upper-case letter, and no slash.
+abbrev pub is_reserved : List ℕ → Bool
+is_reserved [] = false
+is_reserved (first ∷ []) = false
+is_reserved (first ∷ second ∷ rest) =
+    first == dot && (is_upper second && not (list_any is_slash rest))
+
 -- a target that is neither a rule nor a macro, nor marked so
-abbrev pub may_be_main : Marks → Bool
-may_be_main marks =
+abbrev pub is_plain : Marks → Bool
+is_plain marks =
     not (marks.rule || (marks.macro_behind || (marks.macro_before || marks.not_main)))
 
-abbrev pub marks_at : List Node → ℕ → Marks
-marks_at nodes n = (node_at nodes n).marks
+-- a plain target whose name is not reserved
+abbrev pub may_be_main : Node → Bool
+may_be_main node = is_plain node.marks && not (is_reserved node.name)
 
 -- the first of these nodes that may be a main target
 abbrev pub first_main : List Node → List ℕ → List (List ℕ)
 first_main nodes [] = []
 first_main nodes (n ∷ more) =
-    if may_be_main (marks_at nodes n) then (node_at nodes n).name ∷ []
+    if may_be_main (node_at nodes n) then (node_at nodes n).name ∷ []
     else first_main nodes more
 
 -- a name, if there is one

@@ -1,6 +1,7 @@
 //! What dependency lines leave.
 ghost use Rattle.std.specs.Prelude.{◌≡◌, ◌<◌, [], length, IfOk, OnOk, OnErr};
 ghost use Rattle.indexmap.specs.IndexSet.{insert_key};
+ghost use Rattle.mk_graph.specs.Nodes.{node_at};
 ghost use Rattle.mk_graph.specs.Numbers.{AreBelow};
 ghost use Rattle.mk_rules.specs.Ends as ends;
 ghost use Rattle.mk_rules.specs.Rules as spec;
@@ -135,9 +136,24 @@ fn add_to_all(graph: &mut Graph, nodes: &[u32], text: &[u8]) -> Result<(), NoMem
     Ok(())
 }
 
-fn may_be_main(graph: &Graph, n: u32) -> bool
+// Whether make(1) keeps a name for itself: a dot, an upper-case letter, and no slash.
+fn is_reserved(name: &[u8]) -> bool
+    ensures { result ≡ spec.is_reserved name.now }
+{
+    match name {
+        [first, second, rest @ ..] => {
+            *first == b'.'
+                && (*second >= b'A' && *second <= b'Z')
+                && !rest.iter().any(|byte| *byte == b'/')
+        }
+        _ => false,
+    }
+}
+
+// Whether a target is neither a rule nor a macro nor marked as no main target.
+fn is_plain(graph: &Graph, n: u32) -> bool
     requires { n < length graph.now }
-    ensures { result ≡ spec.may_be_main (spec.marks_at graph.now n) }
+    ensures { result ≡ spec.is_plain (node_at graph.now n).marks }
 {
     !(graph.has(n, Attr::Rule)
         || graph.has(n, Attr::Macro)
@@ -145,7 +161,15 @@ fn may_be_main(graph: &Graph, n: u32) -> bool
         || graph.has(n, Attr::NotMain))
 }
 
-/// The first of some nodes that is neither a rule nor a macro nor marked as no main target.
+fn may_be_main(graph: &Graph, n: u32) -> bool
+    requires { n < length graph.now }
+    ensures { result ≡ spec.may_be_main (node_at graph.now n) }
+{
+    is_plain(graph, n) && !is_reserved(graph.name(n))
+}
+
+/// The first of some nodes that is neither a rule nor a macro nor marked as no main target, and whose
+/// name is not reserved: a dot, an upper-case letter and no slash, as `.POSIX`.
 pub fn first_main<'g>(graph: &'g Graph, nodes: &[u32]) -> Option<&'g [u8]>
     requires { AreBelow (length graph.now) nodes.now }
     ensures { spec.shown_main result ≡ spec.first_main graph.now nodes.now }

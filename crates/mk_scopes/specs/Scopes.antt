@@ -45,17 +45,17 @@ abbrev pub without_global : Variables → List ℕ → Variables
 without_global s name = record s { globals = without s.globals name }
 
 -- the globals that make sets by itself
-abbrev pub first_globals : List ℕ → List Pair
-first_globals cwd =
+abbrev pub first_globals : List ℕ → List ℕ → List Pair
+first_globals cwd program =
     record { name = codes ".CURDIR"; value = cwd }
     ∷ record { name = codes ".newline"; value = newline ∷ [] }
-    ∷ record { name = codes "MAKE"; value = codes "bmake" } ∷ []
+    ∷ record { name = codes "MAKE"; value = program } ∷ []
 
 -- before anything is read
 abbrev pub first_scopes : Env → Bool → Variables
 first_scopes env env_first = record {
   env = all_assigned [] env.vars;
-  globals = first_globals env.cwd;
+  globals = first_globals env.cwd env.program;
   commands = [];
   env_first = env_first;
   cwd = env.cwd;

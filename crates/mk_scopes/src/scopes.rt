@@ -9,12 +9,13 @@ use mk_bytes::{NoMemory, Pairs, Text};
 use std::alloc::Global;
 use std::marker::Model;
 
-/// What a process is given by its environment: its variables, of which the last of a name counts,
-/// and its current directory.
+/// What a process is given: the variables of its environment, of which the last of a name counts, its
+/// current directory, and the name by which make was called.
 #[derive(Drop)]
 pub struct Env {
     pub vars: Pairs,
     pub cwd: Text,
+    pub program: Text,
 }
 
 /// The classes that are assigned to. The command line's variables stand above the global ones.
@@ -63,25 +64,26 @@ fn table_of(alloc: Global, vars: &Pairs) -> Result<Table, NoMemory>
     Ok(table)
 }
 
-fn first_globals(alloc: Global, cwd: &[u8]) -> Result<Table, NoMemory>
-    ensures { IfOk result (λ table. table ≡ spec.first_globals cwd.now) }
+fn first_globals(alloc: Global, cwd: &[u8], program: &[u8]) -> Result<Table, NoMemory>
+    ensures { IfOk result (λ table. table ≡ spec.first_globals cwd.now program.now) }
 {
     let mut table = Table::new(alloc);
     table.assign(b".CURDIR", cwd)?;
     table.assign(b".newline", b"\n")?;
-    table.assign(b"MAKE", b"bmake")?;
+    table.assign(b"MAKE", program)?;
     Ok(table)
 }
 
 impl Scopes {
-    /// The variables of the environment, with the globals `.CURDIR`, `.newline` and `MAKE`. With
+    /// The variables of the environment, with the globals `.CURDIR`, `.newline` and `MAKE`, the name by
+    /// which make was called. With
     /// `env_first` the environment stands above the globals (make(1), `-e`).
     pub fn new(alloc: Global, env: &Env, env_first: bool) -> Result<Scopes, NoMemory>
         requires { IsTrue (is_clean_directory env.now.cwd) }
         ensures { IfOk result (λ scopes. scopes ≡ spec.first_scopes env.now env_first) }
     {
         let cwd = env.cwd.copy(alloc)?;
-        let globals = first_globals(alloc, cwd.bytes())?;
+        let globals = first_globals(alloc, cwd.bytes(), env.program.bytes())?;
         Ok(Scopes {
             env: table_of(alloc, &env.vars)?,
             globals,

@@ -54,6 +54,14 @@ pub trait World {
         ensures cause { HasCause Failed (faults self.old) (faults self.new) result }
         ensures children { (kids : List ℕ) → runs self.old kids → runs self.new kids };
 
+    /// The time at which a file was changed last in any way: in its bytes, or by another file that was
+    /// moved to its path with an older time of its own. A world that tells has one time for both.
+    fn changed(&mut self, alloc: Global, path: &[u8]) -> Result<When, WorldFault>
+        ensures done { IfOk result (λ when. Adds meaning (history self.old) (history self.new) (OwnTime path.now when)) }
+        ensures refused { OnErr result (Adds meaning (history self.old) (history self.new) OwnNothing) }
+        ensures cause { HasCause Failed (faults self.old) (faults self.new) result }
+        ensures children { (kids : List ℕ) → runs self.old kids → runs self.new kids };
+
     /// Writes the head of a meta file, with which a job begins, and gives the file's time, which is later
     /// than `after`. After a refusal the file is as before, or holds a part of the head from its
     /// beginning.
