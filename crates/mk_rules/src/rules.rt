@@ -1,6 +1,8 @@
 //! What dependency lines leave.
 ghost use Rattle.std.specs.Prelude.{◌≡◌, ◌<◌, [], length, IfOk, OnOk, OnErr};
 ghost use Rattle.indexmap.specs.IndexSet.{insert_key};
+ghost use Rattle.std.specs.List.{list_any};
+ghost use Rattle.mk_bytes.specs.Paths.{is_slash};
 ghost use Rattle.mk_graph.specs.Nodes.{node_at};
 ghost use Rattle.mk_graph.specs.Numbers.{AreBelow};
 ghost use Rattle.mk_rules.specs.Ends as ends;
@@ -136,16 +138,25 @@ fn add_to_all(graph: &mut Graph, nodes: &[u32], text: &[u8]) -> Result<(), NoMem
     Ok(())
 }
 
+// Whether a byte is an upper-case letter.
+fn is_upper(byte: u8) -> bool
+    ensures { result ≡ spec.is_upper byte }
+{
+    byte >= b'A' && byte <= b'Z'
+}
+
+fn has_slash(text: &[u8]) -> bool
+    ensures { result ≡ list_any is_slash text.now }
+{
+    text.iter().any(|byte| *byte == b'/')
+}
+
 // Whether make(1) keeps a name for itself: a dot, an upper-case letter, and no slash.
 fn is_reserved(name: &[u8]) -> bool
     ensures { result ≡ spec.is_reserved name.now }
 {
     match name {
-        [first, second, rest @ ..] => {
-            *first == b'.'
-                && (*second >= b'A' && *second <= b'Z')
-                && !rest.iter().any(|byte| *byte == b'/')
-        }
+        [first, second, rest @ ..] => { *first == b'.' && is_upper(*second) && !has_slash(rest) }
         _ => false,
     }
 }
