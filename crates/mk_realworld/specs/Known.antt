@@ -1,16 +1,20 @@
--- What the times that are kept stand for.
-use Rattle.std.specs.Prelude.{ℕ, List, Option, None}
+-- What is known of the times of files, and when.
+use Rattle.std.specs.Prelude.{ℕ, List, Option, None, ◌≡◌, ◌<◌}
 use Rattle.std.specs.Map.{lookup}
 use Rattle.std.specs.Str.{bytes_eq}
-use Rattle.mk_world.specs.declared.time.When.{When}
+use Rattle.mk_realworld.specs.declared.file.Sight.{Sight}
 use Rattle.mk_realworld.specs.declared.known.KnownTimes.{KnownTimes}
 
--- the time of each path, where it is known
-abbrev pub Times : Type 0
-Times = List ℕ → Option When
+-- what was seen at each path, where it is known
+abbrev pub Sights : Type 0
+Sights = List ℕ → Option Sight
 
-abbrev pub no_times : Times
-no_times = λ path. None
+abbrev pub no_sights : Sights
+no_sights = λ path. None
 
-abbrev pub times_in : KnownTimes → Times
-times_in kept = λ path. lookup (λ key. bytes_eq path key.items) kept.times.entries
+abbrev pub sights_in : KnownTimes → Sights
+sights_in kept = λ path. lookup (λ key. bytes_eq path key.items) kept.sights.entries
+
+-- nothing is known any more
+abbrev pub IsForgotten : KnownTimes → Type 0
+IsForgotten kept = sights_in kept ≡ no_sights

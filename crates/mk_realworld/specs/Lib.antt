@@ -1,2 +1,4 @@
 pub mod ChildFiles
 pub mod Known
+pub mod Sights
+pub mod Statuses

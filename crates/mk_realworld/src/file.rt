@@ -1,12 +1,18 @@
 //! Single files, by their paths.
-use crate::refusal::Refusal;
+ghost use Rattle.std.specs.Prelude.{◌≡◌};
+ghost use Rattle.mk_realworld.specs.Sights as spec;
+
+use crate::refusal::{Reason, Refusal};
 use mk_bytes::Text;
 use mk_world::{Time, When};
 use std::alloc::Global;
-use std::fs::Files;
+use std::fs::{Files, Metadata};
 use std::io::{Error, ErrorKind, Read};
-use std::time::{SystemTime, UNIX_EPOCH};
+use std::os::unix::fs::{FileTypeExt, MetadataExt};
 use std::{fs, str};
+
+// Of a second.
+const NANOSECONDS: u64 = 1_000_000_000;
 
 /// A file above 64 MiB counts as a fault.
 pub const MAX_FILE: usize = 67_108_864;
@@ -28,11 +34,11 @@ pub fn read_all<F: Read>(alloc: Global, buffer: &mut [u8], file: &mut F) -> Resu
             Err(error) => return Err(Refusal::from(error)),
         };
         if count > MAX_FILE.saturating_sub(text.len()) {
-            return Err(Refusal::Outside);
+            return Err(Refusal::Outside(Reason::TooLong));
         }
         text.push(&buffer[..count])?;
     }
-    Err(Refusal::Outside)
+    Err(Refusal::Outside(Reason::Other))
 }
 
 /// A file for reading, or `None` where it is missing.
@@ -61,27 +67,83 @@ pub fn file_text<R: Files + AllocGlobal>(
     }
 }
 
-/// The time of a file or directory.
-pub fn file_time<R: Files>(rt: &R, path: &[u8]) -> Result<When, Refusal> {
-    match fs::metadata(rt, str::from_utf8(path)?) {
-        Ok(metadata) => Ok(nanoseconds(metadata.modified()?)),
+/// What was seen at a path: when its bytes were changed last, when it was changed last in any way, and
+/// whether a pipe with a name stands there.
+#[derive(Clone, Copy, PartialEq, Eq)]
+pub struct Sight {
+    pub time: When,
+    pub changed: When,
+    pub is_pipe: bool,
+}
+
+// What is seen where the system tells nothing else.
+fn unclear(when: When) -> Sight
+    ensures time { result.time ≡ when }
+    ensures changed { result.changed ≡ when }
+{
+    Sight {
+        time: when,
+        changed: when,
+        is_pipe: false,
+    }
+}
+
+/// What stands at a path. What the system does not tell is unknown: below a folder that is closed, at
+/// a name that is too long or is not UTF-8, in a loop of links.
+pub fn look<R: Files>(rt: &R, path: &[u8]) -> Result<Sight, Refusal> {
+    let Ok(path) = str::from_utf8(path) else {
+        return Ok(unclear(When::Unknown));
+    };
+    match fs::metadata(rt, path) {
+        Ok(metadata) => Ok(sight_of(&metadata)),
         Err(error) => {
-            if is_missing(&error) {
-                return Ok(When::Missing);
+            if error.kind() == ErrorKind::OutOfMemory {
+                return Err(Refusal::NoMemory);
             }
-            Err(Refusal::from(error))
+            if is_missing(&error) {
+                return Ok(unclear(When::Missing));
+            }
+            Ok(unclear(When::Unknown))
         }
     }
 }
 
+fn sight_of(metadata: &Metadata) -> Sight {
+    let time = at(metadata.mtime(), metadata.mtime_nsec());
+    Sight {
+        time,
+        changed: later(time, at(metadata.ctime(), metadata.ctime_nsec())),
+        is_pipe: metadata.file_type().is_fifo(),
+    }
+}
+
+// The later of two times of a file.
+fn later(one: When, other: When) -> When
+    ensures { result ≡ spec.later one other }
+{
+    match (one, other) {
+        (When::At(first), When::At(second)) => {
+            if first.0 < second.0 {
+                other
+            } else {
+                one
+            }
+        }
+        _ => When::Unknown,
+    }
+}
+
 // A time of the system in nanoseconds; one before 1970 or far in the future is not known.
-fn nanoseconds(time: SystemTime) -> When {
-    match time.duration_since(UNIX_EPOCH) {
-        Ok(since) => match u64::try_from(since.as_nanos()) {
-            Ok(nanos) => When::At(Time(nanos)),
-            Err(_) => When::Unknown,
-        },
-        Err(_) => When::Unknown,
+fn at(seconds: i64, nanoseconds: i64) -> When {
+    let (Ok(seconds), Ok(rest)) = (u64::try_from(seconds), u64::try_from(nanoseconds)) else {
+        return When::Unknown;
+    };
+    let Some(whole) = seconds.checked_mul(NANOSECONDS) else {
+        return When::Unknown;
+    };
+    match whole.checked_add(rest) {
+        Some(time) => When::At(Time(time)),
+        None => When::Unknown,
     }
 }
 

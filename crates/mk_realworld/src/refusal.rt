@@ -1,3 +1,4 @@
+//! Why something is not done, and how it is told.
 ghost use Rattle.std.specs.Prelude.{◌≡◌, ◌<◌, ◌≤◌};
 ghost use Rattle.mk_world.specs.Causes.{Rose};
 ghost use Rattle.mk_world.specs.declared.fault.WorldFault.TheVariants.{Failed};
@@ -9,13 +10,28 @@ use std::alloc::AllocError;
 use std::io::{Error, ErrorKind};
 use std::str::Utf8Error;
 
+/// Why the outside refused something.
+#[derive(Clone, Copy, PartialEq, Eq)]
+pub enum Reason {
+    /// The system's own number of the error.
+    System(i32),
+    /// A text that is not UTF-8, and so cannot be said to the system.
+    NotText,
+    /// More than 64 MiB.
+    TooLong,
+    /// A file whose time does not come to be later than that of another file.
+    NoLaterTime,
+    /// A reason that has no number.
+    Other,
+}
+
 /// Why something is not done.
 #[derive(Clone, Copy, PartialEq, Eq)]
 pub enum Refusal {
     /// Memory ran out.
     NoMemory,
     /// The system refused it, or it cannot be said to the system.
-    Outside,
+    Outside(Reason),
 }
 
 impl From<NoMemory> for Refusal {
@@ -32,7 +48,7 @@ impl From<AllocError> for Refusal {
 
 impl From<Utf8Error> for Refusal {
     fn from(_: Utf8Error) -> Refusal {
-        Refusal::Outside
+        Refusal::Outside(Reason::NotText)
     }
 }
 
@@ -41,7 +57,10 @@ impl From<Error> for Refusal {
         if error.kind() == ErrorKind::OutOfMemory {
             return Refusal::NoMemory;
         }
-        Refusal::Outside
+        match error.raw_os_error() {
+            Some(code) => Refusal::Outside(Reason::System(code)),
+            None => Refusal::Outside(Reason::Other),
+        }
     }
 }
 
@@ -53,7 +72,7 @@ pub fn counted(refusal: Refusal, faults: &mut u64) -> WorldFault
 {
     match refusal {
         Refusal::NoMemory => WorldFault::NoMemory,
-        Refusal::Outside => {
+        Refusal::Outside(_) => {
             count_fault(faults);
             WorldFault::Failed
         }

@@ -1,67 +1,127 @@
-//! The system as a world uses it: what the runtime reaches, the directory for the files of children, and
-//! the buffer by way of which files are read.
-use crate::file::file_time;
+//! The system as a world uses it: what the runtime reaches, what children are given, the directory for
+//! their logs, and the buffer by way of which files are read.
+ghost use Rattle.std.specs.Prelude.{◌≡◌, ◌+◌, IfOk, IfSome, OnErr};
+ghost use Rattle.mk_realworld.specs.Known.{IsForgotten, sights_in};
+ghost use Rattle.mk_realworld.specs.Sights.{settled};
+
+use crate::file::{Sight, look};
 use crate::known::KnownTimes;
+use crate::late::Late;
+use crate::named::Named;
 use crate::refusal::Refusal;
 use crate::room::Room;
-use crate::slots::Slots;
-use mk_bytes::{NoMemory, Text};
-use mk_world::When;
+use crate::setting::Setting;
+use libc::types::pollfd;
+use mk_bytes::NoMemory;
+use mk_world::{Time, When};
 use std::fs::Files;
+use std::time::Clock;
 
 // How many bytes are asked for at once.
 const CHUNK: usize = 65_536;
+
+// A file's time that is so much later than the system's clock is one of the future, in nanoseconds.
+const FUTURE: u64 = 2_000_000_000;
 
 /// What a world keeps of the system.
 #[derive(Drop)]
 pub struct System<R> {
     pub rt: R,
+    pub setting: Setting,
     pub room: Room,
-    pub slots: Slots,
     pub buffer: Vec<u8>,
-    /// The times of files since the last change that make, or a child, may have made.
+    /// What is known of the times of files since the last change that make, or a child, may have made.
     pub times: KnownTimes,
-    /// How many children were started and not taken in.
-    pub running: usize,
+    /// The outputs of children that were taken in, which processes in the background still have.
+    pub late: Late,
+    /// What is asked for when make waits for output.
+    pub polls: Vec<pollfd>,
+    pub named: Named,
+    // The latest time that is not one of the future, by the clock when it was read last.
+    bound: u64,
 }
 
 impl<R: AllocGlobal + Drop> System<R> {
-    /// What this runtime reaches; the files of children stand in a directory at this place.
-    pub fn new(rt: R, place: Text) -> Result<System<R>, NoMemory> {
+    /// What this runtime reaches.
+    pub fn new(rt: R, setting: Setting, room: Room, named: Named) -> Result<System<R>, NoMemory> {
         let buffer = vec![in rt.alloc(); 0u8; CHUNK]?;
-        let slots = Slots::new(rt.alloc());
         let times = KnownTimes::new(rt.alloc());
+        let late = Late::new(rt.alloc());
+        let polls = Vec::new(rt.alloc());
         Ok(System {
             rt,
-            room: Room::new(place),
-            slots,
+            setting,
+            room,
             buffer,
             times,
-            running: 0,
+            late,
+            polls,
+            named,
+            bound: 0,
         })
     }
 }
 
-impl<R: Files + AllocGlobal> System<R> {
-    /// The time of a file or directory. While children run, the system is asked each time; while none
-    /// runs, it is asked once for a path, until make changes a file or starts a child.
-    pub fn time(&mut self, path: &[u8]) -> Result<When, Refusal> {
-        if self.running > 0 {
-            return file_time(&self.rt, path);
+// A time that is not later than a bound, and else unknown.
+fn settled_by(bound: u64, when: When) -> When
+    ensures { result ≡ settled bound when }
+{
+    match when {
+        When::At(time) if time.0 > bound => When::Unknown,
+        _ => when,
+    }
+}
+
+fn is_within(bound: u64, when: When) -> bool {
+    match when {
+        When::At(time) => time.0 <= bound,
+        When::Missing | When::Unknown => true,
+    }
+}
+
+impl<R: Clock> System<R> {
+    // The latest time that is not one of the future, by the clock.
+    fn read_clock(&mut self) {
+        if let Ok(since) = self.rt.since_1970() {
+            let now = u64::try_from(since.as_nanos()).unwrap_or(u64::MAX);
+            self.bound = now.saturating_add(FUTURE);
         }
-        if let Some(when) = self.times.of(path) {
-            return Ok(when);
-        }
-        let when = file_time(&self.rt, path)?;
-        self.times.learn(path, when)?;
-        Ok(when)
     }
 
-    /// Removes the directory of the files of children, where no child runs.
+    // What was seen, where times of the future count as unknown. The clock is read again where such a time
+    // is met.
+    fn settle(&mut self, sight: Sight) -> Sight {
+        if !is_within(self.bound, sight.time) || !is_within(self.bound, sight.changed) {
+            self.read_clock();
+        }
+        Sight {
+            time: settled_by(self.bound, sight.time),
+            changed: settled_by(self.bound, sight.changed),
+            is_pipe: sight.is_pipe,
+        }
+    }
+}
+
+impl<R: Files + Clock + AllocGlobal> System<R> {
+    /// What stands at a path: what is known of it, where it is known, and else what the system tells,
+    /// which comes to be known while no child runs.
+    pub fn see(&mut self, path: &[u8]) -> Result<Sight, Refusal>
+        ensures known { IfSome (sights_in self.old.times path.now)
+            (λ sight. IfOk result (λ seen. seen ≡ sight)) }
+    {
+        if let Some(sight) = self.times.of(path) {
+            return Ok(sight);
+        }
+        let sight = look(&self.rt, path)?;
+        let sight = self.settle(sight);
+        self.times.learn(path, sight)?;
+        Ok(sight)
+    }
+
+    /// Removes the directory of the logs of children, where no child runs.
     pub fn leave_if_idle(&mut self) {
-        if self.running == 0 {
+        if self.times.running() == 0 {
             self.room.leave(&self.rt);
-            self.slots.clear();
         }
     }
 }
