@@ -6,14 +6,18 @@ use Rattle.std.proofs.Math.Seq.{get_or-append_seam, take-append_seam}
 use Rattle.std.proofs.lemmas.Bool.Decides.{nat_tests}
 use Rattle.std.proofs.lemmas.Grind.{common_steps}
 use Rattle.std.specs.List.{slice_split, list_all}
+use Rattle.std.specs.Str.{bytes_eq}
 use Rattle.mk_bytes.specs.Bytes.{newline}
 use Rattle.mk_world.specs.declared.step.Op.{Op}
 use Rattle.mk_world.specs.declared.step.Op.TheVariants.{Read, Miss, Write, Delete, Move}
 use Rattle.mk_filemon.specs.Escapes.{quote, cut_at}
 use Rattle.mk_filemon.specs.Log.{Directories, no_directories, with_directory, directory_of}
-use Rattle.mk_filemon.specs.Log.{directory_from, is_newline, cut_at_gap, closed, pair_in}
-use Rattle.mk_filemon.specs.Log.{lines_logged}
+use Rattle.mk_filemon.specs.Log.{directory_from, cut_at_gap, closed, pair_in}
+use Rattle.mk_filemon.specs.Log.{lines_logged, all_logged}
+use Rattle.mk_filemon.specs.Parts.{is_newline, are_whole, is_whole}
+use Rattle.mk_filemon.specs.declared.part.Part.TheVariants.{Outside}
 use Rattle.mk_filemon.proofs.EscapeLemmas.{cases}
+use Rattle.mk_filemon.proofs.LogLemmas.{whole-next}
 use Rattle.fmrun.specs.Logs.{is_not_empty, has_no, has_form, line, are_apart, move_lines, lines_of}
 use Rattle.fmrun.specs.Logs.{log}
 use Rattle.fmrun.specs.Readings.{has_lines, named, IsReadAs}
@@ -140,11 +144,53 @@ all-again cwd dirs (op ∷ ops) are =
     (ap (λ more. named cwd (directory_of cwd dirs (codes "1")) op ∷ more)
     (all-again cwd dirs ops each.1))
 
--- A log is read as the operations that were recorded.
-pub log-again : (directory : List ℕ) (ops : List Op) → IsReadAs directory ops (log directory ops)
+-- the lines of an operation begin no part of a log
+lines-whole : (op : Op) (rest : List ℕ) → has_lines op ≡ true
+    → are_whole Outside (slice_split is_newline (lines_of op ++ rest))
+    ≡ are_whole Outside (slice_split is_newline rest)
+lines-whole (Read path) rest is =
+    rw (line-split (codes "R 1 ") path rest refl is) (whole-next Outside (codes "R 1 " ++ path) rest)
+lines-whole (Miss path) rest is =
+    rw (line-split (codes "# N 1 ") path rest refl is) (whole-next Outside (codes "# N 1 " ++ path) rest)
+lines-whole (Write path) rest is =
+    rw (line-split (codes "W 1 ") path rest refl is) (whole-next Outside (codes "W 1 " ++ path) rest)
+lines-whole (Delete path) rest is =
+    rw (line-split (codes "D 1 ") path rest refl is) (whole-next Outside (codes "D 1 " ++ path) rest)
+lines-whole (Move from to) rest is =
+    rw (move-split from to rest is) (whole-next Outside (move_text from to ++ (quote ∷ [])) rest)
+
+all-whole : (ops : List Op) → list_all has_lines ops ≡ true
+    → are_whole Outside (slice_split is_newline (flat_map lines_of ops)) ≡ true
+all-whole [] are = refl
+all-whole (op ∷ ops) are =
+    let each = both (has_lines op) (list_all has_lines ops) are in
+    lines-whole op (flat_map lines_of ops) each.0 ∙ all-whole ops each.1
+
+log-something : (byte : ℕ) (directory : List ℕ) (ops : List Op) → has_form (byte ∷ directory) ≡ true
+    → bytes_eq (log (byte ∷ directory) ops) [] ≡ false
+log-something byte directory ops form = rw form refl
+
+-- A log is whole.
+log-whole : (directory : List ℕ) (ops : List Op) → has_form directory ≡ true
+    → list_all has_lines ops ≡ true → is_whole (log directory ops) ≡ true
+log-whole [] ops form are = absurd cc
+log-whole (byte ∷ directory) ops form are =
+    rw (log-something byte directory ops form,
+    line-split (codes "C 1 ") (byte ∷ directory) (flat_map lines_of ops) refl form)
+    (whole-next Outside (codes "C 1 " ++ byte ∷ directory) (flat_map lines_of ops)
+    ∙ all-whole ops are)
+
+log-read : (directory : List ℕ) (ops : List Op) (cwd : List ℕ) → has_form directory ≡ true
+    → list_all has_lines ops ≡ true
+    → all_logged cwd (log directory ops) ≡ map (named cwd (directory_from cwd directory)) ops
 unfolding cut_at
-log-again [] ops cwd form are = absurd cc
-log-again (byte ∷ directory) ops cwd form are =
+log-read [] ops cwd form are = absurd cc
+log-read (byte ∷ directory) ops cwd form are =
     rw (line-split (codes "C 1 ") (byte ∷ directory) (flat_map lines_of ops) refl form)
     (all-again cwd
     (with_directory no_directories (codes "1") (directory_from cwd (byte ∷ directory))) ops are)
+
+-- A log is read as the operations that were recorded.
+pub log-again : (directory : List ℕ) (ops : List Op) → IsReadAs directory ops (log directory ops)
+log-again directory ops cwd form are =
+    rw (log-whole directory ops form are) (ap Some (log-read directory ops cwd form are))

@@ -1,5 +1,5 @@
 -- How a log is read: as the operations that were recorded.
-use Rattle.std.specs.Prelude.{ℕ, Bool, true, ◌≡◌, List, map}
+use Rattle.std.specs.Prelude.{ℕ, Bool, true, ◌≡◌, List, map, Some}
 use Rattle.std.specs.List.{list_all}
 use Rattle.mk_filemon.specs.Log.{directory_from, path_from, logged}
 use Rattle.mk_world.specs.declared.step.Op.{Op}
@@ -27,4 +27,4 @@ named cwd directory (Move from to) =
 abbrev pub IsReadAs : List ℕ → List Op → List ℕ → Type 0
 IsReadAs directory ops log =
     (cwd : List ℕ) → has_form directory ≡ true → list_all has_lines ops ≡ true
-    → logged cwd log ≡ map (named cwd (directory_from cwd directory)) ops
+    → logged cwd log ≡ Some (map (named cwd (directory_from cwd directory)) ops)

@@ -20,7 +20,7 @@ impl Row for LogRow {
     }
 }
 
-const LOGS: [LogRow; 15] = [
+const LOGS: [LogRow; 24] = [
     LogRow(
         "a directory, a move, and another letter",
         b"C 5 /w/d\nR 5 f\nM 5 'p' 'q'\nQ 5 z\n",
@@ -80,6 +80,43 @@ const LOGS: [LogRow; 15] = [
         b"X 5 0 0\nV 5\nS 5 a\nA 5 a\nr 5 a\n\n",
         b"",
     ),
+    LogRow("nothing at all", b"", b"no log\n"),
+    LogRow(
+        "two parts with their ends, and lines between them",
+        b"# recorder r 1\nR 5 a\n# N 5 b\n# Bye bye 5 0 2\nW 6 t\n# recorder s\n# Bye bye 7 1 0\n",
+        b"R 1 a\nN 1 b\nW 1 t\n",
+    ),
+    LogRow(
+        "a part without its end",
+        b"# recorder r 1\nR 5 a\n",
+        b"no log\n",
+    ),
+    LogRow(
+        "an end whose count may go on",
+        b"# recorder r 1\nR 5 a\n# Bye bye 5 0 1",
+        b"no log\n",
+    ),
+    LogRow(
+        "an end with another count",
+        b"# recorder r 1\nR 5 a\n# Bye bye 5 0 2\n",
+        b"no log\n",
+    ),
+    LogRow(
+        "an end without a status",
+        b"# recorder r 1\nR 5 a\n# Bye bye 5 1\n",
+        b"no log\n",
+    ),
+    LogRow(
+        "a part in a part",
+        b"# recorder r 1\n# recorder s 1\n# Bye bye 5 0 1\n",
+        b"no log\n",
+    ),
+    LogRow("a part whose beginning is cut", b"R 5 a\n# recor", b"no log\n"),
+    LogRow(
+        "the end of a plain log",
+        b"# filemon version 5\n# Target pid 5\nV 5\nR 5 a\n# Bye bye\n",
+        b"R 1 a\n",
+    ),
 ];
 
 // The records as they are written, a line for each.
@@ -93,8 +130,10 @@ fn written(alloc: Global, ops: &Ops) -> Result<Text, NoMemory> {
 }
 
 fn records_of(alloc: Global, log: &[u8]) -> Result<Text, NoMemory> {
-    let ops = read_log(alloc, log, b"/w")?;
-    written(alloc, &ops)
+    match read_log(alloc, log, b"/w")? {
+        Some(ops) => written(alloc, &ops),
+        None => Text::from_bytes(alloc, b"no log\n"),
+    }
 }
 
 #[test]

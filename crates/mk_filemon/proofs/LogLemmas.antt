@@ -6,8 +6,10 @@ use Rattle.std.specs.List.{slice_split, onto_first}
 use Rattle.mk_bytes.specs.Bytes.{newline}
 use Rattle.mk_world.specs.declared.step.Op.{Op}
 use Rattle.mk_filemon.specs.Escapes.{Part, with_byte, cut_at}
-use Rattle.mk_filemon.specs.Log.{Directories, is_newline, line_of, ops_on, directories_after}
+use Rattle.mk_filemon.specs.Log.{Directories, line_of, ops_on, directories_after}
 use Rattle.mk_filemon.specs.Log.{lines_logged}
+use Rattle.mk_filemon.specs.Parts.{is_newline, after_line, may_end, are_whole}
+use Rattle.mk_filemon.specs.declared.part.Part.{Part as Place}
 use Rattle.mk_filemon.proofs.EscapeLemmas.{cases}
 
 abbrev lines_by : List ℕ → Part → List (List ℕ)
@@ -47,3 +49,28 @@ pub logged-last : (cwd text : List ℕ) (ops more : List Op) (dirs : Directories
 logged-last cwd text ops more dirs is more_is =
     rw (more_is, split-cut text, ← is)
     (ap (λ last. ops ++ last) (sym (append-nil (ops_on cwd dirs (line_of text)))))
+
+are_whole-by : (part : Place) (line text : List ℕ) (found : Part)
+    → are_whole (after_line part line) (lines_by text found)
+    ≡ are_whole part (line ∷ lines_by text found)
+are_whole-by part line text None = refl
+are_whole-by part line text (Some (next, rest)) = refl
+
+-- a line, and those of the text behind it
+pub whole-next : (part : Place) (line text : List ℕ)
+    → are_whole part (line ∷ slice_split is_newline text)
+    ≡ are_whole (after_line part line) (slice_split is_newline text)
+whole-next part line text =
+    rw (split-cut text) (sym (are_whole-by part line text (cut_at newline text)))
+
+-- what is counted of the first line, and the rest is left
+pub whole-line : (part after : Place) (text line rest : List ℕ)
+    → Some (line, rest) ≡ cut_at newline text → after ≡ after_line part line
+    → are_whole after (slice_split is_newline rest) ≡ are_whole part (slice_split is_newline text)
+whole-line part after text line rest is after_is =
+    rw (after_is, split-cut text, ← is) (sym (whole-next part line rest))
+
+-- the last line
+pub whole-last : (part : Place) (text : List ℕ) → None ≡ cut_at newline text
+    → may_end part text ≡ are_whole part (slice_split is_newline text)
+whole-last part text is = rw (split-cut text, ← is) refl

@@ -34,6 +34,27 @@ a_deleted_file_is_not_left : left_written
 a_deleted_file_is_not_left = refl
 
 a_log : logged (codes "/w") (codes "C 5 /w/d\nR 5 f\nM 5 'p' 'q'\nQ 5 z\n# N 05 g")
-    ≡ Read (codes "d/f") ∷ Move (codes "d/p") (codes "d/q") ∷ Miss (codes "d/g") ∷ []
+    ≡ Some (Read (codes "d/f") ∷ Move (codes "d/p") (codes "d/q") ∷ Miss (codes "d/g") ∷ [])
 unfolding cut_at cut_at_gap
 a_log = refl
+
+a_part_with_its_end : logged (codes "/w")
+    (codes "# recorder r\nC 5 /w\nR 5 f\n# Bye bye 5 0 2\n") ≡ Some (Read (codes "f") ∷ [])
+unfolding cut_at cut_at_gap digits
+a_part_with_its_end = refl
+
+a_part_that_is_cut : logged (codes "/w") (codes "# recorder r\nC 5 /w\nR 5 f\n") ≡ None
+unfolding cut_at
+a_part_that_is_cut = refl
+
+a_part_without_a_line : logged (codes "/w") (codes "# recorder r\nR 5 f\n# Bye bye 5 0 2\n") ≡ None
+unfolding cut_at digits
+a_part_without_a_line = refl
+
+an_end_that_is_cut : logged (codes "/w") (codes "# recorder r\nR 5 f\n# Bye bye 5 0 1") ≡ None
+unfolding cut_at digits
+an_end_that_is_cut = refl
+
+a_head_that_is_cut : logged (codes "/w") (codes "R 5 f\n# rec") ≡ None
+unfolding cut_at
+a_head_that_is_cut = refl

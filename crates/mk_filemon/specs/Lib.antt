@@ -3,6 +3,8 @@ pub mod Escapes
 pub mod Held
 pub mod Log
 pub mod Outer
+pub mod PartSizes
+pub mod Parts
 pub mod Records
 pub mod Steps
 pub mod Units

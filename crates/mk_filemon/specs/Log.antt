@@ -5,7 +5,7 @@ use Rattle.std.specs.Prelude.{Option, Some, None, option_and_then, option_to_lis
 use Rattle.std.specs.List.{slice_split, starts_with, list_all}
 use Rattle.std.specs.Option.{option_map}
 use Rattle.std.specs.Str.{bytes_eq}
-use Rattle.mk_bytes.specs.Bytes.{newline, space, slash, is_digit}
+use Rattle.mk_bytes.specs.Bytes.{space, slash, is_digit}
 use Rattle.mk_bytes.specs.Paths.{clean, is_absolute}
 use Rattle.mk_world.specs.declared.step.Op.{Op}
 use Rattle.mk_world.specs.declared.step.Op.TheVariants as op
@@ -13,9 +13,7 @@ use Rattle.mk_filemon.specs.declared.line.Kind.{Kind}
 use Rattle.mk_filemon.specs.declared.line.Kind.TheVariants.{Reads, Misses, Writes, Deletes, Moves}
 use Rattle.mk_filemon.specs.declared.line.Kind.TheVariants.{Links, Enters, Forks}
 use Rattle.mk_filemon.specs.Escapes.{Part, quote, with_byte, cut_at}
-
-abbrev pub is_newline : ℕ → Bool
-is_newline byte = byte == newline
+use Rattle.mk_filemon.specs.Parts.{is_newline, is_whole}
 
 abbrev pub kind_of : ℕ → Option Kind
 kind_of letter =
@@ -183,6 +181,9 @@ lines_logged cwd dirs (line ∷ lines) =
     ops_on cwd dirs (line_of line)
     ++ lines_logged cwd (directories_after cwd dirs (line_of line)) lines
 
--- The records of a log.
-abbrev pub logged : List ℕ → List ℕ → List Op
-logged cwd log = lines_logged cwd no_directories (slice_split is_newline log)
+abbrev pub all_logged : List ℕ → List ℕ → List Op
+all_logged cwd log = lines_logged cwd no_directories (slice_split is_newline log)
+
+-- The records of a log, which is none where a recorder's part of it is not whole.
+abbrev pub logged : List ℕ → List ℕ → Option (List Op)
+logged cwd log = if is_whole log then Some (all_logged cwd log) else None

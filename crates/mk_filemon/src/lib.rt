@@ -16,6 +16,14 @@
 //! | `C p path` | its directory is now this one |
 //! | `F p q` | it started process q, which has its directory |
 //!
+//! A recorder may write its part of a log between two lines of its own, so that a log which was cut is
+//! never taken for a whole one:
+//!
+//! | Line | Meaning |
+//! |---|---|
+//! | `# recorder NAME` | a part begins, and NAME wrote it |
+//! | `# Bye bye PROCESS STATUS COUNT` | it ends; COUNT lines stand between these two |
+//!
 //! ## The records
 //!
 //! A record is `R`, `N` (a miss), `W` or `D`, a space, the number of a command line, a space and a
@@ -30,6 +38,7 @@ mod line;
 mod log;
 mod number;
 mod outer;
+mod part;
 mod record;
 mod trace;
 

@@ -4,10 +4,12 @@ ghost use Rattle.std.specs.List.{slice_split};
 ghost use Rattle.std.specs.Option.{option_map};
 ghost use Rattle.mk_filemon.specs.Held.{directories_in};
 ghost use Rattle.mk_filemon.specs.Log as spec;
+ghost use Rattle.mk_filemon.specs.Parts.{is_newline};
 
 use crate::directory::{Directories, directory_from, path_from};
 use crate::escape::cut_at;
 use crate::line::{Kind, is_number, line_of, number_of, pair_in};
+use crate::part::is_whole;
 use mk_bytes::{Items, NoMemory, Text};
 use mk_world::{Op, Ops};
 use std::alloc::Global;
@@ -166,7 +168,7 @@ fn read_lines(
     log: &[u8],
 ) -> Result<(), NoMemory>
     ensures { OnOk result (ops.new ≡ ops.old ++ spec.lines_logged cwd.now
-        (directories_in directories.old) (slice_split spec.is_newline log.now)) }
+        (directories_in directories.old) (slice_split is_newline log.now)) }
 {
     let mut rest = log;
     'lines: while let Some((line, after)) = cut_at(b'\n', rest) {
@@ -176,16 +178,31 @@ fn read_lines(
     read_line(alloc, ops, directories, cwd, rest)
 }
 
-/// The records of a recorder's log, in order, each path absolute against the directory of its
-/// process and then named from `cwd`, which must be absolute and clean to be of use. A process that
-/// was not seen has the directory `cwd`. The last line may lack its newline. The time is linear in
-/// the lines, times the lengths of their directories.
-pub fn read_log(alloc: Global, log: &[u8], cwd: &[u8]) -> Result<Ops, NoMemory>
-    ensures { IfOk result (λ ops. ops ≡ spec.logged cwd.now log.now) }
+// The records of the lines of a log, whole or not.
+fn read_all(alloc: Global, log: &[u8], cwd: &[u8]) -> Result<Ops, NoMemory>
+    ensures { IfOk result (λ ops. ops ≡ spec.all_logged cwd.now log.now) }
 {
     let mut ops = Items::new(alloc, 0)?;
     let mut directories = Directories::new(alloc);
     let read = read_lines(alloc, &mut ops, &mut directories, cwd, log);
     drop(directories);
     read.and(Ok(ops))
+}
+
+/// The records of a recorder's log, in order, each path absolute against the directory of its
+/// process and then named from `cwd`, which must be absolute and clean to be of use. A process that
+/// was not seen has the directory `cwd`. The last line may lack its newline. The time is linear in
+/// the lines, times the lengths of their directories.
+///
+/// `None` where the log is empty, or not whole: a part of it that begins with a line that names its
+/// recorder, as `# recorder NAME`, ends with `# Bye bye PROCESS STATUS COUNT` and a newline, where
+/// COUNT is the number of lines between these two, and no log counts that was cut inside of one. Logs
+/// without such a line, as plain ones of filemon(4), are taken as they are.
+pub fn read_log(alloc: Global, log: &[u8], cwd: &[u8]) -> Result<Option<Ops>, NoMemory>
+    ensures { IfOk result (λ ops. ops ≡ spec.logged cwd.now log.now) }
+{
+    if !is_whole(log) {
+        return Ok(None);
+    }
+    Ok(Some(read_all(alloc, log, cwd)?))
 }

@@ -33,7 +33,7 @@ pub struct RealKid<P: OpenProcess + Drop> {
 }
 
 /// What is known of a child when it is taken in: what it printed, and the records of its steps, where
-/// a recorder left a log.
+/// a recorder left a whole log.
 #[derive(Drop)]
 pub struct Told {
     pub output: Text,
@@ -137,18 +137,22 @@ impl<P: OpenProcess + Drop> RealKid<P> {
         Ok(status_of(self.child.wait()?))
     }
 
-    // The records of its log, where there is one. Paths are named from the directory of its command.
-    fn records<R: Files + AllocGlobal>(
-        &self,
-        system: &mut System<R>,
-    ) -> Result<Option<Ops>, Refusal> {
+    // The text of its log, where there is one.
+    fn log<R: Files + AllocGlobal>(&self, system: &mut System<R>) -> Result<Option<Text>, Refusal> {
         let path = self.files.log.bytes();
-        match file_text(&system.rt, system.buffer.as_mut_slice(), path)? {
+        file_text(&system.rt, system.buffer.as_mut_slice(), path)
+    }
+
+    // The records of a log, where there is one and it is whole. Paths are named from the directory of
+    // its command.
+    fn records<R: AllocGlobal>(
+        &self,
+        system: &System<R>,
+        log: Option<&Text>,
+    ) -> Result<Option<Ops>, Refusal> {
+        match log {
             None => Ok(None),
-            Some(log) => {
-                let alloc = system.rt.alloc();
-                Ok(Some(read_log(alloc, log.bytes(), self.cwd.bytes())?))
-            }
+            Some(log) => Ok(read_log(system.rt.alloc(), log.bytes(), self.cwd.bytes())?),
         }
     }
 
@@ -175,11 +179,12 @@ impl<P: OpenProcess + Drop> RealKid<P> {
         system: &mut System<R>,
     ) -> Result<Told, Refusal> {
         let (output, serves) = self.output(system)?;
-        let records = self.records(system)?;
+        let log = self.log(system)?;
+        let records = self.records(system, log.as_ref())?;
         if !serves {
             remove_file(&system.rt, self.files.output.bytes())?;
         }
-        if records.is_some() {
+        if log.is_some() {
             remove_file(&system.rt, self.files.log.bytes())?;
         }
         system.slots.give_back(self.slot);

@@ -1,7 +1,8 @@
 use Rattle.std.proofs.Common.{◌≡◌, ◌++◌, length}
 use Rattle.std.specs.List.{slice_split}
 use Rattle.mk_filemon.specs.Held.{directories_in}
-use Rattle.mk_filemon.specs.Log.{lines_logged, is_newline}
+use Rattle.mk_filemon.specs.Log.{lines_logged}
+use Rattle.mk_filemon.specs.Parts.{is_newline}
 use Rattle.mk_filemon.proofs.log.read_lines.Given as goal
 
 -- the records so far, and those of the lines that are left
