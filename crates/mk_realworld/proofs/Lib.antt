@@ -1,2 +1,3 @@
 pub mod KidLemmas
 pub mod KnownLemmas
+mod WordLemmas

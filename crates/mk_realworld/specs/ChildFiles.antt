@@ -1,4 +1,4 @@
--- The paths of the files of children, which lie in one directory.
+-- The paths of the logs of children, which lie in one directory.
 use Rattle.std.specs.Prelude.{ℕ, List, [], ◌∷◌, ◌++◌, decimal, if◌then◌else◌, codes}
 use Rattle.std.specs.Str.{bytes_eq}
 use Rattle.mk_bytes.specs.Bytes.{slash}
@@ -8,9 +8,6 @@ abbrev pub in_directory : List ℕ → List ℕ → List ℕ
 in_directory directory name =
     if bytes_eq directory (slash ∷ []) then slash ∷ name else directory ++ slash ∷ name
 
--- What a child prints stands in the file of its slot, and its log in that of its ticket.
-abbrev pub output_file : List ℕ → ℕ → List ℕ
-output_file directory slot = in_directory directory (codes "out." ++ decimal slot)
-
+-- The log of a child stands in the file of its ticket.
 abbrev pub log_file : List ℕ → ℕ → List ℕ
 log_file directory ticket = in_directory directory (codes "fm." ++ decimal ticket)

@@ -1,4 +1,7 @@
 pub mod ChildFiles
+pub mod Commands
 pub mod Known
+pub mod Logs
+pub mod PieceSizes
 pub mod Sights
 pub mod Statuses

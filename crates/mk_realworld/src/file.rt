@@ -122,13 +122,7 @@ fn later(one: When, other: When) -> When
     ensures { result ≡ spec.later one other }
 {
     match (one, other) {
-        (When::At(first), When::At(second)) => {
-            if first.0 < second.0 {
-                other
-            } else {
-                one
-            }
-        }
+        (When::At(first), When::At(second)) => { if first.0 < second.0 { other } else { one } }
         _ => When::Unknown,
     }
 }

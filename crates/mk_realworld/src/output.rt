@@ -1,5 +1,8 @@
 //! What a child prints. It comes by a pipe, so that a command which opens `/dev/stderr` anew cuts nothing
 //! that it printed before.
+ghost use Rattle.std.specs.Prelude.{◌≤◌, length, IfOk};
+ghost use Rattle.mk_realworld.specs.PieceSizes.{bytes_of};
+
 use crate::file::MAX_FILE;
 use crate::refusal::{Reason, Refusal};
 use mk_bytes::Text;
@@ -16,16 +19,21 @@ pub struct Output {
     text: Text,
 }
 
-/// What a look at a pipe found.
+/// What a pipe had.
 #[derive(Clone, Copy, PartialEq, Eq)]
-enum Piece {
+pub enum Piece {
+    /// So many bytes.
     Bytes(usize),
+    /// Nothing stands in it now.
     Nothing,
+    /// Nothing will stand in it any more.
     End,
 }
 
 // The next bytes of a pipe, without waiting for them.
-fn next_piece(reader: &mut PipeReader, buffer: &mut [u8]) -> Result<Piece, Refusal> {
+fn next_piece(reader: &mut PipeReader, buffer: &mut [u8]) -> Result<Piece, Refusal>
+    ensures { IfOk result (λ piece. bytes_of piece ≤ length buffer.new) }
+{
     for _ in 0..u64::MAX {
         match reader.read(buffer) {
             Ok(0) => return Ok(Piece::End),

@@ -1,11 +1,14 @@
 //! The shell that runs a command.
 ghost use Rattle.std.specs.Prelude.{◌≡◌, [], ◌∷◌, ◌++◌, Some, codes, IfOk, OnOk};
 ghost use Rattle.std.specs.Process.{command_program, command_args, command_var, SameProgramAndArgs};
+ghost use Rattle.mk_realworld.specs.Commands.{words_of};
 
-use crate::child_files::ChildFiles;
 use crate::refusal::Refusal;
+use crate::setting::Setting;
+use mk_bytes::{Text, Texts};
 use mk_world::Cmd;
-use std::fs::{File, Files, OpenOptions};
+use std::alloc::Global;
+use std::io::PipeWriter;
 use std::process::{Command, Stdio};
 use std::str;
 
@@ -14,6 +17,9 @@ const SHELL: &str = "/bin/sh";
 
 // Where a recorder finds the path of its log.
 const LOG: &str = "BMAKE_FILEMON";
+
+// Where a make finds the options of the make above it.
+const FLAGS: &str = "BMAKE_FLAGS";
 
 /// Which streams of a command are its output.
 #[derive(Clone, Copy, PartialEq, Eq)]
@@ -24,29 +30,63 @@ pub enum Streams {
     OutputAlone,
 }
 
-/// A shell for a command, with the variables that this exports, and one that names the log.
-pub fn shell<R: AllocGlobal>(rt: &R, files: &ChildFiles, cmd: &Cmd) -> Result<Command, Refusal>
-    ensures program { IfOk result (λ shell. command_program shell ≡ codes "/bin/sh") }
-    ensures words { IfOk result
-        (λ shell. command_args shell ≡ codes "-c" ∷ cmd.now.text ∷ []) }
+#[tactic(auto, using(crate::proofs::WordLemmas::words_behind))]
+/// A shell for a command, behind the words of a recorder, where there is one. It has the variables that
+/// this exports, one that names the log, and the options for makes below.
+pub fn shell(alloc: Global, setting: &Setting, log: &Text, cmd: &Cmd) -> Result<Command, Refusal>
+    ensures words { IfOk result (λ shell. command_program shell ∷ command_args shell
+        ≡ words_of setting.now.recorder cmd.now.text) }
     ensures log { IfOk result (λ shell. command_var shell (codes "BMAKE_FILEMON")
-        ≡ Some (Some files.now.log)) }
+        ≡ Some (Some log.now)) }
 {
-    let mut shell = Command::new(rt.alloc(), SHELL)?;
-    equip(&mut shell, files, cmd).and(Ok(shell))
+    let mut shell = recorded_shell(alloc, &setting.recorder)?;
+    match equip(&mut shell, setting, log, cmd) {
+        Ok(()) => Ok(shell),
+        Err(refusal) => {
+            drop(shell);
+            Err(refusal)
+        }
+    }
+}
+
+// The shell, behind the words of a recorder.
+fn recorded_shell(alloc: Global, recorder: &Texts) -> Result<Command, Refusal>
+    ensures { IfOk result (λ shell. command_program shell ∷ command_args shell
+        ≡ recorder.now ++ codes "/bin/sh" ∷ []) }
+{
+    match recorder.as_slice() {
+        [] => Ok(Command::new(alloc, SHELL)?),
+        [program, words @ ..] => {
+            let mut shell = Command::new(alloc, str::from_utf8(program.bytes())?)?;
+            add_words(&mut shell, words)?;
+            shell.arg(SHELL)?;
+            Ok(shell)
+        }
+    }
+}
+
+fn add_words(shell: &mut Command, words: &[Text]) -> Result<(), Refusal>
+    ensures program { OnOk result (command_program shell.new ≡ command_program shell.old) }
+    ensures words { OnOk result (command_args shell.new ≡ command_args shell.old ++ words.now) }
+{
+    for word in words {
+        shell.arg(str::from_utf8(word.bytes())?)?;
+    }
+    Ok(())
 }
 
 // Gives a shell its command and its variables.
-fn equip(shell: &mut Command, files: &ChildFiles, cmd: &Cmd) -> Result<(), Refusal>
+fn equip(shell: &mut Command, setting: &Setting, log: &Text, cmd: &Cmd) -> Result<(), Refusal>
     ensures program { OnOk result (command_program shell.new ≡ command_program shell.old) }
     ensures words { OnOk result (command_args shell.new
         ≡ command_args shell.old ++ codes "-c" ∷ cmd.now.text ∷ []) }
     ensures log { OnOk result (command_var shell.new (codes "BMAKE_FILEMON")
-        ≡ Some (Some files.now.log)) }
+        ≡ Some (Some log.now)) }
 {
     shell.arg("-c")?.arg(str::from_utf8(cmd.text.bytes())?)?;
     export(shell, cmd)?;
-    shell.env(LOG, str::from_utf8(files.log.bytes())?)?;
+    pass_on(shell, setting)?;
+    shell.env(LOG, str::from_utf8(log.bytes())?)?;
     Ok(())
 }
 
@@ -62,27 +102,23 @@ fn export(shell: &mut Command, cmd: &Cmd) -> Result<(), Refusal>
     Ok(())
 }
 
-// The file for what a shell prints. It is made where it is missing, and not cut: nothing stands in it.
-fn output_file<R: Files>(rt: &R, path: &[u8]) -> Result<R::File, Refusal> {
-    let mut options = OpenOptions::new();
-    options.write(true).create(true);
-    Ok(options.open(rt, str::from_utf8(path)?)?)
+// Gives a shell the options of make that reach the makes below it, and no others.
+fn pass_on(shell: &mut Command, setting: &Setting) -> Result<(), Refusal>
+    ensures { OnOk result (SameProgramAndArgs shell.old shell.new) }
+{
+    match &setting.flags {
+        Some(flags) => shell.env(FLAGS, str::from_utf8(flags.bytes())?)?,
+        None => shell.env_remove(FLAGS)?,
+    };
+    Ok(())
 }
 
-/// Connects a shell: it has no input, and what it prints goes into a file. Gives whether this file is
-/// locked; then it is until all are gone that have it from this shell.
-pub fn connect<R: Files<File = File>>(
-    rt: &R,
-    shell: &mut Command,
-    streams: Streams,
-    output: &[u8],
-) -> Result<bool, Refusal> {
-    let file = output_file(rt, output)?;
-    let is_locked = file.try_lock().is_ok();
+/// Connects a shell: it has no input, and what it prints goes into a pipe.
+pub fn connect(shell: &mut Command, streams: Streams, output: PipeWriter) -> Result<(), Refusal> {
     shell.stdin(Stdio::null());
     if streams == Streams::Both {
-        shell.stderr(Stdio::from(file.try_clone()?));
+        shell.stderr(Stdio::from(output.try_clone()?));
     }
-    shell.stdout(Stdio::from(file));
-    Ok(is_locked)
+    shell.stdout(Stdio::from(output));
+    Ok(())
 }

@@ -1,43 +1,64 @@
-ghost use Rattle.std.specs.Prelude.{◌≡◌, ◌<◌, ◌≤◌, length, IfSome};
+ghost use Rattle.std.specs.Prelude.{◌≡◌, ◌<◌, ◌≤◌, length, IfOk};
 
 use crate::count::count_fault;
+use crate::named::write_fault;
+use crate::refusal::Reason;
+use libc::net;
+use libc::types::pollfd;
 use mk_world::{Sink, SinkFault};
-use std::io::{Print, Stderr, Stdout};
+use std::io::{Stderr, Stdout};
+use std::os::fd::AsRawFd;
 
-#[derive(Drop)]
-enum Stream {
-    Out(Stdout),
-    Err(Stderr),
-}
+// How often a write is tried that a signal has broken off, or that would wait.
+const TRIES: u32 = 1_048_576;
 
-impl Stream {
-    // The number of bytes that were written, or `None` where there were none.
-    fn write_some(&self, bytes: &[u8]) -> Option<usize>
-        ensures some { IfSome result (λ count. 0 < count) }
-        ensures within { IfSome result (λ count. count ≤ length bytes.now) }
-    {
-        let written = match self {
-            Stream::Out(stdout) => stdout.write_some(bytes),
-            Stream::Err(stderr) => stderr.write_some(bytes),
-        };
-        written.ok().filter(|count| *count > 0)
-    }
-}
-
-/// Standard output or standard error. Each write is one call of the system.
+/// Standard output or standard error.
 #[derive(Drop)]
 pub struct RealSink {
-    stream: Stream,
+    number: i32,
+    // Where the first write that fails is named.
+    named: Option<Stderr>,
     faults: u64,
 }
 
+// Waits until a stream that does not block takes more.
+fn wait_for_room(number: i32) {
+    let mut asked = [pollfd {
+        fd: number,
+        events: net::POLLOUT,
+        revents: 0,
+    }];
+    net::poll(&mut asked, -1);
+}
+
+// Writes some of the bytes, and gives how many, or the system's number of the error.
+fn write_some(number: i32, bytes: &[u8]) -> Result<usize, i32>
+    ensures some { IfOk result (λ count. 0 < count) }
+    ensures within { IfOk result (λ count. count ≤ length bytes.now) }
+{
+    for _ in 0..TRIES {
+        let written = usize::try_from(os::write_no_sigpipe(number, bytes)).unwrap_or(0);
+        if written > 0 && written <= bytes.len() {
+            return Ok(written);
+        }
+        match os::errno() {
+            libc::EINTR => {}
+            libc::EAGAIN => wait_for_room(number),
+            code => return Err(code),
+        }
+    }
+    Err(libc::EAGAIN)
+}
+
 impl RealSink {
-    /// The standard output of the process, with a count of faults of 0.
-    pub fn out(stdout: Stdout) -> RealSink
+    /// The standard output of the process, with a count of faults of 0. The first write that fails is
+    /// named on its standard error.
+    pub fn out(stdout: Stdout, stderr: Stderr) -> RealSink
         ensures { result.faults ≡ 0 }
     {
         RealSink {
-            stream: Stream::Out(stdout),
+            number: stdout.as_raw_fd(),
+            named: Some(stderr),
             faults: 0,
         }
     }
@@ -47,7 +68,8 @@ impl RealSink {
         ensures { result.faults ≡ 0 }
     {
         RealSink {
-            stream: Stream::Err(stderr),
+            number: stderr.as_raw_fd(),
+            named: None,
             faults: 0,
         }
     }
@@ -60,10 +82,15 @@ impl Sink for RealSink {
 
     ghost faults = { λ sink. sink.faults };
 
+    /// Writes by one call of the system. A stream that does not block is waited for; one that nobody
+    /// reads any more is a counted fault, and ends no process.
     fn write(&mut self, bytes: &[u8]) -> Result<usize, SinkFault> {
-        match self.stream.write_some(bytes) {
-            Some(count) => Ok(count),
-            None => {
+        match write_some(self.number, bytes) {
+            Ok(count) => Ok(count),
+            Err(code) => {
+                if let Some(stderr) = self.named.take() {
+                    write_fault(&stderr, b"write", b"standard output", Reason::System(code));
+                }
                 count_fault(&mut self.faults);
                 Err(SinkFault::Failed)
             }

@@ -4,7 +4,7 @@ ghost use Rattle.std.specs.Prelude.{◌≡◌, ◌+◌, IfOk, IfSome, OnErr};
 ghost use Rattle.mk_realworld.specs.Known.{IsForgotten, sights_in};
 ghost use Rattle.mk_realworld.specs.Sights.{settled};
 
-use crate::file::{Sight, look};
+use crate::file::{Sight, file_text, look};
 use crate::known::KnownTimes;
 use crate::late::Late;
 use crate::named::Named;
@@ -12,13 +12,16 @@ use crate::refusal::Refusal;
 use crate::room::Room;
 use crate::setting::Setting;
 use libc::types::pollfd;
-use mk_bytes::NoMemory;
-use mk_world::{Time, When};
+use mk_bytes::{NoMemory, Text};
+use mk_world::When;
 use std::fs::Files;
 use std::time::Clock;
 
 // How many bytes are asked for at once.
 const CHUNK: usize = 65_536;
+
+// How the path of a meta file ends.
+const META: &[u8] = b".meta";
 
 // A file's time that is so much later than the system's clock is one of the future, in nanoseconds.
 const FUTURE: u64 = 2_000_000_000;
@@ -116,6 +119,15 @@ impl<R: Files + Clock + AllocGlobal> System<R> {
         let sight = self.settle(sight);
         self.times.learn(path, sight)?;
         Ok(sight)
+    }
+
+    /// The bytes of a file, or `None` where it is missing, or where a pipe with a name stands at the path of
+    /// a meta file.
+    pub fn read(&mut self, path: &[u8]) -> Result<Option<Text>, Refusal> {
+        if path.ends_with(META) && self.see(path)?.is_pipe {
+            return Ok(None);
+        }
+        file_text(&self.rt, self.buffer.as_mut_slice(), path)
     }
 
     /// Removes the directory of the logs of children, where no child runs.

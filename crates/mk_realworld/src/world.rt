@@ -1,15 +1,22 @@
-ghost use Rattle.std.specs.Prelude.{◌≡◌, IfOk};
+ghost use Rattle.std.specs.Prelude.{◌≡◌, ◌<◌, ◌≤◌, IfOk};
+ghost use Rattle.mk_world.specs.Causes.{Rose};
+ghost use Rattle.mk_world.specs.declared.fault.WorldFault.TheVariants.{Failed};
 
-use crate::child::{RealKid, run, wait_over};
-use crate::file::{file_text, remove_file};
-use crate::refusal::counted;
+use crate::child::RealKid;
+use crate::file::file_text;
+use crate::named::Named;
+use crate::refusal::{Refusal, counted};
+use crate::room::{Place, Room};
+use crate::setting::Setting;
 use crate::shell::Streams;
 use crate::system::System;
-use crate::write::write_later;
+use crate::waiting::{run, wait_over};
+use crate::write::{remove, write_later};
 use mk_bytes::{NoMemory, Text};
 use mk_world::{Cmd, Ended, Kids, Ticket, Time, When, World, WorldFault};
 use std::alloc::Global;
 use std::fs::{File, Files};
+use std::io::Stderr;
 use std::process::Processes;
 use std::time::Clock;
 
@@ -24,18 +31,41 @@ pub struct RealWorld<R: Files + Processes + Clock + AllocGlobal> {
 impl<R: Files + Processes + Clock + AllocGlobal + Drop> RealWorld<R> {
     /// The files and processes that this runtime reaches, with a count of faults of 0.
     ///
-    /// What commands print, and the logs of recorders, stand in a directory at this place, which is
-    /// made before the first child, for its owner alone, and removed when none is left; where
-    /// something stands there already, it has a number behind its name.
-    pub fn new(rt: R, place: Text) -> Result<RealWorld<R>, NoMemory>
+    /// The logs of recorders stand in a directory at this place, which is made before the first child,
+    /// for its owner alone, and removed when none is left; where something stands there already, it has
+    /// a number behind its name. Directories of makes that are gone are removed then. Children are given
+    /// what the setting says. The first fault of a run is named on `stderr`, in a line of its own:
+    /// `bmake: CALL PATH: REASON`.
+    pub fn new(
+        rt: R,
+        setting: Setting,
+        place: Place,
+        stderr: Stderr,
+    ) -> Result<RealWorld<R>, NoMemory>
         ensures { IfOk result (λ world. world.faults ≡ 0) }
     {
-        let system = System::new(rt, place)?;
+        let system = System::new(rt, setting, Room::new(place), Named::new(stderr))?;
         Ok(RealWorld { system, faults: 0 })
     }
 }
 
-impl<R: Files<File = File> + Processes + Clock + AllocGlobal> World for RealWorld<R> {
+impl<R: Files + Processes + Clock + AllocGlobal> RealWorld<R> {
+    // The answer of a call that is refused: where the outside refused, it is counted, and the first such
+    // call is named.
+    fn refused(&mut self, call: &[u8], path: &[u8], refusal: Refusal) -> WorldFault
+        ensures kept { self.old.faults ≤ self.new.faults }
+        ensures answered { self.old.faults < self.new.faults → result ≡ Failed }
+        ensures rose { result ≡ Failed → Rose self.old.faults self.new.faults }
+    {
+        if let Refusal::Outside(reason) = refusal {
+            self.system.named.name(call, path, reason);
+        }
+        counted(refusal, &mut self.faults)
+    }
+}
+
+impl<R: Files<File = File> + Processes + Clock + AllocGlobal + Clone + Drop> World
+    for RealWorld<R> {
     ghost use Rattle.std.specs.Prelude.{None};
     ghost use Rattle.mk_world.specs.Untold.{untold};
     ghost use Rattle.mk_world.specs.Talks.{silent};
@@ -52,34 +82,39 @@ impl<R: Files<File = File> + Processes + Clock + AllocGlobal> World for RealWorl
 
     ghost told_children = { λ _ history _ _ is. untold _ history is };
 
-    /// The bytes of a file. A directory, an unreadable file, one above 64 MiB and a path that is
-    /// not UTF-8 are counted faults; a path below a plain file is a missing file.
+    /// The bytes of a file. A directory, an unreadable file, one above 64 MiB and a path that is not
+    /// UTF-8 are counted faults; a path below a plain file is a missing file, and so is a pipe with a name
+    /// that stands at the path of a meta file, which nobody would ever end.
     fn read(&mut self, _: Global, path: &[u8]) -> Result<Option<Text>, WorldFault> {
-        let buffer = self.system.buffer.as_mut_slice();
-        match file_text(&self.system.rt, buffer, path) {
+        match self.system.read(path) {
             Ok(text) => Ok(text),
-            Err(refusal) => Err(counted(refusal, &mut self.faults)),
+            Err(refusal) => Err(self.refused(b"read", path, refusal)),
         }
     }
 
     /// The time of a file or directory, in nanoseconds. While no child runs, the system is asked once for
-    /// a path, until make changes a file or starts a child.
+    /// a path, until make changes a file or starts a child. A time that is more than two seconds later
+    /// than the system's clock is unknown, and so is all that the system does not tell.
     fn time(&mut self, _: Global, path: &[u8]) -> Result<When, WorldFault> {
-        match self.system.time(path) {
-            Ok(when) => Ok(when),
-            Err(refusal) => Err(counted(refusal, &mut self.faults)),
+        match self.system.see(path) {
+            Ok(sight) => Ok(sight.time),
+            Err(refusal) => Err(self.refused(b"stat", path, refusal)),
         }
     }
 
-    /// The time of a file or directory, as `time`.
-    fn changed(&mut self, alloc: Global, path: &[u8]) -> Result<When, WorldFault> {
-        self.time(alloc, path)
+    /// The later of the times of a file's bytes and of its inode, as `time`: an older file that is moved to
+    /// its path has a new time then.
+    fn changed(&mut self, _: Global, path: &[u8]) -> Result<When, WorldFault> {
+        match self.system.see(path) {
+            Ok(sight) => Ok(sight.changed),
+            Err(refusal) => Err(self.refused(b"stat", path, refusal)),
+        }
     }
 
     /// Writes the head of a meta file, until its time is later than `after`. Missing directories above
-    /// it are made. At every moment the file is as before, or holds bytes of the head from its
-    /// beginning. A head above 64 MiB, a path that is not UTF-8, and no later time after 1,048,576 tries
-    /// are counted faults.
+    /// it are made, and a pipe with a name that stands there gives way. At every moment the file is as
+    /// before, or holds bytes of the head from its beginning. A head above 64 MiB, a path that is not
+    /// UTF-8, and no later time within a little more than a second are counted faults.
     fn stamp(
         &mut self,
         _: Global,
@@ -89,7 +124,7 @@ impl<R: Files<File = File> + Processes + Clock + AllocGlobal> World for RealWorl
     ) -> Result<Time, WorldFault> {
         match write_later(&mut self.system, path, head, after) {
             Ok(time) => Ok(time),
-            Err(refusal) => Err(counted(refusal, &mut self.faults)),
+            Err(refusal) => Err(self.refused(b"write", path, refusal)),
         }
     }
 
@@ -103,35 +138,34 @@ impl<R: Files<File = File> + Processes + Clock + AllocGlobal> World for RealWorl
     ) -> Result<Time, WorldFault> {
         match write_later(&mut self.system, path, bytes, after) {
             Ok(time) => Ok(time),
-            Err(refusal) => Err(counted(refusal, &mut self.faults)),
+            Err(refusal) => Err(self.refused(b"write", path, refusal)),
         }
     }
 
     /// Removes a file. A directory is a counted fault.
     fn remove(&mut self, _: Global, path: &[u8]) -> Result<(), WorldFault> {
-        self.system.times.forget();
-        match remove_file(&self.system.rt, path) {
+        match remove(&mut self.system, path) {
             Ok(()) => Ok(()),
-            Err(refusal) => Err(counted(refusal, &mut self.faults)),
+            Err(refusal) => Err(self.refused(b"remove", path, refusal)),
         }
     }
 
-    /// Runs `/bin/sh -c` with the command to its end. Standard error is that of make, and what is
-    /// printed on standard output goes through a file, as in `start`. Where no child runs, the
-    /// directory of these files is removed behind it.
+    /// Runs `/bin/sh -c` with the command to its end, behind the words of a recorder, where there is one.
+    /// Standard error is that of make, and what is printed on standard output comes by a pipe, as in
+    /// `start`. Where no child runs, the directory of logs is removed behind it.
     fn ask(&mut self, _: Global, cmd: &Cmd) -> Result<Ended, WorldFault> {
         let answer = run(&mut self.system, cmd);
         self.system.leave_if_idle();
         match answer {
             Ok(ended) => Ok(ended),
-            Err(refusal) => Err(counted(refusal, &mut self.faults)),
+            Err(refusal) => Err(self.refused(b"run", b"/bin/sh", refusal)),
         }
     }
 
-    /// Starts `/bin/sh -c` with the command. What it prints on standard output and standard error
-    /// goes into a file of the world's own directory, and a recorder may write its log into the file
-    /// `fm.TICKET` there, of which the records are told when the child is taken in. Where the
-    /// directory cannot be made, that is a counted fault.
+    /// Starts `/bin/sh -c` with the command, behind the words of a recorder, where there is one. What it
+    /// prints on standard output and standard error comes by one pipe, and a recorder may write its log
+    /// into the file `fm.TICKET` in the world's own directory, of which the records are told when the
+    /// child is taken in. Where the directory cannot be made, that is a counted fault.
     fn start(
         &mut self,
         _: Global,
@@ -145,14 +179,13 @@ impl<R: Files<File = File> + Processes + Clock + AllocGlobal> World for RealWorl
                 kids.add(ticket, kid);
                 Ok(())
             }
-            Err(refusal) => Err(counted(refusal, &mut self.faults)),
+            Err(refusal) => Err(self.refused(b"run", b"/bin/sh", refusal)),
         }
     }
 
-    /// Waits for an only child; of several, the oldest that has ended is taken in, and where none
-    /// has, all are asked again after pauses of 10 microseconds and more, up to 2 milliseconds. A
-    /// child that a signal ended has the status 255. A command that removed its own output file is
-    /// a counted fault.
+    /// Waits for what children print, and for their ends; of several that have ended, the oldest is
+    /// taken in. A child that a signal ended has the status 255. What a process in the background prints
+    /// behind the end of its shell belongs to nobody.
     fn wait_any(
         &mut self,
         _: Global,
@@ -169,18 +202,18 @@ impl<R: Files<File = File> + Processes + Clock + AllocGlobal> World for RealWorl
                     records: over.told.records,
                 })
             }
-            Err(refusal) => Err(counted(refusal, &mut self.faults)),
+            Err(refusal) => Err(self.refused(b"wait", b"/bin/sh", refusal)),
         }
     }
 
-    /// Ends and takes in the shells of all children, and not what these started themselves. Their
-    /// files are removed, and then the directory of these.
+    /// Ends and takes in the shells of all children, and not what these started themselves. Their logs
+    /// are removed, and then the directory of these.
     fn abandon(&mut self, kids: &mut Kids<RealKid<R::Started>>) {
         while !kids.is_empty() {
             let (_, kid) = kids.take(0);
             kid.give_up(&self.system.rt);
         }
-        self.system.running = 0;
+        self.system.times.end_children();
         self.system.leave_if_idle();
     }
 }

@@ -2,19 +2,25 @@
 //! ones from their beginning: it is cut to what it has in common with them, and not to nothing, which
 //! costs a system far more, and then grows.
 ghost use Rattle.std.specs.Prelude.{◌≡◌, ◌<◌, ◌≤◌, IfOk, length, take};
+ghost use Rattle.mk_realworld.specs.Known.{IsForgotten};
 
-use crate::file::{MAX_FILE, file_time};
-use crate::refusal::Refusal;
+use crate::file::{MAX_FILE, look, remove_file};
+use crate::refusal::{Reason, Refusal};
 use crate::system::System;
 use mk_world::{Time, When};
 use std::fs::{Files, OpenFile, OpenOptions};
 use std::io::{Error, ErrorKind, Read, Seek, SeekFrom, Write};
+use std::os::unix::fs::FileTypeExt;
 use std::path::Path;
 use std::time::{Clock, Duration};
 use std::{fs, str, thread};
 
-// How often a file is written for a later time.
+// How often a file is written for a later time, at most.
 const TRIES: u32 = 1_048_576;
+
+// For how long it is tried, once the system's clock is later, in nanoseconds: a little more than a second,
+// since the clocks of some file systems go in whole seconds.
+const PATIENCE: u64 = 1_250_000_000;
 
 // The pause between two tries, in microseconds.
 const PAUSE: u64 = 100;
@@ -46,6 +52,18 @@ fn open_or_make<R: Files>(rt: &R, path: &str) -> Result<R::File, Error> {
             open(rt, path)
         }
     }
+}
+
+// A file for reading and writing. A pipe with a name that stands there gives way to a plain file.
+fn open_plain<R: Files>(rt: &R, path: &str) -> Result<R::File, Error> {
+    let file = open_or_make(rt, path)?;
+    // The system may give a file a time of its own where the last one was asked for.
+    if !file.metadata()?.file_type().is_fifo() {
+        return Ok(file);
+    }
+    drop(file);
+    fs::remove_file(rt, path)?;
+    open_or_make(rt, path)
 }
 
 // How many bytes two texts have in common from their beginning.
@@ -97,7 +115,7 @@ fn beginning_of<F: Read>(
             });
         }
     }
-    Err(Refusal::Outside)
+    Err(Refusal::Outside(Reason::Other))
 }
 
 // Cuts a file to what it has in common with these bytes, where it has more, and writes what follows,
@@ -128,35 +146,70 @@ fn write_once<R: Files>(
     path: &[u8],
     bytes: &[u8],
 ) -> Result<Time, Refusal> {
-    let mut file = open_or_make(rt, str::from_utf8(path)?)?;
-    file.metadata()?;
+    let mut file = open_plain(rt, str::from_utf8(path)?)?;
     rewrite(buffer, &mut file, bytes)?;
     drop(file);
-    match file_time(rt, path)? {
+    match look(rt, path)?.time {
         When::At(time) => Ok(time),
-        When::Missing | When::Unknown => Err(Refusal::Outside),
+        When::Missing | When::Unknown => Err(Refusal::Outside(Reason::Other)),
     }
 }
 
-/// Writes a whole file until its time is later than `after`, and gives this time.
+// The system's clock in nanoseconds; the end of all times where it cannot be read.
+fn clock<R: Clock>(rt: &R) -> u64 {
+    match rt.since_1970() {
+        Ok(since) => u64::try_from(since.as_nanos()).unwrap_or(u64::MAX),
+        Err(_) => u64::MAX,
+    }
+}
+
+// Writes a whole file until its time is later than `after`, and gives this time.
+fn write_until<R: Files + Clock>(
+    system: &mut System<R>,
+    path: &[u8],
+    bytes: &[u8],
+    after: Time,
+) -> Result<Time, Refusal>
+    ensures later { IfOk result (λ time. after.0 < time.0) }
+    ensures times { system.new.times ≡ system.old.times }
+{
+    let end = clock(&system.rt).max(after.0).saturating_add(PATIENCE);
+    for _ in 0..TRIES {
+        let time = write_once(&system.rt, system.buffer.as_mut_slice(), path, bytes)?;
+        if time.0 > after.0 {
+            return Ok(time);
+        }
+        if clock(&system.rt) >= end {
+            break;
+        }
+        thread::sleep(&system.rt, Duration::from_micros(PAUSE));
+    }
+    Err(Refusal::Outside(Reason::NoLaterTime))
+}
+
+/// Writes a whole file until its time is later than `after`, and gives this time. From then on no time of
+/// a file is known that was known before.
 pub fn write_later<R: Files + Clock>(
     system: &mut System<R>,
     path: &[u8],
     bytes: &[u8],
     after: Time,
 ) -> Result<Time, Refusal>
-    ensures { IfOk result (λ time. after.0 < time.0) }
+    ensures later { IfOk result (λ time. after.0 < time.0) }
+    ensures known { IsForgotten system.new.times }
 {
-    if bytes.len() > MAX_FILE {
-        return Err(Refusal::Outside);
-    }
     system.times.forget();
-    for _ in 0..TRIES {
-        let time = write_once(&system.rt, system.buffer.as_mut_slice(), path, bytes)?;
-        if time.0 > after.0 {
-            return Ok(time);
-        }
-        thread::sleep(&system.rt, Duration::from_micros(PAUSE));
+    if bytes.len() > MAX_FILE {
+        return Err(Refusal::Outside(Reason::TooLong));
     }
-    Err(Refusal::Outside)
+    write_until(system, path, bytes, after)
+}
+
+/// Removes a file; a missing one is no fault. From then on no time of a file is known that was known
+/// before.
+pub fn remove<R: Files>(system: &mut System<R>, path: &[u8]) -> Result<(), Refusal>
+    ensures { IsForgotten system.new.times }
+{
+    system.times.forget();
+    remove_file(&system.rt, path)
 }

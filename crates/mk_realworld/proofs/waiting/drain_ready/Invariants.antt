@@ -1,5 +1,5 @@
 use Rattle.std.proofs.Common.{◌≡◌, length}
-use Rattle.mk_realworld.proofs.child.oldest_ended.Given as goal
+use Rattle.mk_realworld.proofs.waiting.drain_ready.Given as goal
 
 -- the children are as before
 abbrev pub invariant-loop-place : goal.invariant-loop-place

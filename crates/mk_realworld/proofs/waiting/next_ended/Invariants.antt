@@ -1,5 +1,5 @@
 use Rattle.std.proofs.Common.{◌≡◌}
-use Rattle.mk_realworld.proofs.child.next_ended.Given as goal
+use Rattle.mk_realworld.proofs.waiting.next_ended.Given as goal
 
 -- the children are as before
 abbrev pub invariant-loop : goal.invariant-loop
