@@ -119,7 +119,7 @@ is=$?
 wrong=
 [ "$is" != 0 ] || wrong="status $is"
 wrong="$wrong$(printed '')"
-[ "$(cat "$room/err")" = 'bmake: an outside call failed' ] || wrong="$wrong; standard error: $(cat "$room/err")"
+[ "$(cat "$room/err")" = $'bmake: read x.meta: Is a directory\nbmake: an outside call failed' ] || wrong="$wrong; standard error: $(cat "$room/err")"
 count 'a directory in place of a meta file is a failure, and is left' "$wrong"
 rmdir x.meta
 count 'when it is gone, the target is made again' "$(build)$(printed $'../join x a h\n../join t x y')"

@@ -51,6 +51,7 @@ if [ ! -x "$program" ]; then
     exit 1
 fi
 
+nl=$'\n'
 outside=$'bmake: an outside call failed\n'
 
 row shows='each option that is built stands in the text of --help' \
@@ -221,17 +222,55 @@ row shows='nor behind a command that fails while others run' \
 
 row shows='nor behind a fault of the outside, and the shells of other children are ended' \
     before='mkdir tmp' \
-    makefile=$'all: x y\nx:\n\t@echo $$$$ >pid; exec sleep 600\ny:\n\t@until [ -s pid ]; do sleep 0.05; done; rm "$${BMAKE_FILEMON%/*}"/out.2\n' \
+    makefile=$'all: x y\nx:\n\t@echo $$$$ >pid; exec sleep 600\ny:\n\t@until [ -s pid ]; do sleep 0.05; done; head -c 67108865 /dev/zero\n' \
     run='TMPDIR=$PWD/tmp timeout 60 "$program" -j 2' \
-    status=3 err="$outside" after='! kill -0 "$(cat pid)" 2>/dev/null && [ -z "$(ls -A tmp)" ]'
+    status=3 err="bmake: wait /bin/sh: more than 64 MiB$nl$outside" after='! kill -0 "$(cat pid)" 2>/dev/null && [ -z "$(ls -A tmp)" ]'
 
 row shows='a recorder finds its log beside the output' \
     makefile=$'t:\n\t@echo "$${BMAKE_FILEMON##*/}"\n' \
     out=$'fm.1\n'
 
-row shows='a command that removes its own output file' \
-    makefile=$'t:\n\t@rm "$${BMAKE_FILEMON%/*}"/out.*\n' \
-    status=3 err="$outside"
+row shows='what is printed through /dev/stderr and /dev/stdout, opened anew, stands in its place' \
+    makefile=$'t:\n\t@echo 1; echo 2 >/dev/stderr; echo 3 | tee /dev/stderr >/dev/null; echo 4 >/dev/stdout; echo 5\n' \
+    out=$'1\n2\n3\n4\n5\n'
+
+row shows='nothing is left behind a refused command of !=, and its shell is ended' \
+    before='mkdir tmp' makefile=$'A!=echo $$$$ >pid; head -c 67108865 /dev/zero; sleep 600\n' \
+    run='TMPDIR=$PWD/tmp timeout 60 "$program" -V A' \
+    status=3 err="bmake: run /bin/sh: more than 64 MiB$nl$outside" \
+    after='! kill -0 "$(cat pid)" 2>/dev/null && [ -z "$(ls -A tmp)" ]'
+
+row shows='the directory of the logs of children is its owner'"'"'s alone' \
+    makefile=$'t:\n\t@stat -c %a "$${BMAKE_FILEMON%/*}"\n' out=$'700\n'
+
+row shows='directories of makes that are gone are removed, and no others' \
+    before='mkdir tmp; "$program" --version >/dev/null' \
+    makefile=$'t:\n\t@echo $$PPID >pid; exec sleep 600\nu:\n\t@ls tmp | wc -l\n' \
+    run='export TMPDIR=$PWD/tmp; "$program" t & until [ -s pid ]; do sleep 0.05; done; mkdir tmp/bmake.1; "$program" u;
+        kill -9 "$(cat pid)"; wait 2>/dev/null; "$program" u' \
+    out=$'3\n2\n' after='ls tmp | grep -qx bmake.1 && [ "$(ls tmp | wc -l)" = 1 ]; pkill -f "sleep 600"; true'
+
+row shows='the shell is that of the system, whatever PATH says' \
+    before='printf "#!/bin/false\n" >sh; chmod +x sh' makefile=$'t:\n\t@echo hi\n' \
+    run='PATH=$PWD:$PATH "$program"' out=$'hi\n'
+
+row shows='a standard output that does not block is waited for' \
+    makefile=$'t:\n\t@head -c 1000000 /dev/zero\n' \
+    run='perl -e '"'"'use Fcntl; pipe R, W; fcntl W, F_SETFL, O_NONBLOCK | fcntl(W, F_GETFL, 0); unless (fork) { close R; open STDOUT, ">&W"; exec @ARGV } close W; sleep 1; local $/; print length <R>'"'"' "$program" -s' \
+    out='1000000'
+
+row shows='a shell that ended is taken in, whoever still has its output' \
+    makefile=$'all: x y\nx:\n\t@sleep 3 & echo x\ny: x\n\t@echo y\n' \
+    run='start=$(date +%s%N); "$program" -j2 | grep -v "^---"; [ $(($(date +%s%N) - start)) -lt 2500000000 ] || echo late' out=$'x\ny\n'
+
+row shows='a shell whose output has ended is waited for' \
+    makefile=$'all: x y\nx:\n\t@exec >&- 2>&-; sleep 0.5; echo 1 >x\ny:\n\t@echo y\n' \
+    run='"$program" -j2 | grep -v "^---"; "$program" x' out=$'y\n' after='holds x "1
+"'
+
+row shows='make asks seldom while it waits' \
+    makefile=$'all: x y\nx y:\n\t@sleep 3\n' \
+    run='if command -v strace >/dev/null; then strace -o tr -e trace=wait4,poll,read "$program" -s -j2; [ "$(wc -l <tr)" -lt 250 ] || wc -l <tr; fi'
 
 row shows='what a process in the background prints late comes into no other output' \
     makefile=$'all: x y\nx:\n\t@(sleep 0.3; echo late) &\ny:\n\t@sleep 0.6; echo y\n' \
@@ -244,17 +283,20 @@ row shows='a name that stands already in the directory for temporary files' \
     out=$'bmake.N.1/fm.1\n' after='[ "$(ls tmp | wc -l)" = 1 ]'
 
 row shows='a directory for temporary files that is missing' \
-    makefile=$'t:\n\t@echo 1\n' run='TMPDIR=$PWD/no "$program"' status=3 err="$outside"
+    makefile=$'t:\n\t@echo 1\n' run='TMPDIR=no "$program" 2>&1 | sed "s/bmake[.][0-9]*/N/; s=/.*/no=no="' \
+    out="bmake: mkdir no/N: No such file or directory$nl$outside"
 
 row shows='a plain file as the directory for temporary files' \
-    before='echo 1 >no' makefile=$'A!=echo 1\n' run='TMPDIR=$PWD/no "$program" -V A' status=3 err="$outside"
+    before='echo 1 >no' makefile=$'A!=echo 1\n' \
+    run='TMPDIR=no "$program" -V A 2>&1 | sed "s/bmake[.][0-9]*/N/; s=/.*/no=no="' \
+    out="bmake: mkdir no/N: Not a directory$nl$outside"
 
 row shows='a run that starts no child needs no directory for temporary files' \
     makefile=$'A=1\n' run='TMPDIR=$PWD/no "$program" -V A' out=$'1\n'
 
 row shows='a relative directory for temporary files is taken from that of the program' \
     before='mkdir d tmp' makefile=$'t:\n\t@cd d; ls "$${BMAKE_FILEMON%/*}"\n' run='TMPDIR=tmp "$program"' \
-    out=$'out.1\n'
+    out=$'lock\n'
 
 row shows='a make that runs itself in its own directory, three deep, with several jobs' \
     makefile=$'all: a b c d\na b c d:\n\t@[ ${N:U1} = 3 ] || MAKEFLAGS= ${P} -j4 P=${P} N=${N:U1:S/2/3/:S/1/2/} ${.TARGET}; echo ${N:U1}${.TARGET}; echo >>all\n' \
@@ -278,13 +320,95 @@ else
     echo 'skipped: a directory that cannot be written (nobody may not run the program here)'
 fi
 
-row shows='a folder where the log of a recorder would be' \
-    makefile=$'t:\n\t@mkdir "$$BMAKE_FILEMON"\n' \
-    status=3 err="$outside"
+row shows='a folder or a pipe with a name where the log of a recorder would be is no log' \
+    before='mkdir tmp' \
+    makefile=$'all: t u\nt:\n\t@mkdir "$$BMAKE_FILEMON"; echo t\nu:\n\t@mkfifo "$$BMAKE_FILEMON"; echo u\n' \
+    run='TMPDIR=$PWD/tmp timeout 20 "$program"' out=$'t\nu\n' after='[ -z "$(ls -A tmp)" ]'
 
 row shows='a command that is asked answers with its standard output alone' \
     makefile=$'A!=echo a; echo "no answer" >&2; exit 4\n' run='"$program" -V A' \
     out=$'a\n' err=$'no answer\n'
+
+row shows='MAKE is the name by which make was called: an absolute path' \
+    makefile=$'t:\n\t@echo ${MAKE}\n' out="$program$nl"
+
+row shows='MAKE is the name by which make was called: a word that PATH leads to' \
+    before='mkdir bin; ln -s "$program" bin/mymake' makefile=$'t:\n\t@echo ${MAKE}\n' \
+    run='PATH=$PWD/bin:$PATH mymake' out=$'mymake\n'
+
+row shows='names that make(1) reserves are no main targets' \
+    makefile=$'.POSIX:\n.INTERRUPT:\n\t@echo no\n.PATH: ..\nt:\n\t@echo hi\n' out=$'hi\n'
+
+# A tree of three makes.
+tree() {
+    mkdir lib app app/sub
+    printf 'all: lib app\nlib app: .PHONY\n\t+@cd ${.TARGET} && ${MAKE}\n' >makefile
+    printf 'all: x y\nx:\n\t@exit ${FAILS:U0}\ny:\n\techo lib ${FLAGS:Unone} ${.MAKE.MODE:U} >y\n' >lib/makefile
+    printf 'x:\n\t+@cd sub && ${MAKE}\n' >app/makefile
+    printf 'y:\n\techo sub ${FLAGS:Unone} >y\n' >app/sub/makefile
+}
+
+row shows='-n makes nothing below, and an assignment holds there' \
+    before=tree run='"$program" -n FLAGS=-g | sed "s=$program=MAKE="' \
+    out=$'cd lib && MAKE\nexit 0\necho lib -g  >y\ncd app && MAKE\ncd sub && MAKE\necho sub -g >y\n' \
+    after='[ -z "$(find . -name y)" ]'
+
+row shows='an assignment of several words reaches the makes below, quoted' \
+    before=tree run='"$program" -s FLAGS='"'"'"a  b"'"'"' ' \
+    after='[ "$(cat lib/y app/sub/y)" = "lib a  b
+sub a  b" ]'
+
+row shows='-k goes on below' \
+    before=tree run='"$program" -k -s FAILS=3' status=1 \
+    err="bmake: target lib command 1: status 1$nl" out="bmake: target x command 1: status 3$nl" \
+    after='holds lib/y "lib none
+" && holds app/sub/y "sub none
+"'
+
+row shows='makefiles, jobs and targets do not reach the makes below' \
+    before='tree; mv makefile Top' run='"$program" -f Top -j4 -s lib app >/dev/null' \
+    after='holds lib/y "lib none
+" && holds app/sub/y "sub none
+"'
+
+row shows='options for the makes below that are of no form are passed over' \
+    makefile=$'t:\n\t@echo "$${BMAKE_FLAGS-none}"\n' run='BMAKE_FLAGS="-s A=1" "$program"; BMAKE_FLAGS="-s '"'"'" "$program"' \
+    out=$'-s A=1 \nnone\n' err=$'bmake: BMAKE_FLAGS is passed over: a quote is open\n'
+
+row shows='a recorder in BMAKE_RECORDER is run before each shell' \
+    before='printf "#!/bin/sh\nshift; echo \"\$*\" >>log; exec \"\$@\"\n" >recorder; chmod +x recorder' \
+    makefile=$'A!=echo 1\nt:\n\t@echo ${A} a\n\t@echo b\n' run='BMAKE_RECORDER="$PWD/recorder  -x" "$program"' \
+    out=$'1 a\nb\n' after='holds log "/bin/sh -c echo 1
+/bin/sh -c echo 1 a
+/bin/sh -c echo b
+"'
+
+row shows='a recorder that is not there is named' \
+    makefile=$'t:\n\t@echo 1\n' run='BMAKE_RECORDER=/no/recorder "$program"' status=3 \
+    err="bmake: run /no/recorder: No such file or directory$nl$outside"
+
+# Looks at what the system does not tell, and times of the future.
+meta='.MAKE.MODE=meta curdirOk=yes missing-meta=yes'
+
+row shows='a recorded path that is not UTF-8 makes its target again, and ends no run' \
+    makefile="$meta$nl"$'t:\n\t@printf "R 1 caf\\351\\n" >"$$BMAKE_FILEMON"; echo made; : >t\n' \
+    run='"$program"; sleep 0.1; "$program"; "$program" --explain | cut -d " " -f 1,2' out=$'made\nmade\nt read\n'
+
+row shows='so does one whose name is too long' \
+    makefile="$meta$nl"$'t:\n\t@printf "R 1 %05000d\\n" 1 >"$$BMAKE_FILEMON"; echo made; : >t\n' \
+    run='"$program"; sleep 0.1; "$program"' out=$'made\nmade\n'
+
+row shows='a source of the future makes its target anew in each run, and is not waited for' \
+    before='touch -d "+1 hour" a' makefile="$meta$nl"$'t: a\n\t@echo made; : >t\n' \
+    run='timeout 20 "$program"; timeout 20 "$program"; touch a; "$program"; sleep 0.1; "$program"' out=$'made\nmade\nmade\n'
+
+row shows='a pipe with a name as meta file gives way' \
+    before='mkfifo t.meta; touch t' makefile="$meta$nl"$'t:\n\t@echo made; : >t\n' \
+    run='timeout 20 "$program"; sleep 0.1; timeout 20 "$program"' out=$'made\n' after='[ -f t.meta ]'
+
+row shows='a meta file that cannot be written is named' \
+    before='mkdir t.meta' makefile="$meta$nl"$'t:\n\t@echo made; : >t\n' status=3 \
+    err="bmake: write t.meta: Is a directory$nl$outside"
 
 row shows='the names of folders are quoted' \
     before=$'d=$\'it\\\'s "$x" *\\n`y`\'; mkdir "$d"; cd "$d"' \
@@ -293,7 +417,7 @@ row shows='the names of folders are quoted' \
 "'
 
 row shows='a makefile that is a folder' \
-    before='mkdir makefile' status=3 err="$outside"
+    before='mkdir makefile' status=3 err="bmake: read makefile: Is a directory$nl$outside"
 
 row shows='a makefile below a plain file is missing' \
     before='echo 1 >f' run='"$program" -f f/x' \
@@ -353,7 +477,7 @@ row shows='.DELETE_ON_ERROR removes the target of a job that failed, but for a p
 
 row shows='a target that cannot be removed' \
     makefile=$'.DELETE_ON_ERROR:\nt:\n\t@mkdir t; exit 2\n' \
-    status=3 err="$outside" after='[ -d t ]'
+    status=3 err="bmake: remove t: Is a directory$nl$outside" after='[ -d t ]'
 
 row shows='a target that is not there, or stands below a plain file, is not removed' \
     makefile=$'.DELETE_ON_ERROR:\nall: t p/x\nt:\n\t@exit 2\np/x:\n\t@echo 1 > p; exit 2\n' \
@@ -362,8 +486,9 @@ row shows='a target that is not there, or stands below a plain file, is not remo
 
 if mkdir "$room/small" && mount -t tmpfs -o size=64k none "$room/small" 2>/dev/null; then
     row shows='a full file system' \
-        makefile=$'t:\n\t@head -c 1000000 /dev/zero\n' \
-        run='TMPDIR=$room/small "$program" >/dev/null 2>&1; test $? -ne 0'
+        makefile="$meta$nl"$'t:\n\t@head -c 100000 /dev/zero | tr "\\0" x; : >t\n' \
+        run='cp makefile "$room/small" && cd "$room/small" && "$program" >/dev/null' \
+        status=3 err="bmake: write t.meta: No space left on device$nl$outside"
     umount "$room/small"
 else
     echo 'skipped: a full file system (no small one may be made here)'
@@ -384,17 +509,17 @@ else
 fi
 
 row shows='a closed standard output' \
-    makefile=$'A=1\n' run='"$program" -v A >&-' status=3
+    makefile=$'A=1\n' run='"$program" -v A >&-' status=3 err="bmake: write standard output: Bad file descriptor$nl"
 
 row shows='a full device as standard output' \
-    makefile=$'A=1\n' run='"$program" -v A >/dev/full' status=3
+    makefile=$'A=1\n' run='"$program" -v A >/dev/full' status=3 err="bmake: write standard output: No space left on device$nl"
 
 if [ "$(id -u)" = 0 ]; then
     echo 'skipped: an unreadable makefile (root reads everything)'
 else
     row shows='an unreadable makefile' \
         before='echo A=1 >makefile; chmod 000 makefile' run='"$program" -v A' \
-        status=3 err="$outside"
+        status=3 err="bmake: read makefile: Permission denied$nl$outside"
 fi
 
 echo "$passed passed, $failed failed"

@@ -1,9 +1,10 @@
 //! The program `bmake`: it makes the real world and its sinks, and hands all else to `run`.
 #![tactic(auto)]
 
+mod above;
 mod process;
 
-use mk_bytes::{NoMemory, Texts, is_clean_directory};
+use mk_bytes::{Items, NoMemory, Texts, is_clean_directory};
 use mk_realworld::{RealSink, RealWorld};
 use mk_scopes::Env;
 use mk_top::run;
@@ -38,8 +39,9 @@ const HELP: &[u8] = b"usage: bmake [options] [NAME=VALUE ..] [TARGET ..]
   --help       print this text, where it is the only word
   --version    print the version, where it is the only word
 
-Each command of a target is run by /bin/sh, in the current directory; what it prints stands in a
-file below $TMPDIR, or else /tmp, until it has ended.
+Each command of a target is run by /bin/sh, in the current directory, and what it prints is printed when
+it has ended. With a recorder in BMAKE_RECORDER, as fmtrace, that is run before each /bin/sh. Options
+but -f, -j, -V, -v and targets reach the makes below, by BMAKE_FLAGS.
 
 Exit status: 0 where all went well, 1 where a command failed or, with -q, a target is out of date,
 2 for a bad word, a fault in a makefile or a target that cannot be made, 3 where an outside call failed,
@@ -65,11 +67,6 @@ fn status(rt: &HostRuntime, words: &Texts) -> u8 {
             return answer(rt.stdout(), VERSION);
         }
     }
-    for word in words.as_slice() {
-        if str::from_utf8(word.bytes()).is_err() {
-            return bad_word(rt, word.bytes());
-        }
-    }
     match process::environment(rt) {
         Ok(Some(env)) => run_in(rt, words, &env),
         Ok(None) => outside_failed(rt),
@@ -82,19 +79,54 @@ fn run_in(rt: &HostRuntime, words: &Texts, env: &Env) -> u8 {
     if !is_clean_directory(env.cwd.bytes()) {
         return outside_failed(rt);
     }
-    let Ok(place) = process::place_of_children(rt, env) else {
+    let Ok(all) = words_of_all(rt, words, env) else {
         return out_of_memory(rt);
     };
-    let Ok(mut world) = RealWorld::new(rt, place) else {
-        return out_of_memory(rt);
+    for word in all.as_slice() {
+        if str::from_utf8(word.bytes()).is_err() {
+            return bad_word(rt, word.bytes());
+        }
+    }
+    match run_all(rt, &all, env) {
+        Ok(status) => status,
+        Err(NoMemory) => out_of_memory(rt),
+    }
+}
+
+// The words of the make above, where it hands on some, and those of the command line. Behind others
+// `--generate` would not be the first word, and it takes no options.
+fn words_of_all(rt: &HostRuntime, words: &Texts, env: &Env) -> Result<Texts, NoMemory> {
+    let alloc = rt.alloc();
+    let is_generate = match words.as_slice() {
+        [first, ..] => first.bytes() == b"--generate".as_slice(),
+        [] => false,
     };
-    let mut out = RealSink::out(rt.stdout());
+    if is_generate {
+        return above::all_words(alloc, Items::new(alloc, 0)?, words);
+    }
+    match above::inherited(alloc, env)? {
+        Some(inherited) => above::all_words(alloc, inherited, words),
+        None => {
+            let _ = rt
+                .stderr()
+                .write_all(b"bmake: BMAKE_FLAGS is passed over: a quote is open\n");
+            above::all_words(alloc, Items::new(alloc, 0)?, words)
+        }
+    }
+}
+
+// Runs what all words ask for in the real world.
+fn run_all(rt: &HostRuntime, all: &Texts, env: &Env) -> Result<u8, NoMemory> {
+    let place = process::place_of_children(rt, env)?;
+    let setting = above::setting(rt.alloc(), env, all)?;
+    let mut world = RealWorld::new(rt, setting, place, rt.stderr())?;
+    let mut out = RealSink::out(rt.stdout(), rt.stderr());
     let mut err = RealSink::err(rt.stderr());
-    let report = run(rt.alloc(), words, env, &mut world, &mut out, &mut err);
+    let report = run(rt.alloc(), all, env, &mut world, &mut out, &mut err);
     let status = report.status;
     drop(report);
     drop(world);
-    status
+    Ok(status)
 }
 
 fn answer(stdout: Stdout, text: &[u8]) -> u8 {

@@ -1,6 +1,7 @@
 //! What the process is given: its words, its environment and its directory, all as bytes.
 use itoa::Buffer;
-use mk_bytes::{Items, NoMemory, Pair, Text, Texts};
+use mk_bytes::{Items, NoMemory, Pair, Text, Texts, clean_path};
+use mk_realworld::Place;
 use std::alloc::Global;
 use std::env::{Env, FillError};
 use std::process;
@@ -61,7 +62,20 @@ fn variable(alloc: Global, entry: &[u8]) -> Result<Option<Pair>, NoMemory> {
     Ok(Some(Pair { name, value }))
 }
 
-/// The environment, entry by entry, with the current directory; `None` where the system gives none.
+// The name by which the program was called: as it stands where it has no slash, and else an absolute path.
+fn program<R: Env + AllocGlobal>(rt: &R, cwd: &[u8]) -> Result<Text, NoMemory> {
+    let Some(name) = bytes_of(rt, Query::Word(0))? else {
+        return Text::from_bytes(rt.alloc(), b"bmake");
+    };
+    let name = name.as_slice();
+    if name.starts_with(b"/") || !name.contains(&b'/') {
+        return Text::from_bytes(rt.alloc(), name);
+    }
+    clean_path(rt.alloc(), cwd, name)
+}
+
+/// The environment, entry by entry, with the current directory and the program's name; `None` where the
+/// system gives no directory.
 pub fn environment<R: Env + AllocGlobal>(rt: &R) -> Result<Option<mk_scopes::Env>, NoMemory> {
     let mut vars = Items::new(rt.alloc(), 0)?;
     for i in 0..usize::MAX {
@@ -77,30 +91,41 @@ pub fn environment<R: Env + AllocGlobal>(rt: &R) -> Result<Option<mk_scopes::Env
         return Ok(None);
     };
     let cwd = Text::from_bytes(rt.alloc(), &buffer[..count])?;
-    Ok(Some(mk_scopes::Env { vars, cwd }))
+    let program = program(rt, cwd.bytes())?;
+    Ok(Some(mk_scopes::Env { vars, cwd, program }))
+}
+
+/// The value of a variable of the environment; of several of one name it is the last.
+pub fn value_of<'e>(env: &'e mk_scopes::Env, name: &[u8]) -> Option<&'e [u8]> {
+    let mut value = None;
+    for pair in env.vars.as_slice() {
+        if pair.name.bytes() == name {
+            value = Some(pair.value.bytes());
+        }
+    }
+    value
 }
 
 // The directory for temporary files: that of `TMPDIR`, taken from the current directory, or else `/tmp`.
 fn temporary_directory(alloc: Global, env: &mk_scopes::Env) -> Result<Text, NoMemory> {
-    let mut path = Text::from_bytes(alloc, b"/tmp")?;
-    for pair in env.vars.as_slice() {
-        if pair.name.bytes() == b"TMPDIR".as_slice() && !pair.value.is_empty() {
-            path = Text::new(alloc);
-            if !pair.value.bytes().starts_with(b"/") {
-                path.push(env.cwd.bytes())?;
-                path.push(b"/")?;
-            }
-            path.push(pair.value.bytes())?;
-        }
+    let directory = value_of(env, b"TMPDIR").filter(|path| !path.is_empty());
+    let Some(directory) = directory else {
+        return Text::from_bytes(alloc, b"/tmp");
+    };
+    let mut path = Text::new(alloc);
+    if !directory.starts_with(b"/") {
+        path.push(env.cwd.bytes())?;
+        path.push(b"/")?;
     }
+    path.push(directory)?;
     Ok(path)
 }
 
-/// Where the directory for the files of children is made: below that for temporary files, with the
+/// Where the directory for the logs of children is made: below that for temporary files, with the
 /// number of the process in its name.
-pub fn place_of_children(rt: &HostRuntime, env: &mk_scopes::Env) -> Result<Text, NoMemory> {
-    let mut place = temporary_directory(rt.alloc(), env)?;
-    place.push(b"/bmake.")?;
-    place.push(Buffer::new().format(process::id(rt.process())).as_bytes())?;
-    Ok(place)
+pub fn place_of_children(rt: &HostRuntime, env: &mk_scopes::Env) -> Result<Place, NoMemory> {
+    let above = temporary_directory(rt.alloc(), env)?;
+    let mut name = Text::from_bytes(rt.alloc(), b"bmake.")?;
+    name.push(Buffer::new().format(process::id(rt.process())).as_bytes())?;
+    Ok(Place { above, name })
 }

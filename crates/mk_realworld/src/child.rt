@@ -7,7 +7,7 @@ ghost use Rattle.mk_realworld.specs.Logs as logs;
 ghost use Rattle.mk_realworld.specs.Statuses as statuses;
 
 use crate::child_files::log_file;
-use crate::file::{file_text, remove_file};
+use crate::file::{plain_text, remove_file};
 use crate::output::Output;
 use crate::refusal::Refusal;
 use crate::shell::{Streams, connect, shell};
@@ -145,13 +145,13 @@ impl<P: OpenProcess + Drop> RealKid<P> {
         Ok(status_of(self.child.wait()?))
     }
 
-    // The text of its log, where there is one, which is removed.
+    // The text of its log, where a plain file stands there, which is removed.
     fn take_log<R: Files + AllocGlobal>(
         &self,
         system: &mut System<R>,
     ) -> Result<Option<Text>, Refusal> {
         let path = self.log.bytes();
-        let log = file_text(&system.rt, system.buffer.as_mut_slice(), path)?;
+        let log = plain_text(&system.rt, system.buffer.as_mut_slice(), path)?;
         if log.is_some() {
             remove_file(&system.rt, path)?;
         }

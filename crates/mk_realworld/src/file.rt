@@ -67,6 +67,18 @@ pub fn file_text<R: Files + AllocGlobal>(
     }
 }
 
+/// The bytes of a plain file; `None` where something else stands at its path, or nothing.
+pub fn plain_text<R: Files + AllocGlobal>(
+    rt: &R,
+    buffer: &mut [u8],
+    path: &[u8],
+) -> Result<Option<Text>, Refusal> {
+    match fs::metadata(rt, str::from_utf8(path)?) {
+        Ok(metadata) if metadata.is_file() => file_text(rt, buffer, path),
+        _ => Ok(None),
+    }
+}
+
 /// What was seen at a path: when its bytes were changed last, when it was changed last in any way, and
 /// whether a pipe with a name stands there.
 #[derive(Clone, Copy, PartialEq, Eq)]

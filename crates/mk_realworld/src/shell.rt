@@ -12,8 +12,8 @@ use std::io::PipeWriter;
 use std::process::{Command, Stdio};
 use std::str;
 
-// The shell of the system, whatever `PATH` a makefile gives.
-const SHELL: &str = "/bin/sh";
+/// The shell of the system, whatever `PATH` a makefile gives.
+pub const SHELL: &str = "/bin/sh";
 
 // Where a recorder finds the path of its log.
 const LOG: &str = "BMAKE_FILEMON";

@@ -8,9 +8,10 @@ use crate::file::{Sight, file_text, look};
 use crate::known::KnownTimes;
 use crate::late::Late;
 use crate::named::Named;
-use crate::refusal::Refusal;
+use crate::refusal::{Reason, Refusal};
 use crate::room::Room;
 use crate::setting::Setting;
+use crate::shell::SHELL;
 use libc::types::pollfd;
 use mk_bytes::{NoMemory, Text};
 use mk_world::When;
@@ -79,6 +80,17 @@ fn is_within(bound: u64, when: When) -> bool {
     match when {
         When::At(time) => time.0 <= bound,
         When::Missing | When::Unknown => true,
+    }
+}
+
+impl<R> System<R> {
+    /// Names a call about a child that failed, by the program that was to be run, where no other call was
+    /// named before.
+    pub fn name_child(&mut self, call: &[u8], reason: Reason) {
+        match self.setting.recorder.as_slice() {
+            [program, ..] => self.named.name(call, program.bytes(), reason),
+            [] => self.named.name(call, SHELL.as_bytes(), reason),
+        }
     }
 }
 

@@ -62,6 +62,18 @@ impl<R: Files + Processes + Clock + AllocGlobal> RealWorld<R> {
         }
         counted(refusal, &mut self.faults)
     }
+
+    // The same of a call that is about a child.
+    fn refused_child(&mut self, call: &[u8], refusal: Refusal) -> WorldFault
+        ensures kept { self.old.faults ≤ self.new.faults }
+        ensures answered { self.old.faults < self.new.faults → result ≡ Failed }
+        ensures rose { result ≡ Failed → Rose self.old.faults self.new.faults }
+    {
+        if let Refusal::Outside(reason) = refusal {
+            self.system.name_child(call, reason);
+        }
+        counted(refusal, &mut self.faults)
+    }
 }
 
 impl<R: Files<File = File> + Processes + Clock + AllocGlobal + Clone + Drop> World
@@ -158,7 +170,7 @@ impl<R: Files<File = File> + Processes + Clock + AllocGlobal + Clone + Drop> Wor
         self.system.leave_if_idle();
         match answer {
             Ok(ended) => Ok(ended),
-            Err(refusal) => Err(self.refused(b"run", b"/bin/sh", refusal)),
+            Err(refusal) => Err(self.refused_child(b"run", refusal)),
         }
     }
 
@@ -179,7 +191,7 @@ impl<R: Files<File = File> + Processes + Clock + AllocGlobal + Clone + Drop> Wor
                 kids.add(ticket, kid);
                 Ok(())
             }
-            Err(refusal) => Err(self.refused(b"run", b"/bin/sh", refusal)),
+            Err(refusal) => Err(self.refused_child(b"run", refusal)),
         }
     }
 
@@ -202,7 +214,7 @@ impl<R: Files<File = File> + Processes + Clock + AllocGlobal + Clone + Drop> Wor
                     records: over.told.records,
                 })
             }
-            Err(refusal) => Err(self.refused(b"wait", b"/bin/sh", refusal)),
+            Err(refusal) => Err(self.refused_child(b"wait", refusal)),
         }
     }
 
