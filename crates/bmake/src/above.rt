@@ -1,7 +1,7 @@
 //! What a make is given by the one above it, and by who runs it: options in `BMAKE_FLAGS`, and a recorder
 //! in `BMAKE_RECORDER`; and what it gives to the makes below.
-use crate::process::value_of;
-use mk_bytes::{Items, NoMemory, Text, Texts, words};
+use crate::process::{absolute, value_of};
+use mk_bytes::{Items, NoMemory, Pair, Pairs, Text, Texts, words};
 use mk_inherit::{flags_of, passed_on, words_in};
 use mk_realworld::Setting;
 use mk_scopes::Env;
@@ -38,9 +38,46 @@ fn flags(alloc: Global, all: &Texts) -> Result<Option<Text>, NoMemory> {
     Ok(Some(flags_of(alloc, &passed)?))
 }
 
+// The words of the recorder. The first is an absolute path where it has a slash, so that it serves in each
+// directory.
+fn recorder(alloc: Global, env: &Env) -> Result<Texts, NoMemory> {
+    let mut recorder = Items::new(alloc, 0)?;
+    for word in words(alloc, value_of(env, RECORDER).unwrap_or(b""))?.as_slice() {
+        if recorder.is_empty() && word.bytes().contains(&b'/') {
+            recorder.push(absolute(alloc, env.cwd.bytes(), word.bytes())?)?;
+        } else {
+            recorder.push(word.copy(alloc)?)?;
+        }
+    }
+    Ok(recorder)
+}
+
+// The variable by which the makes below find the recorder, where there is one.
+fn variables(alloc: Global, recorder: &Texts) -> Result<Pairs, NoMemory> {
+    let mut variables = Items::new(alloc, 0)?;
+    if recorder.is_empty() {
+        return Ok(variables);
+    }
+    let mut value = Text::new(alloc);
+    for word in recorder.as_slice() {
+        if !value.is_empty() {
+            value.push(b" ")?;
+        }
+        value.push(word.bytes())?;
+    }
+    let name = Text::from_bytes(alloc, RECORDER)?;
+    variables.push(Pair { name, value })?;
+    Ok(variables)
+}
+
 /// What each child is given, by the words of the make.
 pub fn setting(alloc: Global, env: &Env, all: &Texts) -> Result<Setting, NoMemory> {
-    let recorder = words(alloc, value_of(env, RECORDER).unwrap_or(b""))?;
+    let recorder = recorder(alloc, env)?;
     let flags = flags(alloc, all)?;
-    Ok(Setting { recorder, flags })
+    let variables = variables(alloc, &recorder)?;
+    Ok(Setting {
+        recorder,
+        flags,
+        variables,
+    })
 }

@@ -62,6 +62,19 @@ fn variable(alloc: Global, entry: &[u8]) -> Result<Option<Pair>, NoMemory> {
     Ok(Some(Pair { name, value }))
 }
 
+/// A path made absolute from a directory, without `.`, `..` and empty names.
+pub fn absolute(alloc: Global, cwd: &[u8], path: &[u8]) -> Result<Text, NoMemory> {
+    let mut whole = Text::new(alloc);
+    if !path.starts_with(b"/") {
+        whole.push(cwd)?;
+        whole.push(b"/")?;
+    }
+    whole.push(path)?;
+    let mut absolute = Text::from_bytes(alloc, b"/")?;
+    absolute.push(clean_path(alloc, b"/", whole.bytes())?.bytes())?;
+    Ok(absolute)
+}
+
 // The name by which the program was called: as it stands where it has no slash, and else an absolute path.
 fn program<R: Env + AllocGlobal>(rt: &R, cwd: &[u8]) -> Result<Text, NoMemory> {
     let Some(name) = bytes_of(rt, Query::Word(0))? else {
@@ -71,7 +84,7 @@ fn program<R: Env + AllocGlobal>(rt: &R, cwd: &[u8]) -> Result<Text, NoMemory> {
     if name.starts_with(b"/") || !name.contains(&b'/') {
         return Text::from_bytes(rt.alloc(), name);
     }
-    clean_path(rt.alloc(), cwd, name)
+    absolute(rt.alloc(), cwd, name)
 }
 
 /// The environment, entry by entry, with the current directory and the program's name; `None` where the
