@@ -111,7 +111,7 @@ judged-task meaning work a b c n task judgement target sources asked meta walk l
 task-decided : (work : Work) (n : ℕ) (seen : List Seen) (task : Task) (why : Option Why)
     → 0 < length (node_at work.plan n).commands → IsJudged work n seen task why
     → IsDecision work n seen (decided task why)
-task-decided work n seen task None some judged = (task.lines, inr (task, judged, refl))
+task-decided work n seen task None some judged = (task.lines, inr (some, task, judged, refl))
 task-decided work n seen task (Some why) some judged =
     let sight = judged.sight in
     let newer = newer_of work n sight.target sight.sources in (
@@ -126,7 +126,7 @@ task-decided work n seen task (Some why) some judged =
 -- what is decided of a node that was judged
 pub judged-decided : (work : Work) (n : ℕ) (seen : List Seen) (judgement : Judgement)
     → IsJudgement work n seen judgement → IsDecision work n seen (decision_by judgement)
-judged-decided work n seen Nothing is = ([], inl is.0)
+judged-decided work n seen Nothing is = ([], inl is)
 judged-decided work n seen (Refused number what) is = is
 judged-decided work n seen (Judged task found) is =
     task-decided work n seen task found.why is.commands is.judged

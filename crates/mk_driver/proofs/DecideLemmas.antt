@@ -275,11 +275,12 @@ pub so_far-cut_head : (meaning : Meaning) (work : Work) (known : Known) (nodes :
     → SoFar meaning work false first now last known (IsLookedAt known nodes jobs failure n seen)
     → get_or nodes n Failed ≡ Undecided
     → may_decide (rules_of work) nodes ≡ Some n → AreUnknown known nodes
-    → IsBegun work n seen lines → IsUnopened meaning work now.history next.history n
+    → IsBegun work n seen lines → 0 < length lines
+    → IsUnopened meaning work now.history next.history n
     → next.events ≡ now.events → next.out ≡ now.out
     → SoFar meaning work false first next last (with_task known n lines) (λ tasks build. Unit {0})
 so_far-cut_head meaning work known nodes jobs failure n lines seen last first now next so undecided may
-    unknown begun part events out =
+    unknown begun some part events out =
     let more = with_task known n lines in
     let call = part.call in
     so_far-called meaning work false first now next last last known more
@@ -306,7 +307,7 @@ so_far-cut_head meaning work known nodes jobs failure n lines seen last first no
         → GoesOn work tasks build own (λ tasks build. Unit {0})
     goes tasks build has is own (inl none) = rw none (record { makes = tt; stands = tt })
     goes tasks build has is own (inr cut) = rw cut.3 (go_on-cut_head work known nodes jobs failure n cut.1
-        cut.0 lines tasks seen build may has part.in_meta is begun cut.2)
+        cut.0 lines tasks seen build may has part.in_meta is begun some cut.2)
 
     quiet : (tasks : run.Tasks) (own : List Item) → Part own
         → PrintsOwn work tasks false now next last last own
@@ -323,10 +324,11 @@ pub halted-opening : (meaning : Meaning) (work : Work) (halt : Halt) (known : Kn
     (IsLookedAt known nodes jobs failure n seen)
     → get_or nodes n Failed ≡ Undecided
     → may_decide (rules_of work) nodes ≡ Some n → AreUnknown known nodes
-    → IsBegun work n seen lines → IsUnopened meaning work history later n
+    → IsBegun work n seen lines → 0 < length lines → IsUnopened meaning work history later n
     → HaltedAt meaning work halt later events first out
 halted-opening meaning work halt known nodes jobs failure n lines seen last first history later out events
-    so undecided may unknown begun part =
+    so undecided may unknown begun some part =
     halted meaning work halt first later out events last (with_task known n lines) _
     (so_far-cut_head meaning work known nodes jobs failure n lines seen last first
-    (moment history out events) (moment later out events) so undecided may unknown begun part refl refl)
+    (moment history out events) (moment later out events) so undecided may unknown begun some part refl
+    refl)

@@ -271,14 +271,15 @@ is-head : (work : Work) (known : Known) (nodes : List NodeState) (jobs : List Jo
     (seen : List Seen) (build : Build) → may_decide (rules_of work) nodes ≡ Some n
     → HasTasks tasks (with_task known n lines) → has_meta work n ≡ true
     → IsLookedAt known nodes jobs failure n seen tasks build → IsBegun work n seen lines
-    → IsHead work tasks build n (first_path work n) (first_bytes work n)
-is-head work known nodes jobs failure n lines tasks seen build may has in_meta is begun_now =
+    → 0 < length lines → IsHead work tasks build n (first_path work n) (first_bytes work n)
+is-head work known nodes jobs failure n lines tasks seen build may has in_meta is begun_now some =
     let mine : with_task known n lines n ≡ Some lines = rw (same_node n) refl in
     let task : tasks n ≡ lines = has n lines mine in
     record {
       may = (is.due_is, rw is.nodes_are may);
       reason = subst (λ l. IsBegun work n l (tasks n)) (sym is.now)
           (subst (IsBegun work n seen) (sym task) begun_now);
+      some = rw task some;
       in_meta = in_meta;
       path_is = refl;
       bytes_are = refl;
@@ -301,7 +302,7 @@ go_on-head work known nodes jobs failure n time lines tasks seen build within ma
       makes = (
         tt,
         is.stands.duty_is,
-        is-head work known nodes jobs failure n lines tasks seen build may has in_meta is begun_now,
+        is-head work known nodes jobs failure n lines tasks seen build may has in_meta is begun_now some,
         tt,
       );
       stands = behind-begun work known nodes jobs failure n lines (begun time) tasks seen (begin n)
@@ -317,18 +318,18 @@ pub go_on-cut_head : (work : Work) (known : Known) (nodes : List NodeState) (job
     → may_decide (rules_of work) nodes ≡ Some n
     → HasTasks tasks (with_task known n lines) → has_meta work n ≡ true
     → IsLookedAt known nodes jobs failure n seen tasks build → IsBegun work n seen lines
-    → Begins part (first_bytes work n)
+    → 0 < length lines → Begins part (first_bytes work n)
     → GoesOn work tasks build (changes n (cut_head (first_path work n) part time) ∷ [])
     (λ tasks build. Unit {0})
 go_on-cut_head work known nodes jobs failure n time part lines tasks seen build may has in_meta is
-    begun_now begins =
+    begun_now some begins =
     record {
       makes = (
         tt,
         is.stands.duty_is,
         (
           first_bytes work n,
-          is-head work known nodes jobs failure n lines tasks seen build may has in_meta is begun_now,
+          is-head work known nodes jobs failure n lines tasks seen build may has in_meta is begun_now some,
           begins,
         ),
         tt,

@@ -214,13 +214,14 @@ abbrev pub HasReason : Work → run.Tasks → Build → ℕ → ℕ → Type 0
 HasReason work tasks build node number =
     number ≡ 1 → IsBegun work node (build.seen node) (tasks node)
 
--- A job of a node in meta mode is opened when the node may be decided and is out of date: these bytes
--- are the head of its meta file.
+-- A job of a node in meta mode is opened when the node may be decided, is out of date and has a line:
+-- these bytes are the head of its meta file.
 pub record IsHead (work : Work) (tasks : run.Tasks) (build : Build) (node : ℕ) (path bytes : List ℕ)
     : Type 0
   where
     pub may : run.MayDecide (rules_of work) build.run node
     pub reason : IsBegun work node (build.seen node) (tasks node)
+    pub some : 0 < length (tasks node)
     pub in_meta : has_meta work node ≡ true
     pub path_is : path ≡ meta_path (node_at work.plan node).name
     pub bytes_are : bytes ≡ texts.head (node_at work.plan node).name

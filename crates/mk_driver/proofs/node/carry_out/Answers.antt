@@ -118,7 +118,7 @@ returns-in-Err-clause-halted g c =
     halted-opening g.W.World.meaning work (of_world c.in-Err.fault) at.0 course.sched.nodes course.jobs.items
     course.failure n c.in-Make.task.lines seen course.last_shown first
     (g.W.World.history c.args.world.now) (g.W.World.history c.open_job.new.world) out course.events.items at.2
-    d.undecided may at.1 made.0 c.in-Err.ensures.refused
+    d.undecided may at.1 made.0 made.1 c.in-Err.ensures.refused
 
 pub run_on-requires-clause-fits : goal.run_on-requires-clause-fits
 run_on-requires-clause-fits g c =
