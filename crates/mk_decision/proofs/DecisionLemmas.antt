@@ -42,17 +42,19 @@ sight-of work n target sources asked walk =
     record { target = target; sources = sources; asked = asked; are = refl; walk = walk }
 
 -- how a node is judged by looks at its target and sources and by more, and the newest time of these
-abbrev pub IsJudgedOn : Work → ℕ → When → List Sighting → List Seen → Judgement → Type 0
-IsJudgedOn work n target sources more judgement =
-    let seen = seen_of work.plan n target sources ++ more in
-    (is : IsJudgement work n seen judgement)
-    × ((k : ℕ) → raised_all k (judgement_whens work n seen judgement is)
+abbrev pub IsJudgedOn : Meaning → Work → Option History → Option History → ℕ → When → List Sighting
+    → Judgement → Type 0
+IsJudgedOn meaning work a b n target sources judgement =
+    (more : List Seen) × LooksAt meaning a b more
+    × (is : IsJudgement work n (seen_of work.plan n target sources ++ more) judgement)
+    × ((k : ℕ) → raised_all k
+    (judgement_whens work n (seen_of work.plan n target sources ++ more) judgement is)
     ≡ raised_all k (node_whens target sources ++ later_whens judgement))
 
 abbrev pub IsJudgedBy : Meaning → Work → Option History → Option History → ℕ → When
     → List Sighting → Result Judgement WorldFault → Type 0
-IsJudgedBy meaning work a b n target sources result = IfOk result (λ judgement. (more : List Seen)
-    × LooksAt meaning a b more × IsJudgedOn work n target sources more judgement)
+IsJudgedBy meaning work a b n target sources result =
+    IfOk result (λ judgement. IsJudgedOn meaning work a b n target sources judgement)
 
 -- what was asked behind a fault
 pub asked-behind : {X : Type 0} → (asked : List Asked) (result : Result X TaskFault)
@@ -108,7 +110,7 @@ pub judged-task : (meaning : Meaning) (work : Work) (a b c : Option History) (n 
     → IsMetaSight work.mode.ignore_paths (mode_at work n) task target (source_ages work.plan n sources)
     meta → LooksAt meaning b c (meta_looks (meta_path (node_at work.plan n).name) meta)
     → judgement ≡ Judged task (found_by (mode_at work n) task target (source_ages work.plan n sources) meta)
-    → (more : List Seen) × LooksAt meaning a c more × IsJudgedOn work n target sources more judgement
+    → IsJudgedOn meaning work a c n target sources judgement
 judged-task meaning work a b c n task judgement target sources asked meta walk looked some has opened
     seen is =
     rw is (

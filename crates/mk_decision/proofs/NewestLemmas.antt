@@ -20,8 +20,8 @@ raised-append n (when ∷ whens) more = raised-append (raised n when) whens more
 -- one look more
 pub raised-more : (n : ℕ) (whens now : List When) (when : When) (old new : ℕ) → now ≡ whens ++ when ∷ []
     → old ≡ raised_all n whens → new ≡ raised old when → new ≡ raised_all n now
-raised-more n whens now when old new is was then =
-    then ∙ (ap (λ k. raised k when) was
+raised-more n whens now when old new is was raises =
+    raises ∙ (ap (λ k. raised k when) was
     ∙ (sym (raised-append n whens (when ∷ [])) ∙ ap (raised_all n) (sym is)))
 
 -- three lists of looks, one behind the other

@@ -8,11 +8,10 @@ pub returns-clause-decided : goal.returns-clause-decided
 returns-clause-decided g c =
     let judged = c.in_ok-judgement.ensures.judged in
     let decided = judged-decided (work_of c.args.maker.now) c.args.node judged.0
-    c.in_ok-judgement.judgement judged.2 in (
+    c.in_ok-judgement.judgement judged.2 in
+    rw c.decision_by.ensures (
       judged.0,
       judged.1,
-      rw c.decision_by.ensures (
-        decided.0,
-        judged.3 ∙ ap (raised_all c.args.newest.now.0) (sym decided.1),
-      ),
+      decided.0,
+      judged.3 ∙ ap (raised_all c.args.newest.now.0) (sym decided.1),
     )
