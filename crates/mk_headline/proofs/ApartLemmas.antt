@@ -456,7 +456,7 @@ module _ (meaning : Meaning) (work : Work) (tasks : run.Tasks) (old : History)
 
       may : (has_job (node_at work.plan node) ≡ true) ⊎ AllByRecursion IsNoChange during
       may = by (begins-job work tasks (during ++ after) (build_after work tasks built opens) node late.3 refl
-          late.2.may.0)
+          late.2.0.may.0)
         where
           by : (has_job (node_at work.plan node) ≡ true) ⊎ AllByRecursion IsNoChange (during ++ after)
               → (has_job (node_at work.plan node) ≡ true) ⊎ AllByRecursion IsNoChange during
