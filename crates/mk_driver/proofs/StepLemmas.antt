@@ -271,7 +271,10 @@ first_path work n = meta_path (node_at work.plan n).name
 begun-moved : (work : Work) (n : ℕ) (seen other : List Seen) (lines more : List TaskLine)
     → other ≡ seen → more ≡ lines → (begun : IsBegun work n seen lines)
     → (moved : IsBegun work n other more) × (begun_whens moved ≡ begun_whens begun)
-begun-moved work n seen other lines more same task begun = rw (same, task) (begun, refl)
+begun-moved work n seen other lines more same task begun =
+    subst (λ o. (moved : IsBegun work n o more) × (begun_whens moved ≡ begun_whens begun)) (sym same)
+    (subst (λ m. (moved : IsBegun work n seen m) × (begun_whens moved ≡ begun_whens begun)) (sym task)
+    (begun, refl))
 
 is-head : (work : Work) (known : Known) (nodes : List NodeState) (jobs : List Job)
     (failure : Option Failure) (n : ℕ) (lines : List TaskLine) (tasks : run.Tasks)
@@ -301,8 +304,8 @@ pub go_on-head : (work : Work) (known : Known) (nodes : List NodeState) (jobs : 
     (seen : List Seen) (build : Build)
     → n < length nodes → may_decide (rules_of work) nodes ≡ Some n → AreApart n jobs
     → HasTasks tasks (with_task known n lines) → has_meta work n ≡ true
-    → IsLookedAt known nodes jobs failure n seen tasks build → (begun : IsBegun work n seen lines)
-    → 0 < length lines → raised_all 0 (begun_whens begun) < time
+    → IsLookedAt known nodes jobs failure n seen tasks build → (begun_now : IsBegun work n seen lines)
+    → 0 < length lines → raised_all 0 (begun_whens begun_now) < time
     → GoesOn work tasks build (changes n (head (first_path work n) (first_bytes work n) time) ∷ [])
     (IsBehind work (with_task known n lines) (set nodes n Open) jobs failure n lines (begun time) 0)
 go_on-head work known nodes jobs failure n time lines tasks seen build within may apart has in_meta is
