@@ -16,8 +16,8 @@ use mk_oodate::{Whens, looked_at};
 use mk_world::{Time, World, WorldFault};
 use std::alloc::Global;
 
-// Looks at the time at which one path more was changed last: a file that another one was moved to is new,
-// however old its own time is.
+// Looks at the time at which one path more was changed last: a file that another one was moved to
+// is new, however old its own time is.
 fn look_at<W: World>(
     alloc: Global,
     world: &mut W,
@@ -75,8 +75,8 @@ pub struct RecordTimes {
     pub left: Whens,
 }
 
-/// Asks when the paths that records name were changed last, without those that begin with an ignored
-/// word.
+/// Asks when the paths that records name were changed last, without those that begin with an
+/// ignored word.
 pub fn look_at_records<W: World>(
     alloc: Global,
     world: &mut W,

@@ -216,8 +216,8 @@ abbrev pub HasReason : Work → run.Tasks → Build → ℕ → ℕ → Type 0
 HasReason work tasks build node number =
     number ≡ 1 → IsBegun work node (build.seen node) (tasks node)
 
--- A job of a node in meta mode is opened when the node may be decided, is out of date and has a line:
--- these bytes are the head of its meta file.
+-- A job of a node in meta mode is opened when the node may be decided, is out of date and has a
+-- line: these bytes are the head of its meta file.
 pub record IsHead (work : Work) (tasks : run.Tasks) (build : Build) (node : ℕ) (path bytes : List ℕ)
     : Type 0
   where
@@ -251,7 +251,8 @@ abbrev pub told_last : When → List Seen → When
 told_last when [] = when
 told_last when (one ∷ more) = told_last (when_told one) more
 
--- The time of a whole meta file is later than that of the target, which was the last look of its node.
+-- The time of a whole meta file is later than that of the target, which was the last look of its
+-- node.
 abbrev pub IsLaterWhole : Build → ℕ → ℕ → Type 0
 IsLaterWhole build node time = raised 0 (told_last Missing (build.seen node)) < time
 
