@@ -15,5 +15,5 @@ returns-in_default-clause-seen g c =
     )
 
 pub returns-in_default-clause-newest : goal.returns-in_default-clause-newest
-returns-in_default-clause-newest g c = 
+returns-in_default-clause-newest g c =
     raised-bare c.args.newest.now.0 c.args.times c.args.times c.requires.bare
