@@ -4,6 +4,7 @@ pub mod AgeRows
 pub mod DateLemmas
 pub mod DecisionLemmas
 pub mod LookLemmas
+pub mod NewestLemmas
 pub mod PieceLemmas
 pub mod ReasonLemmas
 pub mod SightLemmas

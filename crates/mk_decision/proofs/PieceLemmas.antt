@@ -20,6 +20,11 @@ pub if_ok : {T E : Type 0} {P Q : T → Type 0} (r : Result T E) → ((x : T) �
 if_ok (Ok x) then p = then x p
 if_ok (Err e) then p = tt
 
+pub if_ok_two : {T E : Type 0} {P Q R : T → Type 0} (r : Result T E) → ((x : T) → P x → Q x → R x)
+    → IfOk r P → IfOk r Q → IfOk r R
+if_ok_two (Ok x) then p q = then x p q
+if_ok_two (Err e) then p q = tt
+
 pub ok_from : {T E P : Type 0} (r : Result T E) → P → OnOk r P
 ok_from (Ok x) p = p
 ok_from (Err e) p = tt

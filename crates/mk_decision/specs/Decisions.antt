@@ -103,12 +103,13 @@ abbrev pub decided : Task → Option Why → Decision
 decided task None = Keep
 decided task (Some why) = Make task why
 
--- A node is kept where it has no commands, or where it has a task, of which these are the lines, and
--- is not out of date.
+-- A node without commands is kept without a look. One with commands is kept where it has a task, of
+-- which these are the lines, and is not out of date.
 abbrev pub IsKept : Work → ℕ → List Seen → List TaskLine → Type 0
 IsKept work node seen lines =
-    ((node_at work.plan node).commands ≡ [])
-    ⊎ ((task : Task) × IsJudged work node seen task None × (lines ≡ task.lines))
+    (((node_at work.plan node).commands ≡ []) × (seen ≡ []))
+    ⊎ ((0 < length (node_at work.plan node).commands)
+    × (task : Task) × IsJudged work node seen task None × (lines ≡ task.lines))
 
 -- Its lines are started where it has a task, which they are, and is out of date.
 abbrev pub IsBegun : Work → ℕ → List Seen → List TaskLine → Type 0

@@ -8,6 +8,7 @@ pub mod Known
 pub mod Looks
 pub mod Makers
 pub mod Metas
+pub mod Newest
 pub mod Reasons
 pub mod Sights
 pub mod Tests

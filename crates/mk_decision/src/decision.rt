@@ -4,6 +4,7 @@ ghost use Rattle.mk_decision.specs.Decisions.{decided, IsDecision};
 ghost use Rattle.mk_decision.specs.Judgements as spec;
 ghost use Rattle.mk_decision.specs.Looks.{LooksAt};
 ghost use Rattle.mk_decision.specs.Makers.{work_of};
+ghost use Rattle.mk_decision.specs.Newest.{decision_whens, raised_all};
 ghost use Rattle.mk_decision.specs.Sights.{SawSome};
 ghost use Rattle.mk_world.specs.Causes.{HasCause};
 ghost use Rattle.mk_world.specs.Looks.{Seen};
@@ -47,8 +48,8 @@ fn decision_by(judgement: Judgement) -> Decision
     }
 }
 
-/// The decision of a node, by looks at what decides it. The newest known time that was looked at raises
-/// `newest`.
+/// The decision of a node, by looks at what decides it. The newest known time that was told raises
+/// `newest`; looks for `exists` do not count.
 pub fn decide_on<W: World>(
     maker: &Maker,
     world: &mut W,
@@ -58,7 +59,9 @@ pub fn decide_on<W: World>(
     requires within { node < length maker.now.plan.now }
     ensures decided { IfOk result (λ decision. (seen : List Seen)
         × LooksAt W.meaning (W.history world.old) (W.history world.new) seen
-        × IsDecision (work_of maker.now) node seen decision) }
+        × (is : IsDecision (work_of maker.now) node seen decision)
+        × (newest.new.0 ≡ raised_all newest.old.0
+        (decision_whens (work_of maker.now) node seen decision is))) }
     ensures halted { OnErr result
         (SawSome W.meaning (W.history world.old) (W.history world.new)) }
     ensures cause { HasCause world_failed (W.faults world.old) (W.faults world.new) result }

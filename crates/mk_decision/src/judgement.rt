@@ -7,6 +7,7 @@ ghost use Rattle.mk_decision.specs.Judgements.{found_by, IsJudgement};
 ghost use Rattle.mk_decision.specs.Looks.{LooksAt};
 ghost use Rattle.mk_decision.specs.Makers.{work_of};
 ghost use Rattle.mk_decision.specs.Metas.{MetaSight, meta_looks};
+ghost use Rattle.mk_decision.specs.Newest.{judgement_whens, later_whens, node_whens, raised_all};
 ghost use Rattle.mk_decision.specs.Reasons.{IsMetaSight};
 ghost use Rattle.mk_decision.specs.Sights.{SawSome, seen_of};
 ghost use Rattle.mk_decision.specs.declared.judgement.Judgement.TheVariants.{Judged as judged, Refused as refuse};
@@ -128,6 +129,8 @@ fn judgement_of<W: World>(
         (found_by (mode_at (work_of maker.now) node) task target ages meta))) }
     ensures some { OnErr result
         (SawSome W.meaning (W.history world.old) (W.history world.new)) }
+    ensures newest { IfOk result (λ judgement.
+        newest.new.0 ≡ raised_all newest.old.0 (later_whens judgement)) }
     ensures cause { HasCause world_failed (W.faults world.old) (W.faults world.new) result }
     ensures children { (kids : List ℕ) → W.runs world.old kids → W.runs world.new kids }
 {
@@ -153,10 +156,15 @@ fn judgement_by<W: World>(
     requires walk { IsWalk maker.now.plan.now node times.now.target times.now.sources }
     ensures judged { IfOk result (λ judgement. (more : List Seen)
         × LooksAt W.meaning (W.history world.old) (W.history world.new) more
-        × IsJudgement (work_of maker.now) node
-        (seen_of maker.now.plan.now node times.now.target times.now.sources ++ more) judgement) }
+        × (is : IsJudgement (work_of maker.now) node
+        (seen_of maker.now.plan.now node times.now.target times.now.sources ++ more) judgement)
+        × ((n : ℕ) → raised_all n (judgement_whens (work_of maker.now) node
+        (seen_of maker.now.plan.now node times.now.target times.now.sources ++ more) judgement is)
+        ≡ raised_all n (node_whens times.now.target times.now.sources ++ later_whens judgement))) }
     ensures halted { OnErr result
         (SawSome W.meaning (W.history world.old) (W.history world.new)) }
+    ensures newest { IfOk result (λ judgement.
+        newest.new.0 ≡ raised_all newest.old.0 (later_whens judgement)) }
     ensures cause { HasCause world_failed (W.faults world.old) (W.faults world.new) result }
     ensures children { (kids : List ℕ) → W.runs world.old kids → W.runs world.new kids }
 {
@@ -167,8 +175,8 @@ fn judgement_by<W: World>(
     }
 }
 
-/// The judgement of a node, by looks at what decides it. The newest known time that was looked at raises
-/// `newest`.
+/// The judgement of a node, by looks at what decides it. The newest known time that was told raises
+/// `newest`; looks for `exists` do not count.
 pub fn judge_on<W: World>(
     maker: &Maker,
     world: &mut W,
@@ -178,7 +186,9 @@ pub fn judge_on<W: World>(
     requires within { node < length maker.now.plan.now }
     ensures judged { IfOk result (λ judgement. (seen : List Seen)
         × LooksAt W.meaning (W.history world.old) (W.history world.new) seen
-        × IsJudgement (work_of maker.now) node seen judgement) }
+        × (is : IsJudgement (work_of maker.now) node seen judgement)
+        × (newest.new.0 ≡ raised_all newest.old.0
+        (judgement_whens (work_of maker.now) node seen judgement is))) }
     ensures halted { OnErr result
         (SawSome W.meaning (W.history world.old) (W.history world.new)) }
     ensures cause { HasCause world_failed (W.faults world.old) (W.faults world.new) result }

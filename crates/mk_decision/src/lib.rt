@@ -10,8 +10,9 @@
 //! 3. In meta mode, and only where times give no reason to make it: its meta file is read, and its
 //!    time is asked.
 //! 4. Only where the meta file gives no reason either, and where it has records that count: the time
-//!    of each path that the job found outside, then of each that it missed there, then of each that
-//!    it left written, without the ignored paths.
+//!    at which each path that the job found outside was changed last, then each that it missed
+//!    there, then each that it left written, without the ignored paths. Such a path may be a source
+//!    too, whose own time was asked before: that is another look.
 //!
 //! A node is made exactly where the test of `mk_oodate` gives a reason by what was seen. A meta file
 //! that is missing, that is not of the form of `mk_meta`, or that is of another target counts as none.
@@ -32,4 +33,5 @@ mod wanted;
 pub use decision::{Decision, decide_on};
 pub use judgement::{Judgement, judge_on};
 pub use maker::{Maker, jobs_in};
+pub use newest::raise;
 pub use reason::Found;

@@ -2,6 +2,7 @@
 ghost use Rattle.std.specs.Prelude.{◌≡◌, ℕ, List, Option, IfOk, OnErr};
 ghost use Rattle.mk_decision.specs.Looks.{LooksAt};
 ghost use Rattle.mk_decision.specs.Metas as spec;
+ghost use Rattle.mk_decision.specs.Newest.{raised};
 ghost use Rattle.mk_decision.specs.Sights.{SawSome};
 ghost use Rattle.mk_meta.specs.TrueHistory as meta;
 ghost use Rattle.mk_world.specs.Causes.{HasCause};
@@ -42,6 +43,7 @@ fn look_at_file<W: World>(
         (spec.file_looks path.now bytes file.when)) }
     ensures some { OnErr result
         (SawSome W.meaning (W.history world.old) (W.history world.new)) }
+    ensures newest { IfOk result (λ file. newest.new.0 ≡ raised newest.old.0 file.when) }
     ensures cause { HasCause failed (W.faults world.old) (W.faults world.new) result }
     ensures children { (kids : List ℕ) → W.runs world.old kids → W.runs world.new kids }
 {
@@ -64,6 +66,7 @@ pub fn open_meta<W: World>(
         (spec.file_looks (meta.meta_path target.now) bytes file.when)) }
     ensures some { OnErr result
         (SawSome W.meaning (W.history world.old) (W.history world.new)) }
+    ensures newest { IfOk result (λ file. newest.new.0 ≡ raised newest.old.0 file.when) }
     ensures cause { HasCause failed (W.faults world.old) (W.faults world.new) result }
     ensures children { (kids : List ℕ) → W.runs world.old kids → W.runs world.new kids }
 {

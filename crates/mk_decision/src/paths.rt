@@ -1,8 +1,9 @@
 //! Looks at the paths that the records of a meta file name.
-ghost use Rattle.std.specs.Prelude.{◌≡◌, ◌∷◌, ℕ, List, [], Option, IfOk, OnErr, OnOk};
+ghost use Rattle.std.specs.Prelude.{◌≡◌, ◌∷◌, ◌++◌, ℕ, List, [], Option, IfOk, OnErr, OnOk};
 ghost use Rattle.mk_decision.specs.Dates.{AreDated, record_times};
 ghost use Rattle.mk_decision.specs.Looks.{LooksAt};
 ghost use Rattle.mk_decision.specs.Metas as spec;
+ghost use Rattle.mk_decision.specs.Newest.{raised_all};
 ghost use Rattle.mk_decision.specs.Sights.{SawSome};
 ghost use Rattle.mk_world.specs.Causes.{HasCause};
 ghost use Rattle.mk_world.specs.declared.fault.WorldFault.TheVariants.{Failed as failed};
@@ -15,7 +16,8 @@ use mk_oodate::{Whens, looked_at};
 use mk_world::{Time, World, WorldFault};
 use std::alloc::Global;
 
-// Looks at the time of one path more.
+// Looks at the time at which one path more was changed last: a file that another one was moved to
+// is new, however old its own time is.
 fn look_at<W: World>(
     alloc: Global,
     world: &mut W,
@@ -29,16 +31,18 @@ fn look_at<W: World>(
     ensures some { OnErr result ((start : Option History) (all rest : List (List ℕ))
         → AreDated W.meaning start (W.history world.old) all rest whens.old
         → SawSome W.meaning start (W.history world.new)) }
+    ensures newest { OnOk result ((start : ℕ)
+        → newest.old.0 ≡ raised_all start whens.old → newest.new.0 ≡ raised_all start whens.new) }
     ensures cause { HasCause failed (W.faults world.old) (W.faults world.new) result }
     ensures children { (kids : List ℕ) → W.runs world.old kids → W.runs world.new kids }
 {
-    let when = world.time(alloc, path)?;
+    let when = world.changed(alloc, path)?;
     raise(newest, when);
     whens.push(when)?;
     Ok(())
 }
 
-// Looks at the times of these paths, one after the other.
+// Looks at the times of the last changes of these paths, one after the other.
 fn look_at_all<W: World>(
     alloc: Global,
     world: &mut W,
@@ -49,6 +53,7 @@ fn look_at_all<W: World>(
         AreDated W.meaning (W.history world.old) (W.history world.new) paths.now [] whens) }
     ensures some { OnErr result
         (SawSome W.meaning (W.history world.old) (W.history world.new)) }
+    ensures newest { IfOk result (λ whens. newest.new.0 ≡ raised_all newest.old.0 whens) }
     ensures cause { HasCause failed (W.faults world.old) (W.faults world.new) result }
     ensures children { (kids : List ℕ) → W.runs world.old kids → W.runs world.new kids }
 {
@@ -59,7 +64,7 @@ fn look_at_all<W: World>(
     Ok(whens)
 }
 
-/// The times of the paths that records name.
+/// The times at which the paths that records name were changed last.
 #[derive(Drop)]
 pub struct RecordTimes {
     /// Of those that a job found outside.
@@ -70,7 +75,8 @@ pub struct RecordTimes {
     pub left: Whens,
 }
 
-/// Looks at the paths that records name, without those that begin with an ignored word.
+/// Asks when the paths that records name were changed last, without those that begin with an
+/// ignored word.
 pub fn look_at_records<W: World>(
     alloc: Global,
     world: &mut W,
@@ -84,6 +90,8 @@ pub fn look_at_records<W: World>(
         × (times ≡ record_times paths)) }
     ensures some { OnErr result
         (SawSome W.meaning (W.history world.old) (W.history world.new)) }
+    ensures newest { IfOk result (λ times. newest.new.0
+        ≡ raised_all newest.old.0 (times.reads ++ (times.misses ++ times.left))) }
     ensures cause { HasCause failed (W.faults world.old) (W.faults world.new) result }
     ensures children { (kids : List ℕ) → W.runs world.old kids → W.runs world.new kids }
 {

@@ -1,11 +1,12 @@
 //! Why a node is out of date. Each look is made only where what was seen before gives no reason.
-ghost use Rattle.std.specs.Prelude.{◌≡◌, ◌<◌, ℕ, List, [], Option, None, true, false, length, unwrap_or, IfOk, OnErr};
+ghost use Rattle.std.specs.Prelude.{◌≡◌, ◌<◌, ◌++◌, ℕ, List, [], Option, None, true, false, length, unwrap_or, IfOk, OnErr};
 ghost use Rattle.std.specs.Option.{option_copied};
 ghost use Rattle.mk_decision.specs.Decisions.{mode_at};
 ghost use Rattle.mk_decision.specs.Judgements.{found_by};
 ghost use Rattle.mk_decision.specs.Looks.{LooksAt};
 ghost use Rattle.mk_decision.specs.Makers.{work_of};
 ghost use Rattle.mk_decision.specs.Metas.{AreOf, MetaSight, PathTimes, meta_looks, no_paths, path_looks, records_in as records_of};
+ghost use Rattle.mk_decision.specs.Newest.{raised_all, times_whens};
 ghost use Rattle.mk_decision.specs.Reasons as spec;
 ghost use Rattle.mk_decision.specs.Sights.{SawSome};
 ghost use Rattle.mk_meta.specs.TrueHistory.{meta_path};
@@ -96,6 +97,8 @@ fn with_records<W: World>(
         × (after ≡ spec.with_paths paths times)) }
     ensures some { OnErr result
         (SawSome W.meaning (W.history world.old) (W.history world.new)) }
+    ensures newest { IfOk result (λ after. newest.new.0
+        ≡ raised_all newest.old.0 (after.reads ++ (after.misses ++ after.left))) }
     ensures cause { HasCause failed (W.faults world.old) (W.faults world.new) result }
     ensures children { (kids : List ℕ) → W.runs world.old kids → W.runs world.new kids }
 {
@@ -133,6 +136,8 @@ fn by_meta<W: World>(
         × (found ≡ found_by mode.now task.now times.target times.sources meta)) }
     ensures some { OnErr result
         (SawSome W.meaning (W.history world.old) (W.history world.new)) }
+    ensures newest { IfOk result (λ found. newest.new.0
+        ≡ raised_all newest.old.0 (times_whens found.times)) }
     ensures cause { HasCause failed (W.faults world.old) (W.faults world.new) result }
     ensures children { (kids : List ℕ) → W.runs world.old kids → W.runs world.new kids }
 {
@@ -178,6 +183,8 @@ pub fn find<W: World>(
         × (found ≡ found_by (mode_at (work_of maker.now) node) task.now target ages meta)) }
     ensures some { OnErr result
         (SawSome W.meaning (W.history world.old) (W.history world.new)) }
+    ensures newest { IfOk result (λ found. newest.new.0
+        ≡ raised_all newest.old.0 (times_whens found.times)) }
     ensures cause { HasCause failed (W.faults world.old) (W.faults world.new) result }
     ensures children { (kids : List ℕ) → W.runs world.old kids → W.runs world.new kids }
 {

@@ -1,6 +1,6 @@
 -- A build so far, and the decision of a node.
-use Rattle.std.proofs.Common.{◌≡◌, ◌∙◌, ℕ, ◌<◌, List, [], ◌∷◌, ◌++◌, length, get_or, set, Option, Some, None, false}
-use Rattle.std.proofs.Common.{inl, inr, refl, sym, ap, subst, append_assoc}
+use Rattle.std.proofs.Common.{◌≡◌, ◌∙◌, ℕ, ◌<◌, ◌≤◌, List, [], ◌∷◌, ◌++◌, length, get_or, set, Option, Some, None, false}
+use Rattle.std.proofs.Common.{inl, inr, refl, sym, ap, subst, append_assoc, arith}
 use Rattle.std.proofs.lemmas.List.{append-nil}
 use Rattle.mk_values.specs.declared.fault.ExpandFault.{ExpandFault}
 use Rattle.mk_plan.specs.Deciding.{may_decide}
@@ -13,6 +13,7 @@ use Rattle.mk_world.specs.Told.{Told}
 use Rattle.mk_world.specs.declared.history.History.{History}
 use Rattle.mk_world.specs.declared.command.TaskLine.{TaskLine}
 use Rattle.mk_decision.specs.Decisions.{Work, IsKept, IsBegun, IsRefused}
+use Rattle.mk_decision.specs.Newest.{begun_whens, raised_all}
 use Rattle.mk_trace.specs.Builds.{Build, Moment, moment, rules_of, or_next}
 use Rattle.mk_decision.specs.Looks.{LooksAt}
 use Rattle.mk_trace.specs.Calls.{Called, ChangeItem, LookItem, NoItem, NoneLeft, PartItem}
@@ -212,20 +213,23 @@ so_far-plain meaning work known nodes jobs failure n lines seen last first now n
     (λ tasks build has is. rw no_head.is (behind-begun work known nodes jobs failure n lines _ tasks seen _
     build within may apart has (rw no_head.no_meta refl) is begun some))
 
+pub less-behind : (a b c : ℕ) → a ≤ b → b < c → a < c
+less-behind a b c least less = omega (arith, least, less)
+
 -- and those of one with a meta file, whose head was written
 so_far-head : (meaning : Meaning) (work : Work) (known : Known) (nodes : List NodeState)
     (jobs : List Job) (failure : Option Failure) (n : ℕ) (lines : List TaskLine) (seen : List Seen)
-    (last : Option ℕ) (first now next : Moment) (collected : Collected)
+    (last : Option ℕ) (first now next : Moment) (newest : ℕ) (collected : Collected)
     → SoFar meaning work false first now last known (IsLookedAt known nodes jobs failure n seen)
     → n < length nodes → get_or nodes n Failed ≡ Undecided
     → may_decide (rules_of work) nodes ≡ Some n → AreApart n jobs → AreUnknown known nodes
-    → IsBegun work n seen lines → 0 < length lines
-    → HeadWritten meaning work now.history next.history n collected
+    → (begun : IsBegun work n seen lines) → 0 < length lines → raised_all 0 (begun_whens begun) ≤ newest
+    → HeadWritten meaning work now.history next.history n newest collected
     → next.events ≡ now.events → next.out ≡ now.out
     → SoFar meaning work false first next last (with_task known n lines)
     (IsBehind work (with_task known n lines) (set nodes n Open) jobs failure n lines collected 0)
-so_far-head meaning work known nodes jobs failure n lines seen last first now next collected so within
-    undecided may apart unknown begun some written events out =
+so_far-head meaning work known nodes jobs failure n lines seen last first now next newest collected so
+    within undecided may apart unknown begun some least written events out =
     let more = with_task known n lines in
     let change = head (first_path work n) (first_bytes work n) written.writes.time in
     let call = written.writes.call in
@@ -235,36 +239,37 @@ so_far-head meaning work known nodes jobs failure n lines seen last first now ne
     (ChangeItem n change) so call (rw call.is_own tt) (events ∙ rw call.is_own (sym (append-nil now.events)))
     (λ tasks has. has-before known n lines tasks (unknown n undecided) has)
     (λ tasks build has is. rw call.is_own (go_on-head work known nodes jobs failure n written.writes.time lines
-    tasks seen build within may apart has written.in_meta is begun some))
+    tasks seen build within may apart has written.in_meta is begun some
+    (less-behind _ newest written.writes.time least written.writes.later)))
     (λ tasks build has is. rw call.is_own (silent work tasks now next last (changes n change ∷ []) out refl
     (λ outputs p. refl))))
 
 -- the job of a node was opened, and its lines are to be started
 pub so_far-opened : (meaning : Meaning) (work : Work) (known : Known) (nodes : List NodeState)
     (jobs : List Job) (failure : Option Failure) (n : ℕ) (lines : List TaskLine) (seen : List Seen)
-    (last : Option ℕ) (first now next : Moment) (collected : Collected)
+    (last : Option ℕ) (first now next : Moment) (newest : ℕ) (collected : Collected)
     → SoFar meaning work false first now last known (IsLookedAt known nodes jobs failure n seen)
     → n < length nodes → get_or nodes n Failed ≡ Undecided
     → may_decide (rules_of work) nodes ≡ Some n → AreApart n jobs → AreUnknown known nodes
-    → IsBegun work n seen lines → 0 < length lines
-    → HasOpened meaning work now.history next.history n collected
+    → (begun : IsBegun work n seen lines) → 0 < length lines → raised_all 0 (begun_whens begun) ≤ newest
+    → HasOpened meaning work now.history next.history n newest collected
     → next.events ≡ now.events → next.out ≡ now.out
     → (more : Known) × AreUnknown more (set nodes n Open)
     × SoFar meaning work false first next last more
     (IsBehind work more (set nodes n Open) jobs failure n lines collected 0)
-so_far-opened meaning work known nodes jobs failure n lines seen last first now next collected so within
-    undecided may apart unknown begun some opened events out = (
+so_far-opened meaning work known nodes jobs failure n lines seen last first now next newest collected so
+    within undecided may apart unknown begun some least opened events out = (
       with_task known n lines,
       unknown-begun known (with_task known n lines) nodes n Open within (λ is. cc)
           (λ one other. rw (other_node n one other) refl) unknown,
       by opened,
     )
   where
-    by : HasOpened meaning work now.history next.history n collected
+    by : HasOpened meaning work now.history next.history n newest collected
         → SoFar meaning work false first next last (with_task known n lines)
         (IsBehind work (with_task known n lines) (set nodes n Open) jobs failure n lines collected 0)
     by (inl written) = so_far-head meaning work known nodes jobs failure n lines seen last first now next
-        collected so within undecided may apart unknown begun some written events out
+        newest collected so within undecided may apart unknown begun some least written events out
     by (inr none) = so_far-plain meaning work known nodes jobs failure n lines seen last first now next
         collected so within undecided may apart unknown begun some none events out
 
@@ -275,11 +280,12 @@ pub so_far-cut_head : (meaning : Meaning) (work : Work) (known : Known) (nodes :
     → SoFar meaning work false first now last known (IsLookedAt known nodes jobs failure n seen)
     → get_or nodes n Failed ≡ Undecided
     → may_decide (rules_of work) nodes ≡ Some n → AreUnknown known nodes
-    → IsBegun work n seen lines → IsUnopened meaning work now.history next.history n
+    → IsBegun work n seen lines → 0 < length lines
+    → IsUnopened meaning work now.history next.history n
     → next.events ≡ now.events → next.out ≡ now.out
     → SoFar meaning work false first next last (with_task known n lines) (λ tasks build. Unit {0})
 so_far-cut_head meaning work known nodes jobs failure n lines seen last first now next so undecided may
-    unknown begun part events out =
+    unknown begun some part events out =
     let more = with_task known n lines in
     let call = part.call in
     so_far-called meaning work false first now next last last known more
@@ -306,7 +312,7 @@ so_far-cut_head meaning work known nodes jobs failure n lines seen last first no
         → GoesOn work tasks build own (λ tasks build. Unit {0})
     goes tasks build has is own (inl none) = rw none (record { makes = tt; stands = tt })
     goes tasks build has is own (inr cut) = rw cut.3 (go_on-cut_head work known nodes jobs failure n cut.1
-        cut.0 lines tasks seen build may has part.in_meta is begun cut.2)
+        cut.0 lines tasks seen build may has part.in_meta is begun some cut.2)
 
     quiet : (tasks : run.Tasks) (own : List Item) → Part own
         → PrintsOwn work tasks false now next last last own
@@ -323,10 +329,11 @@ pub halted-opening : (meaning : Meaning) (work : Work) (halt : Halt) (known : Kn
     (IsLookedAt known nodes jobs failure n seen)
     → get_or nodes n Failed ≡ Undecided
     → may_decide (rules_of work) nodes ≡ Some n → AreUnknown known nodes
-    → IsBegun work n seen lines → IsUnopened meaning work history later n
+    → IsBegun work n seen lines → 0 < length lines → IsUnopened meaning work history later n
     → HaltedAt meaning work halt later events first out
 halted-opening meaning work halt known nodes jobs failure n lines seen last first history later out events
-    so undecided may unknown begun part =
+    so undecided may unknown begun some part =
     halted meaning work halt first later out events last (with_task known n lines) _
     (so_far-cut_head meaning work known nodes jobs failure n lines seen last first
-    (moment history out events) (moment later out events) so undecided may unknown begun part refl refl)
+    (moment history out events) (moment later out events) so undecided may unknown begun some part refl
+    refl)

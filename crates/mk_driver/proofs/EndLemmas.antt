@@ -10,16 +10,18 @@ use Rattle.mk_plan.specs.declared.plan.NodeState.TheVariants.{Undecided, Open, S
 use Rattle.mk_world.specs.declared.command.TaskLine.{TaskLine}
 use Rattle.mk_world.specs.declared.step.Ended.{Ended}
 use Rattle.mk_decision.specs.Decisions.{Work, IsBegun}
-use Rattle.mk_trace.specs.Builds.{Build, Duty, Own, free, remove, date, close, rules_of, or_next, opening, closing, behind_end, is_removed, build_after, with_collected, IsWhole}
+use Rattle.mk_decision.specs.Newest.{raised}
+use Rattle.mk_trace.specs.Builds.{Build, Duty, Own, free, remove, date, close, rules_of, or_next, opening, closing, behind_end, is_removed, build_after, with_collected, IsWhole, told_last, when_told}
 use Rattle.mk_trace.specs.Collected.{has_meta, with_end}
 use Rattle.mk_trace.specs.Items.{passes, ends, changes, looks, gone, whole, cut_whole}
 use Rattle.mk_trace.specs.declared.collected.Collected.{Collected}
 use Rattle.mk_meta.specs.Texts.{meta_text}
 use Rattle.mk_meta.specs.TrueHistory.{meta_path}
 use Rattle.mk_trace.specs.Collected.{IsCountable, meta_of}
-use Rattle.mk_world.specs.Looks.{dated}
+use Rattle.mk_world.specs.Looks.{Seen, dated}
 use Rattle.mk_world.specs.Sinks.{Begins}
 use Rattle.mk_world.specs.declared.time.When.{When}
+use Rattle.mk_world.specs.declared.time.When.TheVariants.{Missing}
 use Rattle.mk_driver.specs.Progress.{AreFreshBut, AreRunning, IsRunning, IsAt, IsClosing, IsGoing, IsPoised, IsBehind, IsFailing, IsEnding, Stands}
 use Rattle.mk_trace.specs.Growth.{Known, HasTasks}
 use Rattle.mk_trace.specs.Runs as run
@@ -367,12 +369,18 @@ closed-plain work known nodes jobs failure n lines collected tasks build plain i
 
 -- The time of the target of a job was asked, and its meta file is to be written.
 pub record IsDated (work : Work) (known : Known) (nodes : List NodeState) (jobs : List Job)
-    (failure : Option Failure) (n : ℕ) (lines : List TaskLine) (collected : Collected)
+    (failure : Option Failure) (n : ℕ) (lines : List TaskLine) (collected : Collected) (when : When)
     (tasks : run.Tasks) (build : Build) : Type 0
   where
     pub at : IsAt known nodes run.anything jobs failure (close n) tasks build
+    pub told : told_last Missing (build.seen n) ≡ when
     pub task : known n ≡ Some lines
     pub collected_is : (build.own n).collected ≡ collected
+
+told-behind : (when : When) (seen : List Seen) (one : Seen)
+    → told_last when (seen ++ one ∷ []) ≡ when_told one
+told-behind when [] one = refl
+told-behind when (first ∷ seen) one = told-behind (when_told first) seen one
 
 pub go_on-dates : (work : Work) (known : Known) (nodes : List NodeState) (jobs : List Job)
     (failure : Option Failure) (n : ℕ) (lines : List TaskLine) (collected : Collected) (when : When)
@@ -381,7 +389,7 @@ pub go_on-dates : (work : Work) (known : Known) (nodes : List NodeState) (jobs :
     → IsClosing work known nodes jobs failure n lines collected tasks build
     → GoesOn work tasks build
     (looks n (dated (record { path = (node_at work.plan n).name; when = when })) ∷ [])
-    (IsDated work known nodes jobs failure n lines collected)
+    (IsDated work known nodes jobs failure n lines collected when)
 go_on-dates work known nodes jobs failure n lines collected when tasks build settled in_meta is =
     let due : build.duty ≡ date n =
     is.at.stands.duty_is ∙ rw in_meta refl in
@@ -406,6 +414,7 @@ go_on-dates work known nodes jobs failure n lines collected when tasks build set
                 (rw (other_node n node other) was.0, was.1);
           };
         };
+        told = rw (same_node n) (told-behind Missing (build.seen n) _);
         task = is.task;
         collected_is = is.collected_is;
       };
@@ -432,10 +441,10 @@ whole_bytes work n lines collected = meta_text (meta_of work n lines collected)
 
 is-whole : (work : Work) (known : Known) (nodes : List NodeState) (jobs : List Job)
     (failure : Option Failure) (n : ℕ) (lines : List TaskLine) (collected : Collected)
-    (tasks : run.Tasks) (build : Build) → HasTasks tasks known → IsCountable collected
-    → length lines < 2 ^ 32 → IsDated work known nodes jobs failure n lines collected tasks build
+    (when : When) (tasks : run.Tasks) (build : Build) → HasTasks tasks known → IsCountable collected
+    → length lines < 2 ^ 32 → IsDated work known nodes jobs failure n lines collected when tasks build
     → IsWhole work tasks build n (whole_path work n) (whole_bytes work n lines collected)
-is-whole work known nodes jobs failure n lines collected tasks build has countable few is =
+is-whole work known nodes jobs failure n lines collected when tasks build has countable few is =
     let task : tasks n ≡ lines = has n lines is.task in
     record {
       path_is = refl;
@@ -445,17 +454,21 @@ is-whole work known nodes jobs failure n lines collected tasks build has countab
     }
 
 pub go_on-whole : (work : Work) (known : Known) (nodes : List NodeState) (jobs : List Job)
-    (failure : Option Failure) (n : ℕ) (lines : List TaskLine) (collected : Collected) (time : ℕ)
-    (tasks : run.Tasks) (build : Build) → HasTasks tasks known → IsCountable collected
-    → length lines < 2 ^ 32 → IsDated work known nodes jobs failure n lines collected tasks build
+    (failure : Option Failure) (n : ℕ) (lines : List TaskLine) (collected : Collected) (when : When)
+    (time : ℕ) (tasks : run.Tasks) (build : Build) → HasTasks tasks known → IsCountable collected
+    → length lines < 2 ^ 32 → raised 0 when < time
+    → IsDated work known nodes jobs failure n lines collected when tasks build
     → GoesOn work tasks build
     (changes n (whole (whole_path work n) (whole_bytes work n lines collected) time) ∷ [])
     (IsGoing known nodes run.anything jobs failure)
-go_on-whole work known nodes jobs failure n lines collected time tasks build has countable few is = record {
+go_on-whole work known nodes jobs failure n lines collected when time tasks build has countable few later is = record {
   makes = (
     tt,
     is.at.stands.duty_is,
-    is-whole work known nodes jobs failure n lines collected tasks build has countable few is,
+    (
+      is-whole work known nodes jobs failure n lines collected when tasks build has countable few is,
+      rw is.told later,
+    ),
     tt,
   );
   stands = record {
@@ -472,12 +485,13 @@ go_on-whole work known nodes jobs failure n lines collected time tasks build has
 
 pub go_on-cut_whole : (work : Work) (known : Known) (nodes : List NodeState) (jobs : List Job)
     (failure : Option Failure) (n : ℕ) (lines : List TaskLine) (collected : Collected)
-    (part : List ℕ) (time : ℕ) (tasks : run.Tasks) (build : Build) → HasTasks tasks known
-    → IsCountable collected → length lines < 2 ^ 32 → IsDated work known nodes jobs failure n lines collected tasks build
+    (when : When) (part : List ℕ) (time : ℕ) (tasks : run.Tasks) (build : Build) → HasTasks tasks known
+    → IsCountable collected → length lines < 2 ^ 32
+    → IsDated work known nodes jobs failure n lines collected when tasks build
     → Begins part (whole_bytes work n lines collected)
     → GoesOn work tasks build (changes n (cut_whole (whole_path work n) part time) ∷ [])
     (λ tasks build. Unit {0})
-go_on-cut_whole work known nodes jobs failure n lines collected part time tasks build has countable few
+go_on-cut_whole work known nodes jobs failure n lines collected when part time tasks build has countable few
     is begins =
     record {
       makes = (
@@ -485,7 +499,7 @@ go_on-cut_whole work known nodes jobs failure n lines collected part time tasks 
         is.at.stands.duty_is,
         (
           whole_bytes work n lines collected,
-          is-whole work known nodes jobs failure n lines collected tasks build has countable few is,
+          is-whole work known nodes jobs failure n lines collected when tasks build has countable few is,
           begins,
         ),
         tt,

@@ -16,7 +16,9 @@ use Rattle.mk_world.specs.declared.command.Cmd.{Cmd}
 use Rattle.mk_world.specs.declared.command.TaskLine.{TaskLine}
 use Rattle.mk_world.specs.declared.history.History.{History}
 use Rattle.mk_world.specs.declared.step.Ended.{Ended}
+use Rattle.mk_world.specs.declared.time.When.{When}
 use Rattle.mk_decision.specs.Decisions.{Work}
+use Rattle.mk_decision.specs.Newest.{raised}
 use Rattle.mk_trace.specs.Builds.{Build, Moment, Prints, free, remove, command_of, is_removed, or_next, rules_of, moment}
 use Rattle.mk_decision.specs.Makers.{jobs_of}
 use Rattle.mk_trace.specs.Calls.{Called, ChangeItem, EndItem, GoneItem, LookItem, NoItem, NoneLeft, PartItem, StartItem}
@@ -37,6 +39,7 @@ use Rattle.mk_driver.specs.declared.job.Job.{Job}
 use Rattle.mk_trace.specs.declared.result.Failure.{Failure}
 use Rattle.mk_trace.specs.declared.result.Failure.TheVariants.{JobFailed}
 use Rattle.mk_child.specs.declared.halt.Halt.{Halt}
+use Rattle.mk_driver.proofs.DecideLemmas.{less-behind}
 use Rattle.mk_driver.proofs.EndLemmas.{IsDated, closed-plain, collected_behind, go_on-cut_whole, go_on-dates, go_on-removes, go_on-whole, whole_bytes, whole_path}
 use Rattle.mk_driver.proofs.LineLemmas.{halted, so_far-ends, so_far-starts, so_far-waits}
 use Rattle.mk_trace.proofs.MakeLemmas.{so_far-nothing, so_far-weaken, silent, so_far-called}
@@ -302,16 +305,16 @@ so_far-dated : (meaning : Meaning) (work : Work) (known : Known) (nodes : List N
     → get_or nodes job.node Undecided ≡ Settled
     → SoFar meaning work false first now last known
     (IsClosing work known nodes jobs failure job.node job.task.lines job.collected)
-    → DateAsked meaning work now.history next.history job.node
+    → (asked : DateAsked meaning work now.history next.history job.node)
     → next.events ≡ now.events → next.out ≡ now.out
     → SoFar meaning work false first next last known
-    (IsDated work known nodes jobs failure job.node job.task.lines job.collected)
+    (IsDated work known nodes jobs failure job.node job.task.lines job.collected asked.when)
 so_far-dated meaning work known nodes jobs failure job last first now next settled so asked events out =
     let call = asked.call in
     let n = job.node in
     so_far-called meaning work false first now next last last known known
     (IsClosing work known nodes jobs failure n job.task.lines job.collected)
-    (IsDated work known nodes jobs failure n job.task.lines job.collected)
+    (IsDated work known nodes jobs failure n job.task.lines job.collected asked.when)
     (LookItem n (dated (record { path = (node_at work.plan n).name; when = asked.when }))) so call
     (rw call.is_own tt) (rw call.is_own (events ∙ sym (append-none now.events))) (λ tasks has. has)
     (λ tasks build has is. rw call.is_own (go_on-dates work known nodes jobs failure n job.task.lines
@@ -323,40 +326,41 @@ so_far-dated meaning work known nodes jobs failure job last first now next settl
 -- its whole meta file was written
 so_far-whole : (meaning : Meaning) (work : Work) (known : Known) (nodes : List NodeState)
     (jobs : List Job) (failure : Option Failure) (job : Job) (last : Option ℕ) (first now next : Moment)
-    (time : ℕ) → IsCountable job.collected → length job.task.lines < 2 ^ 32
-    → SoFar meaning work false first now last known
-    (IsDated work known nodes jobs failure job.node job.task.lines job.collected)
+    (when : When) (time : ℕ) → IsCountable job.collected → length job.task.lines < 2 ^ 32
+    → raised 0 when < time → SoFar meaning work false first now last known
+    (IsDated work known nodes jobs failure job.node job.task.lines job.collected when)
     → Called meaning now.history next.history (ChangeItem job.node
     (whole (whole_path work job.node) (whole_bytes work job.node job.task.lines job.collected) time))
     → next.events ≡ now.events → next.out ≡ now.out
     → SoFar meaning work false first next last known (IsGoing known nodes run.anything jobs failure)
-so_far-whole meaning work known nodes jobs failure job last first now next time countable few so call events
-    out =
+so_far-whole meaning work known nodes jobs failure job last first now next when time countable few later so
+    call events out =
     let n = job.node in
     let change = whole (whole_path work n) (whole_bytes work n job.task.lines job.collected) time in
     so_far-called meaning work false first now next last last known known
-    (IsDated work known nodes jobs failure n job.task.lines job.collected)
+    (IsDated work known nodes jobs failure n job.task.lines job.collected when)
     (IsGoing known nodes run.anything jobs failure) (ChangeItem n change) so call
     (rw call.is_own tt) (rw call.is_own (events ∙ sym (append-none now.events))) (λ tasks has. has)
     (λ tasks build has is. rw call.is_own (go_on-whole work known nodes jobs failure n job.task.lines
-    job.collected time tasks build has countable few is))
+    job.collected when time tasks build has countable few later is))
     (λ tasks build has is. rw call.is_own (silent work tasks now next last (changes n change ∷ []) out refl
     (λ outputs p. refl)))
 
 -- or a part of it stands, and the outside has ended the build
 so_far-cut_whole : (meaning : Meaning) (work : Work) (known : Known) (nodes : List NodeState)
     (jobs : List Job) (failure : Option Failure) (job : Job) (last : Option ℕ) (first now next : Moment)
-    → IsCountable job.collected → length job.task.lines < 2 ^ 32 → SoFar meaning work false first now last known
-    (IsDated work known nodes jobs failure job.node job.task.lines job.collected)
+    (when : When) → IsCountable job.collected → length job.task.lines < 2 ^ 32
+    → SoFar meaning work false first now last known
+    (IsDated work known nodes jobs failure job.node job.task.lines job.collected when)
     → Called meaning now.history next.history (PartItem job.node
     (λ part time. cut_whole (whole_path work job.node) part time)
     (whole_bytes work job.node job.task.lines job.collected))
     → next.events ≡ now.events → next.out ≡ now.out
     → SoFar meaning work false first next last known (λ tasks build. Unit {0})
-so_far-cut_whole meaning work known nodes jobs failure job last first now next countable few so call events
-    out =
+so_far-cut_whole meaning work known nodes jobs failure job last first now next when countable few so call
+    events out =
     so_far-called meaning work false first now next last last known known
-    (IsDated work known nodes jobs failure job.node job.task.lines job.collected)
+    (IsDated work known nodes jobs failure job.node job.task.lines job.collected when)
     (λ tasks build. Unit {0}) Part so call (stay call.own call.is_own) (events ∙ told call.own call.is_own) (λ tasks has. has)
     (λ tasks build has is. goes tasks build has is call.own call.is_own)
     (λ tasks build has is. quiet tasks call.own call.is_own)
@@ -374,11 +378,11 @@ so_far-cut_whole meaning work known nodes jobs failure job last first now next c
     told own (inr is) = rw is.3 (sym (append-none now.events))
 
     goes : (tasks : run.Tasks) (build : Build) → HasTasks tasks known
-        → IsDated work known nodes jobs failure job.node job.task.lines job.collected tasks build
+        → IsDated work known nodes jobs failure job.node job.task.lines job.collected when tasks build
         → (own : List Item) → Part own → GoesOn work tasks build own (λ tasks build. Unit {0})
     goes tasks build has is own (inl none) = rw none (record { makes = tt; stands = tt })
     goes tasks build has is own (inr cut) = rw cut.3 (go_on-cut_whole work known nodes jobs failure job.node
-        job.task.lines job.collected cut.0 cut.1 tasks build has countable few is cut.2)
+        job.task.lines job.collected when cut.0 cut.1 tasks build has countable few is cut.2)
 
     quiet : (tasks : run.Tasks) (own : List Item) → Part own
         → PrintsOwn work tasks false now next last last own
@@ -415,8 +419,9 @@ going-closed meaning work history later course schedule job first out token sche
         (IsGoing at.0 nodes run.anything course.jobs.items course.failure)
     by (inl written) =
         so_far-whole meaning work at.0 nodes course.jobs.items course.failure job course.last_shown
-        first (moment written.between out course.events.items) (moment later out course.events.items) written.writes.time
-        written.countable written.few (so_far-dated meaning work at.0 nodes course.jobs.items course.failure job course.last_shown first
+        first (moment written.between out course.events.items) (moment later out course.events.items)
+        written.asked.when written.writes.time written.countable written.few
+        (less-behind _ written.newest written.writes.time written.told written.writes.later) (so_far-dated meaning work at.0 nodes course.jobs.items course.failure job course.last_shown first
         (moment history out course.events.items) (moment written.between out course.events.items) settled at.2
         written.asked refl refl) written.writes.call refl refl
     by (inr plain) =
@@ -446,7 +451,7 @@ halted-closing meaning work halt history later course job first out token (inr p
     halted meaning work halt first later out course.events.items course.last_shown at.0 _
     (so_far-cut_whole meaning work at.0 nodes course.jobs.items course.failure job
     course.last_shown first (moment part.between out course.events.items) (moment later out course.events.items)
-    part.countable part.few (so_far-dated meaning work at.0 nodes course.jobs.items course.failure job course.last_shown first
+    part.asked.when part.countable part.few (so_far-dated meaning work at.0 nodes course.jobs.items course.failure job course.last_shown first
     (moment history out course.events.items) (moment part.between out course.events.items) settled at.2 part.asked
     refl refl) part.call refl refl)
 

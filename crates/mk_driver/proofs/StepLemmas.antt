@@ -12,6 +12,7 @@ use Rattle.mk_world.specs.Looks.{Seen}
 use Rattle.mk_world.specs.declared.command.Cmd.{Cmd}
 use Rattle.mk_world.specs.declared.command.TaskLine.{TaskLine}
 use Rattle.mk_decision.specs.Decisions.{Work, IsKept, IsBegun, IsRefused}
+use Rattle.mk_decision.specs.Newest.{begun_whens, raised_all}
 use Rattle.mk_meta.specs.Texts.{head as head_of}
 use Rattle.mk_meta.specs.TrueHistory.{meta_path}
 use Rattle.mk_plan.specs.Plans.{node_at}
@@ -266,23 +267,36 @@ first_bytes work n = head_of (node_at work.plan n).name
 abbrev pub first_path : Work → ℕ → List ℕ
 first_path work n = meta_path (node_at work.plan n).name
 
+-- what was seen of a node and its lines, by another name
+begun-moved : (work : Work) (n : ℕ) (seen other : List Seen) (lines more : List TaskLine)
+    → other ≡ seen → more ≡ lines → (begun : IsBegun work n seen lines)
+    → (moved : IsBegun work n other more) × (begun_whens moved ≡ begun_whens begun)
+begun-moved work n seen other lines more same task begun =
+    subst (λ o. (moved : IsBegun work n o more) × (begun_whens moved ≡ begun_whens begun)) (sym same)
+    (subst (λ m. (moved : IsBegun work n seen m) × (begun_whens moved ≡ begun_whens begun)) (sym task)
+    (begun, refl))
+
 is-head : (work : Work) (known : Known) (nodes : List NodeState) (jobs : List Job)
     (failure : Option Failure) (n : ℕ) (lines : List TaskLine) (tasks : run.Tasks)
     (seen : List Seen) (build : Build) → may_decide (rules_of work) nodes ≡ Some n
     → HasTasks tasks (with_task known n lines) → has_meta work n ≡ true
-    → IsLookedAt known nodes jobs failure n seen tasks build → IsBegun work n seen lines
-    → IsHead work tasks build n (first_path work n) (first_bytes work n)
-is-head work known nodes jobs failure n lines tasks seen build may has in_meta is begun_now =
+    → IsLookedAt known nodes jobs failure n seen tasks build → (begun : IsBegun work n seen lines)
+    → 0 < length lines → (is : IsHead work tasks build n (first_path work n) (first_bytes work n))
+    × (begun_whens is.reason ≡ begun_whens begun)
+is-head work known nodes jobs failure n lines tasks seen build may has in_meta is begun_now some =
     let mine : with_task known n lines n ≡ Some lines = rw (same_node n) refl in
     let task : tasks n ≡ lines = has n lines mine in
-    record {
-      may = (is.due_is, rw is.nodes_are may);
-      reason = subst (λ l. IsBegun work n l (tasks n)) (sym is.now)
-          (subst (IsBegun work n seen) (sym task) begun_now);
-      in_meta = in_meta;
-      path_is = refl;
-      bytes_are = refl;
-    }
+    let moved = begun-moved work n seen (build.seen n) lines (tasks n) is.now task begun_now in (
+      record {
+        may = (is.due_is, rw is.nodes_are may);
+        reason = moved.0;
+        some = rw task some;
+        in_meta = in_meta;
+        path_is = refl;
+        bytes_are = refl;
+      },
+      moved.1,
+    )
 
 -- the job of a node was opened with a head
 pub go_on-head : (work : Work) (known : Known) (nodes : List NodeState) (jobs : List Job)
@@ -290,18 +304,19 @@ pub go_on-head : (work : Work) (known : Known) (nodes : List NodeState) (jobs : 
     (seen : List Seen) (build : Build)
     → n < length nodes → may_decide (rules_of work) nodes ≡ Some n → AreApart n jobs
     → HasTasks tasks (with_task known n lines) → has_meta work n ≡ true
-    → IsLookedAt known nodes jobs failure n seen tasks build → IsBegun work n seen lines
-    → 0 < length lines
+    → IsLookedAt known nodes jobs failure n seen tasks build → (begun_now : IsBegun work n seen lines)
+    → 0 < length lines → raised_all 0 (begun_whens begun_now) < time
     → GoesOn work tasks build (changes n (head (first_path work n) (first_bytes work n) time) ∷ [])
     (IsBehind work (with_task known n lines) (set nodes n Open) jobs failure n lines (begun time) 0)
 go_on-head work known nodes jobs failure n time lines tasks seen build within may apart has in_meta is
-    begun_now some =
+    begun_now some later =
     let change = head (first_path work n) (first_bytes work n) time in
+    let new = is-head work known nodes jobs failure n lines tasks seen build may has in_meta is begun_now some in
     record {
       makes = (
         tt,
         is.stands.duty_is,
-        is-head work known nodes jobs failure n lines tasks seen build may has in_meta is begun_now,
+        (new.0, subst (λ l. raised_all 0 l < time) (sym new.1) later),
         tt,
       );
       stands = behind-begun work known nodes jobs failure n lines (begun time) tasks seen (begin n)
@@ -317,18 +332,18 @@ pub go_on-cut_head : (work : Work) (known : Known) (nodes : List NodeState) (job
     → may_decide (rules_of work) nodes ≡ Some n
     → HasTasks tasks (with_task known n lines) → has_meta work n ≡ true
     → IsLookedAt known nodes jobs failure n seen tasks build → IsBegun work n seen lines
-    → Begins part (first_bytes work n)
+    → 0 < length lines → Begins part (first_bytes work n)
     → GoesOn work tasks build (changes n (cut_head (first_path work n) part time) ∷ [])
     (λ tasks build. Unit {0})
 go_on-cut_head work known nodes jobs failure n time part lines tasks seen build may has in_meta is
-    begun_now begins =
+    begun_now some begins =
     record {
       makes = (
         tt,
         is.stands.duty_is,
         (
           first_bytes work n,
-          is-head work known nodes jobs failure n lines tasks seen build may has in_meta is begun_now,
+          (is-head work known nodes jobs failure n lines tasks seen build may has in_meta is begun_now some).0,
           begins,
         ),
         tt,

@@ -1,5 +1,5 @@
 -- What opening and closing a job leaves in the world.
-use Rattle.std.specs.Prelude.{◌≡◌, ◌⊎◌, ℕ, ◌<◌, ◌^◌, List, [], length, Option, None, true, false}
+use Rattle.std.specs.Prelude.{◌≡◌, ◌⊎◌, ℕ, ◌<◌, ◌≤◌, ◌^◌, List, [], length, Option, None, true, false}
 use Rattle.mk_meta.specs.Texts.{head as head_of, meta_text}
 use Rattle.mk_meta.specs.declared.meta.Meta.{Meta}
 use Rattle.mk_meta.specs.TrueHistory.{meta_path}
@@ -9,6 +9,7 @@ use Rattle.mk_world.specs.Talks.{Meaning}
 use Rattle.mk_world.specs.declared.history.History.{History}
 use Rattle.mk_world.specs.declared.time.When.{When}
 use Rattle.mk_decision.specs.Decisions.{Work}
+use Rattle.mk_decision.specs.Newest.{raised}
 use Rattle.mk_trace.specs.Calls.{Called, ChangeItem, LookItem, NoItem, PartItem}
 use Rattle.mk_trace.specs.Collected.{IsCountable, begun, has_meta, meta_of, nothing_collected}
 use Rattle.mk_trace.specs.Items.{head, whole, cut_head, cut_whole}
@@ -29,21 +30,22 @@ frame_of work job =
 abbrev pub text_of : Work → Job → List ℕ
 text_of work job = meta_text (meta_of work job.node job.task.lines job.collected)
 
--- a head was written
+-- a head was written, later than the newest time
 pub record WritesHead (meaning : Meaning) (work : Work) (before after : Option History) (node : ℕ)
-    (collected : Collected) : Type 0
+    (newest : ℕ) (collected : Collected) : Type 0
   where
     pub time : ℕ
     pub is : collected ≡ begun time
+    pub later : newest < time
     pub call : Called meaning before after
         (ChangeItem node (head (path_of work node) (first_of work node) time))
 
 -- with it the job of a node in meta mode begins
 pub record HeadWritten (meaning : Meaning) (work : Work) (before after : Option History) (node : ℕ)
-    (collected : Collected) : Type 0
+    (newest : ℕ) (collected : Collected) : Type 0
   where
     pub in_meta : has_meta work node ≡ true
-    pub writes : WritesHead meaning work before after node collected
+    pub writes : WritesHead meaning work before after node newest collected
 
 -- a node that is not in meta mode has a job without a meta file
 pub record NoHead (meaning : Meaning) (work : Work) (before after : Option History) (node : ℕ)
@@ -53,9 +55,9 @@ pub record NoHead (meaning : Meaning) (work : Work) (before after : Option Histo
     pub is : collected ≡ nothing_collected
     pub call : Called meaning before after NoItem
 
-abbrev pub HasOpened : Meaning → Work → Option History → Option History → ℕ → Collected → Type 0
-HasOpened meaning work before after node collected =
-    HeadWritten meaning work before after node collected
+abbrev pub HasOpened : Meaning → Work → Option History → Option History → ℕ → ℕ → Collected → Type 0
+HasOpened meaning work before after node newest collected =
+    HeadWritten meaning work before after node newest collected
     ⊎ NoHead meaning work before after node collected
 
 -- a head was not written, or a part of it stands
@@ -80,15 +82,16 @@ pub record DateAsked (meaning : Meaning) (work : Work) (before after : Option Hi
     pub call : Called meaning before after
         (LookItem node (dated (record { path = (node_at work.plan node).name; when = when })))
 
--- the whole meta file of a job was written
+-- the whole meta file of a job was written, later than the newest time
 pub record WritesWhole (meaning : Meaning) (work : Work) (before after : Option History) (job : Job)
-    : Type 0
+    (newest : ℕ) : Type 0
   where
     pub time : ℕ
+    pub later : newest < time
     pub call : Called meaning before after
         (ChangeItem job.node (whole (path_of work job.node) (text_of work job) time))
 
--- behind a look at the target's time
+-- behind a look at the target's time, to which the newest time is raised
 pub record WholeWritten (meaning : Meaning) (work : Work) (before after : Option History) (job : Job)
     : Type 0
   where
@@ -96,7 +99,9 @@ pub record WholeWritten (meaning : Meaning) (work : Work) (before after : Option
     pub asked : DateAsked meaning work before between job.node
     pub countable : IsCountable job.collected
     pub few : length job.task.lines < 2 ^ 32
-    pub writes : WritesWhole meaning work between after job
+    pub newest : ℕ
+    pub told : raised 0 asked.when ≤ newest
+    pub writes : WritesWhole meaning work between after job newest
 
 -- a job without a meta file is closed by nothing
 pub record NoWhole (meaning : Meaning) (work : Work) (before after : Option History) (job : Job)

@@ -16,22 +16,13 @@ ghost use Rattle.mk_world.specs.declared.fault.WorldFault.TheVariants.{Failed as
 use crate::course::Course;
 use crate::job::Job;
 use mk_bytes::{Items, NoMemory, Text};
-use mk_decision::Maker;
+use mk_decision::{Maker, raise};
 use mk_filemon::Recs;
 use mk_meta::{Meta, head, meta_path, write_meta};
 use mk_plan::is_meta;
 use mk_trace::Collected;
-use mk_world::{Lines, TaskLine, Time, When, World, WorldFault};
+use mk_world::{Lines, TaskLine, Time, World, WorldFault};
 use std::alloc::Global;
-
-// Raises the newest time to one that was told.
-fn note_time(newest: &mut Time, when: When) {
-    if let When::At(time) = when {
-        if newest.0 < time.0 {
-            *newest = time;
-        }
-    }
-}
 
 // Writes the head of the meta file of a node, later than the newest time: its time is the start stamp of
 // the job.
@@ -43,7 +34,7 @@ fn open_head<W: World>(
 ) -> Result<Collected, WorldFault>
     requires within { node < length maker.now.plan.now }
     ensures written { IfOk result (λ collected. WritesHead W.meaning (work_of maker.now)
-        (W.history world.old) (W.history world.new) node collected) }
+        (W.history world.old) (W.history world.new) node newest.old.0 collected) }
     ensures refused { OnErr result (WritesPartOfHead W.meaning (work_of maker.now)
         (W.history world.old) (W.history world.new) node) }
     ensures cause { HasCause world_failed (W.faults world.old) (W.faults world.new) result }
@@ -72,7 +63,7 @@ pub fn open_job<W: World>(
 ) -> Result<Collected, WorldFault>
     requires within { node < length maker.now.plan.now }
     ensures opened { IfOk result (λ collected. HasOpened W.meaning (work_of maker.now)
-        (W.history world.old) (W.history world.new) node collected) }
+        (W.history world.old) (W.history world.new) node newest.old.0 collected) }
     ensures refused { OnErr result (IsUnopened W.meaning (work_of maker.now)
         (W.history world.old) (W.history world.new) node) }
     ensures cause { HasCause world_failed (W.faults world.old) (W.faults world.new) result }
@@ -170,7 +161,7 @@ fn write_whole<W: World>(
 ) -> Result<(), WorldFault>
     requires within { job.node < length maker.now.plan.now }
     ensures written { OnOk result (WritesWhole W.meaning (work_of maker.now)
-        (W.history world.old) (W.history world.new) job) }
+        (W.history world.old) (W.history world.new) job newest.old.0) }
     ensures refused { OnErr result (WritesPartOfWhole W.meaning (work_of maker.now)
         (W.history world.old) (W.history world.new) job) }
     ensures countable { IsCountable job.collected }
@@ -207,7 +198,7 @@ fn close_meta<W: World>(
 {
     match world.time(maker.alloc, maker.plan.name(job.node)) {
         Ok(when) => {
-            note_time(newest, when);
+            raise(newest, when);
             write_whole(maker, world, newest, job)
         }
         Err(fault) => {

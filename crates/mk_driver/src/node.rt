@@ -2,7 +2,7 @@
 ghost use Rattle.std.specs.Prelude.{◌≡◌, ◌<◌, ◌≤◌, ℕ, List, length, OnOk, IfErr};
 ghost use Rattle.mk_child.specs.Halts.{of_world};
 ghost use Rattle.mk_decision.specs.Makers.{work_of};
-ghost use Rattle.mk_decision.specs.Decisions.{IsDecision};
+ghost use Rattle.mk_decision.specs.Newest.{IsDecidedUpTo};
 ghost use Rattle.mk_driver.specs.Progress.{Fits, FromAny, GoingAt, HaltedAt, SeenAt, undecided};
 ghost use Rattle.mk_sched.specs.Next.{next_of};
 ghost use Rattle.mk_sched.specs.declared.sched.Next.TheVariants.{Decide as decides};
@@ -31,11 +31,12 @@ fn carry_out<W: World>(
     requires exact { W.runs world.old kids.old.tickets }
     requires fits { Fits (work_of maker.now) course.old kids.old.tickets kids.old.room 0 }
     requires next { next_of course.old.sched ≡ decides node }
-    ensures goes { OnOk result ((seen : List Seen) → IsDecision (work_of maker.now) node seen decision
+    ensures goes { OnOk result ((seen : List Seen)
+        → IsDecidedUpTo (work_of maker.now) node seen decision course.old.newest.0
         → FromAny (SeenAt W.meaning (work_of maker.now) (W.history world.old) course.old node seen)
         (GoingAt W.meaning (work_of maker.now) (W.history world.new) course.new)) }
     ensures halted { IfErr result (λ fault. (seen : List Seen)
-        → IsDecision (work_of maker.now) node seen decision
+        → IsDecidedUpTo (work_of maker.now) node seen decision course.old.newest.0
         → FromAny (SeenAt W.meaning (work_of maker.now) (W.history world.old) course.old node seen)
         (HaltedAt W.meaning (work_of maker.now) (of_world fault) (W.history world.new) course.new.events.items)) }
     ensures fits { OnOk result (Fits (work_of maker.now) course.new kids.new.tickets kids.new.room 0) }

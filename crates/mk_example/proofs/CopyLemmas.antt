@@ -321,8 +321,8 @@ some-same {A} {one} {other} is = cc
 
 -- the lines of its task are those of the clean build
 judged-lines : (tasks : Tasks) → IsJudged work tasks 1 → tasks 1 ≡ lines
-judged-lines tasks (seen, inl (inl none)) = absurd cc
-judged-lines tasks (seen, inl (inr (task, judged, is))) =
+judged-lines tasks (seen, inl (inl none)) = let empty = none.0 in absurd cc
+judged-lines tasks (seen, inl (inr (some, task, judged, is))) =
     is ∙ ap (λ (it : Task × List Asked). it.0.lines)
     (same-ok _ _ (sym judged.has ∙ task-is (newer_of work 1 judged.sight.target judged.sight.sources) judged.sight.asked))
 judged-lines tasks (seen, inr (task, why, judged, is)) =

@@ -217,12 +217,12 @@ module _ (meaning : Meaning) (work : Work) (tasks : run.Tasks) (old : History)
   head-of done items build stand turns clean node time path bytes good makes may = record {
     within = within-plan meaning work tasks entry ready.idle ready.well_made ready.declared
         ready.mode.no_meta_names done build stand good.past node
-        (may-undecided (rules_of work) build.run.nodes node makes.2.may.1);
+        (may-undecided (rules_of work) build.run.nodes node makes.2.0.may.1);
     later = let less = may.0.0.0 in omega (arith, less);
     owned = owner-stays work tasks items (build_after work tasks build (changes node (head path bytes time)))
         node makes.3 (inl refl)
         ∙ head-owner build.own node time node refl;
-    meta = ap is_meta_path makes.2.path_is ∙ meta_path-is (name node);
+    meta = ap is_meta_path makes.2.0.path_is ∙ meta_path-is (name node);
   }
 
   item-owned : (done items : List Item) (build : Build) (stand : Stand) (turns : List Turn)
@@ -245,7 +245,7 @@ module _ (meaning : Meaning) (work : Work) (tasks : run.Tasks) (old : History)
   item-owned done items build stand turns clean (changes n (head path bytes time)) good owned makes may now =
       head-of done items build stand turns clean n time path bytes good makes may
   item-owned done items build stand turns clean (changes n (whole path bytes time)) good owned makes may now =
-      ap is_meta_path makes.2.path_is ∙ meta_path-is (name n)
+      ap is_meta_path makes.2.0.path_is ∙ meta_path-is (name n)
   item-owned done items build stand turns clean (changes n (cut_head path part time)) good owned makes may now =
       ap is_meta_path makes.2.1.path_is ∙ meta_path-is (name n)
   item-owned done items build stand turns clean (changes n (cut_whole path part time)) good owned makes may now =
@@ -456,7 +456,7 @@ module _ (meaning : Meaning) (work : Work) (tasks : run.Tasks) (old : History)
 
       may : (has_job (node_at work.plan node) ≡ true) ⊎ AllByRecursion IsNoChange during
       may = by (begins-job work tasks (during ++ after) (build_after work tasks built opens) node late.3 refl
-          late.2.may.0)
+          late.2.0.may.0)
         where
           by : (has_job (node_at work.plan node) ≡ true) ⊎ AllByRecursion IsNoChange (during ++ after)
               → (has_job (node_at work.plan node) ≡ true) ⊎ AllByRecursion IsNoChange during

@@ -535,14 +535,14 @@ module _ (meaning : Meaning) (work : Work) (tasks : run.Tasks) (entry : Stand)
       kept-on n done (changes m (head path bytes time)) build _ stand _ clean _ refl
       (λ has.
       put-elsewhere stand.files path (name n) bytes time
-      (ap is_meta_path makes.2.path_is ∙ meta_path-is (name m)) (no_meta n has))
-      (meta-other stand.files path bytes time m n makes.2.path_is
+      (ap is_meta_path makes.2.0.path_is ∙ meta_path-is (name m)) (no_meta n has))
+      (meta-other stand.files path bytes time m n makes.2.0.path_is
       (λ same. no_begin (ap begin (sym same)))
       (within-plan done build stand good.past m
-      (may-undecided (rules_of work) build.run.nodes m makes.2.may.1))
+      (may-undecided (rules_of work) build.run.nodes m makes.2.0.may.1))
       (within-plan done build stand good.past n undecided))
       (ap (λ l. l n) (now.looks other))
-      (λ at. no_begin (ap begin (sym (only n m build at.may.1 makes.2.may.1))))
+      (λ at. no_begin (ap begin (sym (only n m build at.may.1 makes.2.0.may.1))))
       (each n undecided
       (λ is. let both : free ≡ begin n = sym makes.1 ∙ is in absurd cc)
       (λ is. let both : free ≡ stop = sym makes.1 ∙ is in absurd cc))
@@ -550,8 +550,8 @@ module _ (meaning : Meaning) (work : Work) (tasks : run.Tasks) (entry : Stand)
       kept-on n done (changes m (whole path bytes time)) build _ stand _ clean _ refl
       (λ has.
       put-elsewhere stand.files path (name n) bytes time
-      (ap is_meta_path makes.2.path_is ∙ meta_path-is (name m)) (no_meta n has))
-      (meta-other stand.files path bytes time m n makes.2.path_is
+      (ap is_meta_path makes.2.0.path_is ∙ meta_path-is (name m)) (no_meta n has))
+      (meta-other stand.files path bytes time m n makes.2.0.path_is
       (λ same.
       (due m (inr makes.1)).1 (subst (λ k. slice_get build.run.nodes k ≡ Some Undecided) same undecided))
       (due m (inr makes.1)).0 (within-plan done build stand good.past n undecided))

@@ -161,7 +161,7 @@ module _ (meaning : Meaning) (work : Work) (tasks : run.Tasks) (old : History)
       → Each done build stand clean → run.MayDecide (rules_of work) build.run n → build.duty ≡ free
       → IsKept work n (build.seen n) (tasks n) → MayKeep meaning plan clean n
   kept-may done build stand turns clean n good each may duty (inl nil) =
-      let none : has_job (node_at work.plan n) ≡ false = ap (λ l. not (is_nil l)) nil in
+      let none : has_job (node_at work.plan n) ≡ false = ap (λ l. not (is_nil l)) nil.0 in
       none-keep meaning work tasks clean n none
   kept-may done build stand turns clean n good each may duty (inr judged) =
       by (has_job (node_at work.plan n)) refl
@@ -169,7 +169,7 @@ module _ (meaning : Meaning) (work : Work) (tasks : run.Tasks) (old : History)
       by : (has : Bool) → has_job (node_at work.plan n) ≡ has → MayKeep meaning plan clean n
       by false none = none-keep meaning work tasks clean n none
       by true has =
-          judged-may done build stand turns clean n good judged.0 judged.1 judged.2 has
+          judged-may done build stand turns clean n good judged.1 judged.2 judged.3 has
           (each n (may-undecided (rules_of work) build.run.nodes n may.1)
           (λ given. let both : free ≡ begin n = sym duty ∙ given in absurd cc)
           (λ given. let both : free ≡ stop = sym duty ∙ given in absurd cc))

@@ -164,7 +164,7 @@ head-before work tasks build n time node path bytes makes (inl is) same =
     let both : free ≡ begin node = sym makes.1 ∙ is in absurd cc
 head-before work tasks build n time node path bytes makes (inr decided) same =
     decided (subst (λ k. slice_get build.run.nodes k ≡ Some Undecided) same
-    (may-undecided (rules_of work) build.run.nodes n makes.2.may.1))
+    (may-undecided (rules_of work) build.run.nodes n makes.2.0.may.1))
 
 owner-on : (work : Work) (tasks : run.Tasks) (build : Build) (item : Item) (node : ℕ)
     → Makes work tasks build (item ∷ []) → IsOpened build node
@@ -517,7 +517,7 @@ module _ (meaning : Meaning) (work : Work) (tasks : run.Tasks) (entry : Stand)
 
       mine : OwnsChild n then_build stand.children
       mine one has here =
-          let undecided = may-undecided (rules_of work) build.run.nodes n makes.2.may.1 in
+          let undecided = may-undecided (rules_of work) build.run.nodes n makes.2.0.may.1 in
           let clash : Some Undecided ≡ Some Open = sym undecided ∙ has.0 in absurd cc
 
       -- no job began so late

@@ -658,11 +658,11 @@ module _ (meaning : Meaning) (work : Work) (tasks : run.Tasks) where
       → MayChange work tasks build n change → Turning build stand clean (changes n change)
   changed-by build stand clean n (gone path time) files nodes none follow may = absurd (none follow)
   changed-by build stand clean n (head path bytes time) files nodes none follow may =
-      put-turn build stand clean n (head path bytes time) path bytes nodes may.path_is refl
+      put-turn build stand clean n (head path bytes time) path bytes nodes may.0.path_is refl
       (put-files stand.files clean.files path bytes time files)
       (λ node. tickets-kept build.own n _ node) refl
   changed-by build stand clean n (whole path bytes time) files nodes none follow may =
-      put-turn build stand clean n (whole path bytes time) path bytes nodes may.path_is refl
+      put-turn build stand clean n (whole path bytes time) path bytes nodes may.0.path_is refl
       (put-files stand.files clean.files path bytes time files) (λ node. refl) refl
   changed-by build stand clean n (cut_head path part time) files nodes none follow may =
       put-turn build stand clean n (cut_head path part time) path part nodes may.1.path_is refl

@@ -162,8 +162,9 @@ module _ (files : FileMap) (work : Work) (node : ℕ) where
       → AreAnswered files other → IsKept work node one lines → IsTold work node other reason → ⊥
   kept-told one other lines reason answered fits (inl none) told =
       let some = told.commands in
-      let empty : length (node_at work.plan node).commands ≡ 0 = ap length none in omega (arith, some, empty)
-  kept-told one other lines reason answered fits (inr (task, judged, is)) told =
+      let empty : length (node_at work.plan node).commands ≡ 0 = ap length none.0 in
+      omega (arith, some, empty)
+  kept-told one other lines reason answered fits (inr (some, task, judged, is)) told =
       let same = judged-same files work node one other task told.task None (Some reason.why) answered fits judged
       told.judged in
       let wrong = same.why_is in cc

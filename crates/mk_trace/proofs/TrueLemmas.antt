@@ -719,7 +719,7 @@ module _ (meaning : Meaning) (work : Work) (tasks : run.Tasks) (entry : Stand)
       (λ stamp over. (over-more done build stand item good tt may (λ n. refl) stamp over, refl))
       (λ meta lawful here is.
       let new = whole-new total rest apart node time path bytes bytes item done build stand cut good makes.1
-      makes.2 (record { rest = []; is = sym (append-nil bytes) }) meta lawful is in
+      makes.2.0 (record { rest = []; is = sym (append-nil bytes) }) meta lawful is in
       (new.0, over-more done build stand item good tt may (λ n. refl) meta.stamp.0 new.1)) good.truth))
 
   good-cut_whole : (total rest : List Item) (apart : IsApart work tasks total)
@@ -764,7 +764,7 @@ module _ (meaning : Meaning) (work : Work) (tasks : run.Tasks) (entry : Stand)
         (true-changed meaning.next (old ++ happened_all done) stand.files (IsOver build stand)
         (IsOver build_then stand_then) event path (Some bytes) time refl
         (λ stamp over. (over_then stamp over, refl))
-        (λ meta lawful here is. absurd (head-none node path bytes bytes build meta makes.2
+        (λ meta lawful here is. absurd (head-none node path bytes bytes build meta makes.2.0
         (record { rest = []; is = sym (append-nil bytes) }) lawful is)) good.truth);
   }
     where
@@ -856,7 +856,7 @@ module _ (meaning : Meaning) (work : Work) (tasks : run.Tasks) (entry : Stand)
       mine : NodeOf node (done ++ item ∷ []) build_then stand.children
       mine =
           let zero_less : 0 < time = let less = later in omega (arith, less) in
-          let job = headed meaning.next work tasks node time path bytes done build stand.children zero_less makes.2 in
+          let job = headed meaning.next work tasks node time path bytes done build stand.children zero_less makes.2.0 in
           record {
             job = job;
             child = λ one has here.

@@ -7,15 +7,17 @@ use Rattle.mk_plan.specs.Deciding.{Rules}
 use Rattle.mk_plan.specs.Plans.{node_at}
 use Rattle.mk_sched.specs.Schedule.{predecessors}
 use Rattle.mk_world.specs.Talks.{Meaning}
-use Rattle.mk_world.specs.Looks.{Seen, dated}
+use Rattle.mk_world.specs.Looks.{Seen, dated, read}
 use Rattle.mk_world.specs.Sinks.{Begins, Gains, GainsPart}
 use Rattle.mk_world.specs.Told.{Told}
 use Rattle.mk_world.specs.declared.command.Cmd.{Cmd}
 use Rattle.mk_world.specs.declared.command.TaskLine.{TaskLine}
 use Rattle.mk_world.specs.declared.history.History.{History}
 use Rattle.mk_world.specs.declared.time.When.{When}
+use Rattle.mk_world.specs.declared.time.When.TheVariants.{Missing}
 use Rattle.mk_decision.specs.Decisions.{Work, IsKept, IsBegun, IsRefused}
 use Rattle.mk_decision.specs.Makers.{jobs_of}
+use Rattle.mk_decision.specs.Newest.{begun_whens, raised, raised_all}
 use Rattle.mk_trace.specs.Calls.{GivesUpLast}
 use Rattle.mk_trace.specs.Collected.{IsCountable, nothing_collected, begun, with_end, has_meta, meta_of}
 use Rattle.mk_trace.specs.Items.{Change, gone, head, whole, cut_head, cut_whole}
@@ -214,13 +216,14 @@ abbrev pub HasReason : Work → run.Tasks → Build → ℕ → ℕ → Type 0
 HasReason work tasks build node number =
     number ≡ 1 → IsBegun work node (build.seen node) (tasks node)
 
--- A job of a node in meta mode is opened when the node may be decided and is out of date: these bytes
--- are the head of its meta file.
+-- A job of a node in meta mode is opened when the node may be decided, is out of date and has a
+-- line: these bytes are the head of its meta file.
 pub record IsHead (work : Work) (tasks : run.Tasks) (build : Build) (node : ℕ) (path bytes : List ℕ)
     : Type 0
   where
     pub may : run.MayDecide (rules_of work) build.run node
     pub reason : IsBegun work node (build.seen node) (tasks node)
+    pub some : 0 < length (tasks node)
     pub in_meta : has_meta work node ≡ true
     pub path_is : path ≡ meta_path (node_at work.plan node).name
     pub bytes_are : bytes ≡ texts.head (node_at work.plan node).name
@@ -234,11 +237,33 @@ pub record IsWhole (work : Work) (tasks : run.Tasks) (build : Build) (node : ℕ
     pub countable : IsCountable (build.own node).collected
     pub few : length (tasks node) < 2 ^ 32
 
+-- The time of a head is later than each known time that was told for the decision of its node.
+abbrev pub IsLaterHead : (work : Work) (tasks : run.Tasks) (build : Build) (node : ℕ)
+    (path bytes : List ℕ) → ℕ → IsHead work tasks build node path bytes → Type 0
+IsLaterHead work tasks build node path bytes time is = raised_all 0 (begun_whens is.reason) < time
+
+abbrev pub when_told : Seen → When
+when_told (dated one) = one.when
+when_told (read path bytes) = Missing
+
+-- what was told by the last of some looks, or by none
+abbrev pub told_last : When → List Seen → When
+told_last when [] = when
+told_last when (one ∷ more) = told_last (when_told one) more
+
+-- The time of a whole meta file is later than that of the target, which was the last look of its
+-- node.
+abbrev pub IsLaterWhole : Build → ℕ → ℕ → Type 0
+IsLaterWhole build node time = raised 0 (told_last Missing (build.seen node)) < time
+
 -- what make changes for a node
 abbrev pub MayChange : Work → run.Tasks → Build → ℕ → Change → Type 0
 MayChange work tasks build node (gone path time) = path ≡ (node_at work.plan node).name
-MayChange work tasks build node (head path bytes time) = IsHead work tasks build node path bytes
-MayChange work tasks build node (whole path bytes time) = IsWhole work tasks build node path bytes
+MayChange work tasks build node (head path bytes time) =
+    (is : IsHead work tasks build node path bytes)
+    × IsLaterHead work tasks build node path bytes time is
+MayChange work tasks build node (whole path bytes time) =
+    IsWhole work tasks build node path bytes × IsLaterWhole build node time
 MayChange work tasks build node (cut_head path part time) =
     (bytes : List ℕ) × IsHead work tasks build node path bytes × Begins part bytes
 MayChange work tasks build node (cut_whole path part time) =

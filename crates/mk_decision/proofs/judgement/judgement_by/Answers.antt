@@ -4,7 +4,7 @@ use Rattle.mk_world.specs.Looks.{answered, dated}
 use Rattle.mk_decision.specs.Ages.{source_ages}
 use Rattle.mk_decision.specs.Decisions.{HasTask, newer_of}
 use Rattle.mk_decision.specs.Makers.{work_of}
-use Rattle.mk_decision.proofs.DecisionLemmas.{judged-fault, judged-task}
+use Rattle.mk_decision.proofs.DecisionLemmas.{fault-newest, judged-fault, judged-task}
 use Rattle.mk_decision.proofs.LookLemmas.{looks-asked, looks-none}
 use Rattle.mk_decision.proofs.PieceLemmas.{if_ok, on_err}
 use Rattle.mk_decision.proofs.SightLemmas.{some-behind}
@@ -61,3 +61,7 @@ returns-in-Ok-clause-halted g c =
     (some-behind g.W.World.meaning _ _ _ (map dated (answered asked.questions))
     (looks-asked g.W.World.meaning asked.questions _ _ asked.told))
     c.judgement_of.ensures.some
+
+pub returns-in-Err-clause-newest : goal.returns-in-Err-clause-newest
+returns-in-Err-clause-newest g c =
+    fault-newest c.in-Err.fault c.refused.result c.args.newest.now.0 c.refused.ensures

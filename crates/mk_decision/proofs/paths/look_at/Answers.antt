@@ -3,6 +3,7 @@ use Rattle.mk_world.proofs.SinkLemmas.{OnErr-from}
 use Rattle.mk_world.specs.Looks.{dated}
 use Rattle.mk_decision.proofs.DateLemmas.{dated-more}
 use Rattle.mk_decision.proofs.LookLemmas.{looks-refused, looks-timed}
+use Rattle.mk_decision.proofs.NewestLemmas.{raised-more}
 use Rattle.mk_decision.proofs.SightLemmas.{some-next}
 use Rattle.mk_decision.proofs.paths.look_at.Goals as goal
 
@@ -22,3 +23,8 @@ pub returns-clause-seen : goal.returns-clause-seen
 returns-clause-seen g c = λ start all rest so_far.
     dated-more g.W.World.meaning start _ _ all rest c.args.path.now c.in_ok-when.when c.args.whens.now
     c.push.new.self c.in_ok-when.ensures.done c.in_ok-push.ensures.ok so_far
+
+pub returns-clause-newest : goal.returns-clause-newest
+returns-clause-newest g c = λ start was.
+    raised-more start c.args.whens.now c.push.new.self c.in_ok-when.when _ _ c.in_ok-push.ensures.ok was
+    c.raise.ensures

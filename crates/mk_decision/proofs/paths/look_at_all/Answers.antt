@@ -17,5 +17,6 @@ loop-path-preserved g c =
     record {
       children = λ kids runs. c.in_ok-look_at.ensures.children kids (l.invariant.children kids runs);
       seen = c.in_ok-look_at.ensures.seen _ _ _ (rw are at l.invariant.seen);
+      newest = c.in_ok-look_at.ensures.newest _ l.invariant.newest;
       faults = grind (arith, common_steps);
     }

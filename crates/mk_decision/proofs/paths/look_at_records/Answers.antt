@@ -2,6 +2,7 @@ use Rattle.std.proofs.Common.{map}
 use Rattle.mk_world.proofs.SinkLemmas.{OnErr-from}
 use Rattle.mk_world.specs.Looks.{dated}
 use Rattle.mk_decision.proofs.DateLemmas.{records-seen}
+use Rattle.mk_decision.proofs.NewestLemmas.{raised-three}
 use Rattle.mk_decision.proofs.SightLemmas.{some-behind}
 use Rattle.mk_decision.proofs.paths.look_at_records.Goals as goal
 
@@ -30,3 +31,8 @@ returns-clause-seen g c =
     (rw c.as_slice.ensures.value at c.in_ok-reads.ensures.seen)
     (rw c.as_slice-2.ensures.value at c.in_ok-misses.ensures.seen)
     (rw c.as_slice-3.ensures.value at c.in_ok-left.ensures.seen)
+
+pub returns-clause-newest : goal.returns-clause-newest
+returns-clause-newest g c =
+    raised-three _ _ _ _ c.in_ok-reads.reads c.in_ok-misses.misses c.in_ok-left.left
+    c.in_ok-reads.ensures.newest c.in_ok-misses.ensures.newest c.in_ok-left.ensures.newest

@@ -1,12 +1,15 @@
-use Rattle.std.proofs.Common.{◌≡◌, ◌∙◌, Some, None, is_some, true, ap, sym}
+use Rattle.std.proofs.Common.{◌≡◌, ◌∙◌, List, ◌++◌, Some, None, is_some, true, ap, sym}
 use Rattle.mk_meta.specs.TrueHistory.{meta_path}
 use Rattle.mk_world.proofs.SinkLemmas.{OnErr-from}
 use Rattle.mk_oodate.specs.Stale.{stale}
 use Rattle.mk_oodate.specs.declared.reason.Times.{Times}
 use Rattle.mk_plan.specs.Plans.{node_at}
+use Rattle.mk_world.specs.declared.time.When.{When}
 use Rattle.mk_decision.specs.Metas.{file_looks, no_paths, path_looks}
+use Rattle.mk_decision.specs.Newest.{raised, raised_all}
 use Rattle.mk_decision.specs.Reasons.{first_times, with_paths}
 use Rattle.mk_decision.proofs.LookLemmas.{looks-then}
+use Rattle.mk_decision.proofs.NewestLemmas.{raised-first}
 use Rattle.mk_decision.proofs.ReasonLemmas.{found-is, judged-by_file, judged-by_paths, none-from}
 use Rattle.mk_decision.proofs.SightLemmas.{some-behind}
 use Rattle.mk_decision.proofs.reason.by_meta.Goals as goal
@@ -61,3 +64,15 @@ returns-clause-seen g c =
       found-is _ _ _ _ file.value
           (c.reason_by.ensures ∙ ap (stale file.value task mode) after) after,
     )
+
+pub returns-then-is_some-clause-newest : goal.returns-then-is_some-clause-newest
+returns-then-is_some-clause-newest g c =
+    c.in_ok-file.ensures.newest ∙ raised-first _ c.args.times _ _ c.requires.bare
+
+pub returns-clause-newest : goal.returns-clause-newest
+returns-clause-newest g c =
+    let after = c.in_ok-times.times in
+    let paths : List When = after.reads ++ (after.misses ++ after.left) in
+    let meta = ap (λ (t : Times). t.meta) c.in_ok-times.ensures.seen.3 in
+    c.in_ok-times.ensures.newest ∙ ap (λ k. raised_all k paths)
+    (c.in_ok-file.ensures.newest ∙ ap (raised c.args.newest.now.0) (sym meta))

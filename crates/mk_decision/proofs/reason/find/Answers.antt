@@ -1,5 +1,7 @@
 use Rattle.std.proofs.Common.{◌≡◌, ◌∙◌, ◌||◌, not, None, is_some, true, false, ap, refl, sym}
 use Rattle.mk_oodate.specs.Stale.{stale}
+use Rattle.mk_oodate.specs.declared.reason.Times.{Times}
+use Rattle.mk_decision.specs.Newest.{raised_all, times_whens}
 use Rattle.mk_decision.specs.Reasons.{by_times}
 use Rattle.mk_decision.proofs.LookLemmas.{looks-none}
 use Rattle.mk_decision.proofs.PieceLemmas.{if_ok}
@@ -35,3 +37,7 @@ returns-clause-seen g c =
       seen.2,
       rw (c.in_ok-times.ensures, c.node_mode-mode.ensures) at seen.3,
     )) c.by_meta.ensures.seen
+
+pub returns-then-not-mode-clause-newest : goal.returns-then-not-mode-clause-newest
+returns-then-not-mode-clause-newest g c =
+    sym (ap (λ (t : Times). raised_all c.args.newest.now.0 (times_whens t)) c.in_ok-times.ensures)

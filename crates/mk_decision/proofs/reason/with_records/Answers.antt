@@ -1,6 +1,7 @@
 use Rattle.std.proofs.Common.{subst}
 use Rattle.mk_decision.specs.Metas.{AreOf, no_paths}
 use Rattle.mk_decision.proofs.LookLemmas.{looks-none}
+use Rattle.mk_decision.proofs.NewestLemmas.{raised-bare}
 use Rattle.mk_decision.proofs.ReasonLemmas.{none-of}
 use Rattle.mk_decision.proofs.reason.with_records.Goals as goal
 
@@ -12,3 +13,7 @@ returns-in_default-clause-seen g c =
       looks-none g.W.World.meaning _,
       c.requires.bare,
     )
+
+pub returns-in_default-clause-newest : goal.returns-in_default-clause-newest
+returns-in_default-clause-newest g c =
+    raised-bare c.args.newest.now.0 c.args.times c.args.times c.requires.bare

@@ -1,4 +1,5 @@
 use Rattle.std.proofs.Common.{inl, inr}
+use Rattle.mk_decision.proofs.NewestLemmas.{raised-on}
 use Rattle.mk_decision.proofs.PieceLemmas.{on_err, on_ok}
 use Rattle.mk_trace.proofs.WorldLemmas.{called-look, called-nothing}
 use Rattle.mk_driver.proofs.meta.close_meta.Goals as goal
@@ -19,6 +20,8 @@ returns-in-Ok-clause-written g c =
       };
       countable = c.write_whole.ensures.countable;
       few = c.write_whole.ensures.few;
+      newest = _;
+      told = raised-on _ _ c.in-Ok.when c.raise.ensures;
       writes = written;
     }) c.write_whole.ensures.written
 

@@ -31,6 +31,7 @@ returns-in_err-time-clause-refused g c =
 pub returns-clause-written : goal.returns-clause-written
 returns-clause-written g c = record {
   time = c.in_ok-time.time.0;
+  later = c.in_ok-time.ensures.later;
   is = rw (c.new-output.ensures, c.in_ok-records.ensures.empty) refl;
   call = called-head g.W.World.meaning _ _ c.args.node _ _ c.in_ok-time.time.0
       (rw (

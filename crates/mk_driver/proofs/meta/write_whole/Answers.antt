@@ -26,6 +26,7 @@ returns-in_err-time-clause-refused g c =
 pub returns-clause-written : goal.returns-clause-written
 returns-clause-written g c = record {
   time = c.in_ok-time.time.0;
+  later = c.in_ok-time.ensures.later;
   call = called-whole g.W.World.meaning _ _ c.args.job.node _ _ c.in_ok-time.time.0
       (rw (
         c.bytes.ensures.value,

@@ -1,8 +1,8 @@
-use Rattle.std.proofs.Common.{List, ◌∙◌, ◌<◌, refl, sym, ap, subst}
+use Rattle.std.proofs.Common.{◌∙◌, ◌<◌, refl, sym, ap, subst}
 use Rattle.std.proofs.lemmas.Result.{err_from_is_err_and}
 use Rattle.mk_sched.proofs.DecideLemmas.{decided}
-use Rattle.mk_world.specs.declared.command.TaskLine.{TaskLine}
-use Rattle.mk_decision.specs.Decisions.{IsKept}
+use Rattle.mk_decision.specs.Newest.{IsDecidedUpTo}
+use Rattle.mk_decision.specs.declared.decision.Decision.TheVariants.{Keep}
 use Rattle.mk_world.specs.declared.fault.WorldFault.TheVariants.{NoMemory as no_memory}
 use Rattle.mk_trace.specs.Builds.{rules_of, moment}
 use Rattle.mk_child.specs.Halts.{of_world}
@@ -52,11 +52,11 @@ returns-in_ok-tell-in-Keep-clause-goes g c =
     λ seen dec first out at.
     rw c.kept.ensures (
     let apart = (fits-begun _ _ _ _ _ _ _ c.requires.fits c.requires.next).1.apart in
-    let kept : (lines : List TaskLine) × IsKept work n seen lines = rw c.in-Keep.is at dec in
+    let kept : IsDecidedUpTo work n seen Keep course.newest.0 = rw c.in-Keep.is at dec in
     so_far-keeps g.W.World.meaning work at.0 course.sched.nodes course.jobs.items course.failure n
-    kept.0 seen course.last_shown first (moment history out course.events.items)
+    kept.0.0 seen course.last_shown first (moment history out course.events.items)
     (moment history out c.tell.new.events.items) at.2 d.within d.undecided may
-    apart at.1 kept.1 refl c.in_ok-tell-in-Keep.ensures.ok refl)
+    apart at.1 kept.0.1 refl c.in_ok-tell-in-Keep.ensures.ok refl)
 
 pub returns-in_ok-tell-in-Keep-clause-fits : goal.returns-in_ok-tell-in-Keep-clause-fits
 returns-in_ok-tell-in-Keep-clause-fits g c =
@@ -83,7 +83,7 @@ returns-in-Ok-clause-goes g c =
       so_far-refuses g.W.World.meaning work at.0 course.sched.nodes course.jobs.items course.failure n
           c.in-Refuse.number c.in-Refuse.what seen
           course.last_shown first (moment history out course.events.items)
-          (moment history out c.tell-in-Refuse.new.events.items) at.2 d.within may (rw c.in-Refuse.is at dec) refl
+          (moment history out c.tell-in-Refuse.new.events.items) at.2 d.within may (rw c.in-Refuse.is at dec).0 refl
           c.in-Ok.ensures.ok refl,
     )
 
@@ -118,7 +118,7 @@ returns-in-Err-clause-halted g c =
     halted-opening g.W.World.meaning work (of_world c.in-Err.fault) at.0 course.sched.nodes course.jobs.items
     course.failure n c.in-Make.task.lines seen course.last_shown first
     (g.W.World.history c.args.world.now) (g.W.World.history c.open_job.new.world) out course.events.items at.2
-    d.undecided may at.1 made.0 c.in-Err.ensures.refused
+    d.undecided may at.1 made.0.0 made.0.1 c.in-Err.ensures.refused
 
 pub run_on-requires-clause-fits : goal.run_on-requires-clause-fits
 run_on-requires-clause-fits g c =
@@ -148,8 +148,9 @@ returns-in-Ok-open_job-clause-goes g c =
     goes first out (rw c.started.ensures
     (so_far-opened g.W.World.meaning work at.0 course.sched.nodes course.jobs.items course.failure n
     c.in-Make.task.lines seen course.last_shown first (moment (g.W.World.history c.args.world.now) out course.events.items)
-    (moment (g.W.World.history c.open_job.new.world) out course.events.items) c.in-Ok-open_job.collected at.2
-    d.within d.undecided may apart at.1 made.0 made.1 c.in-Ok-open_job.ensures.opened refl refl)))
+    (moment (g.W.World.history c.open_job.new.world) out course.events.items) course.newest.0
+    c.in-Ok-open_job.collected at.2 d.within d.undecided may apart at.1 made.0.0 made.0.1 made.1
+    c.in-Ok-open_job.ensures.opened refl refl)))
     c.run_on.ensures.goes
 
 pub returns-in-Ok-open_job-clause-halted : goal.returns-in-Ok-open_job-clause-halted
@@ -165,8 +166,9 @@ returns-in-Ok-open_job-clause-halted g c =
     halts first out (rw c.started.ensures
     (so_far-opened g.W.World.meaning work at.0 course.sched.nodes course.jobs.items course.failure n
     c.in-Make.task.lines seen course.last_shown first (moment (g.W.World.history c.args.world.now) out course.events.items)
-    (moment (g.W.World.history c.open_job.new.world) out course.events.items) c.in-Ok-open_job.collected at.2
-    d.within d.undecided may apart at.1 made.0 made.1 c.in-Ok-open_job.ensures.opened refl refl)))
+    (moment (g.W.World.history c.open_job.new.world) out course.events.items) course.newest.0
+    c.in-Ok-open_job.collected at.2 d.within d.undecided may apart at.1 made.0.0 made.0.1 made.1
+    c.in-Ok-open_job.ensures.opened refl refl)))
     c.run_on.ensures.halted
 
 pub returns-in-Ok-open_job-clause-nodes : goal.returns-in-Ok-open_job-clause-nodes

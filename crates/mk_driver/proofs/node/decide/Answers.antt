@@ -7,6 +7,7 @@ use Rattle.mk_driver.proofs.DecideLemmas.{so_far-looks}
 use Rattle.mk_driver.proofs.EndingLemmas.{within-plan}
 use Rattle.mk_driver.proofs.LineLemmas.{halted}
 use Rattle.mk_driver.proofs.NodeLemmas.{may_decide-of}
+use Rattle.mk_decision.proofs.NewestLemmas.{decided-up_to}
 use Rattle.mk_decision.proofs.PieceLemmas.{on_ok, if_err}
 use Rattle.mk_driver.proofs.node.decide.Goals as goal
 
@@ -43,8 +44,9 @@ returns-clause-goes g c =
     let may = may_decide-of (rules_of work) course.sched c.args.node c.requires.fits.rules_are
     c.requires.next in
     let dec = c.in_ok-decision.ensures.decided in
+    let up_to = decided-up_to work c.args.node dec.0 c.in_ok-decision.decision _ _ dec.2 dec.3 in
     on_ok c.carry_out.result (λ goes first out at.
-    goes dec.0 dec.2 first out (
+    goes dec.0 up_to first out (
       at.0,
       at.1,
       so_far-looks g.W.World.meaning work at.0 course.sched.nodes course.jobs.items course.failure
@@ -62,8 +64,9 @@ returns-clause-halted g c =
     let may = may_decide-of (rules_of work) course.sched c.args.node c.requires.fits.rules_are
     c.requires.next in
     let dec = c.in_ok-decision.ensures.decided in
+    let up_to = decided-up_to work c.args.node dec.0 c.in_ok-decision.decision _ _ dec.2 dec.3 in
     if_err c.carry_out.result (λ fault halts first out at.
-    halts dec.0 dec.2 first out (
+    halts dec.0 up_to first out (
       at.0,
       at.1,
       so_far-looks g.W.World.meaning work at.0 course.sched.nodes course.jobs.items course.failure
