@@ -48,7 +48,7 @@ is_look call.Forks = false
 is_look call.Parts = false
 is_look call.Hides = false
 is_look call.Other = false
-is_look other = true
+is_look _ = true
 
 abbrev pub missed : Form → List ℕ → Option Act
 missed form words =
@@ -88,14 +88,14 @@ done_to call.Folders name words = act.MakesFolder name
 done_to call.Removes name words = removes name (has (codes "AT_REMOVEDIR") words)
 done_to call.RemovesFolder name words = removes name true
 done_to call.Enters name words = act.Enters name
-done_to other name words = act.Nothing
+done_to _ name words = act.Nothing
 
 abbrev pub moves : Name → Name → List ℕ → Act
 moves from to words = act.Moves from to (has (codes "RENAME_EXCHANGE") words)
 
 abbrev pub done_to_both : Call → Name → Name → List ℕ → Act
 done_to_both call.Moves from to words = moves from to words
-done_to_both other from to words = act.Links from to
+done_to_both _ from to words = act.Links from to
 
 abbrev pub both : Form → Name → List ℕ → Option Act
 both form from words =
@@ -106,7 +106,7 @@ abbrev pub done_to_named_by : Call → Form → List ℕ → Name → List ℕ �
 done_to_named_by call.Opens form end name rest = opened name rest end
 done_to_named_by call.Moves form end name rest = both form name rest
 done_to_named_by call.Links form end name rest = both form name rest
-done_to_named_by other form end name rest = Some (done_to other name rest)
+done_to_named_by what form end name rest = Some (done_to what name rest)
 
 abbrev pub done_to_named : Form → List ℕ → Name × List ℕ → Option Act
 done_to_named form end (name, rest) = done_to_named_by form.call form end name rest
@@ -123,7 +123,7 @@ pointed by_open words = option_and_then
 
 abbrev pub done_in : Call → Name → Act
 done_in call.Lists name = act.Lists name
-done_in other name = act.Enters name
+done_in _ name = act.Enters name
 
 abbrev pub done_to_open : Call → List ℕ → Option Act
 done_to_open what words = option_map (λ first. done_in what (open_in first.0)) (cut true Plain words)
@@ -153,7 +153,7 @@ done_by call.Forks form name words end = forked name words end
 done_by call.Parts form name words end = parted name words
 done_by call.Hides form name words end = hides name
 done_by call.Other form name words end = Some act.Nothing
-done_by other form name words end = done_by_names form words end
+done_by _ form name words end = done_by_names form words end
 
 abbrev pub done : List ℕ → List ℕ → List ℕ → Option Act
 done name words end = done_by (form_of name).call (form_of name) name words end
