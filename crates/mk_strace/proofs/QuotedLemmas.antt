@@ -1,8 +1,6 @@
 -- Texts in quotes, one byte after the other.
 use Rattle.std.proofs.Common.{◌≡◌, ℕ, ◌<◌, ◌-◌, ◌≤◌, List, [], ◌∷◌, ◌++◌, length, take, drop, get_or}
-use Rattle.std.proofs.Common.{Option, Some, None, refl, sym, ◌∙◌, ap, arith, append_assoc}
-use Rattle.std.proofs.Common.{option_and_then}
-use Rattle.std.proofs.lemmas.List.{append-nil}
+use Rattle.std.proofs.Common.{Option, Some, None, refl, ap, arith, append_assoc}
 use Rattle.std.specs.Option.{option_map}
 use Rattle.mk_strace.specs.Quoted.{bytes_of, bytes_meant, last_of, meant_by, unquoted_behind}
 use Rattle.mk_strace.specs.declared.quoted.Escape.{Escape}

@@ -1,13 +1,13 @@
 -- Words of a call, cut off at their ends, and what stands behind a word.
 use Rattle.std.proofs.Common.{◌≡◌, ℕ, ◌<◌, ◌+◌, ◌-◌, ◌≤◌, nat_eq, Bool, true, false, List, suc, [], ◌∷◌, ◌++◌}
-use Rattle.std.proofs.Common.{length, take, drop, get_or, Option, Some, None}
-use Rattle.std.proofs.Common.{refl, sym, ◌∙◌, ap, arith, append_assoc}
+use Rattle.std.proofs.Common.{length, take, drop, get_or, Some, None}
+use Rattle.std.proofs.Common.{refl, sym, ap, arith, append_assoc}
 use Rattle.std.proofs.Math.Seq.{drop-cons}
 use Rattle.std.proofs.lemmas.List.{append-nil, take_more, drop_all}
 use Rattle.std.proofs.lemmas.Grind.{common_steps}
 use Rattle.std.specs.List.{starts_with}
 use Rattle.std.specs.Option.{option_map}
-use Rattle.mk_strace.specs.Scan.{End, Cut, end_at, or_later, cut, after, behind}
+use Rattle.mk_strace.specs.Scan.{Cut, end_at, or_later, cut, after, behind}
 use Rattle.mk_strace.specs.declared.scan.Mode.{Mode}
 
 -- a word behind bytes that are its first ones

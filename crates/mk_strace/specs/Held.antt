@@ -1,5 +1,5 @@
 -- What the texts that are kept stand for.
-use Rattle.std.specs.Prelude.{ℕ, List, [], unwrap_or}
+use Rattle.std.specs.Prelude.{[], unwrap_or}
 use Rattle.std.specs.Map.{lookup}
 use Rattle.std.specs.Str.{bytes_eq}
 use Rattle.mk_strace.specs.Kept.{Texts}

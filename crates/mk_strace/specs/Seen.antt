@@ -1,5 +1,4 @@
 -- What a line is, as its bytes.
-use Rattle.std.specs.Prelude.{ℕ, List}
 use Rattle.mk_strace.specs.Lines.{Line}
 use Rattle.mk_strace.specs.Lines as line
 use Rattle.mk_strace.specs.declared.line.Kind.{Kind}

@@ -1,4 +1,4 @@
-use Rattle.std.proofs.Common.{◌∙◌, sym, ap}
+use Rattle.std.proofs.Common.{◌∙◌}
 use Rattle.mk_strace.proofs.QuotedLemmas.{byte-read, byte-refused, text-ends, text-open}
 use Rattle.mk_strace.proofs.quoted.unquoted.Goals as goal
 

@@ -1,6 +1,6 @@
-use Rattle.std.proofs.Common.{◌≡◌, Some, None, ◌∙◌, sym, ap, drop}
-use Rattle.mk_strace.specs.Scan.{end_at, cut}
-use Rattle.mk_strace.proofs.ScanLemmas.{rest_is, with_start, cut-found, cut-later, cut-none}
+use Rattle.std.proofs.Common.{◌≡◌, Some, None, ◌∙◌, sym, drop}
+use Rattle.mk_strace.specs.Scan.{end_at}
+use Rattle.mk_strace.proofs.ScanLemmas.{rest_is, cut-found, cut-later, cut-none}
 use Rattle.mk_strace.proofs.scan.cut.Goals as goal
 
 pub returns-in-Some : goal.returns-in-Some
