@@ -32,12 +32,14 @@ records_at state = if state.running == 0 then Some (records_of state.table) else
 abbrev pub records_behind : List Event → State → Option (List Record)
 records_behind events state = option_and_then records_at (run events state)
 
+abbrev pub judged_from : List ℕ → List Touched → Event → List Event → Option (List Record)
+judged_from directory before first events =
+    if is_run first.act then records_behind events (beginning directory before first.process)
+    else None
+
 -- The records of a command that begins in a directory, behind some touches. Its first event is the
 -- program that is run; each process is begun before or by a call that has not ended, it is known where
 -- all names lead, and in the end no process runs.
 abbrev pub judged : List ℕ → List Touched → List Event → Option (List Record)
 judged directory before [] = None
-judged directory before (event ∷ events) =
-    if is_run event.act
-    then records_behind (event ∷ events) (beginning directory before event.process)
-    else None
+judged directory before (event ∷ events) = judged_from directory before event (event ∷ events)

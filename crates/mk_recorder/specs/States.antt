@@ -28,16 +28,22 @@ pub record State : Type 0 where
 abbrev pub state_by : Bool → State → Option State
 state_by fine state = if fine then Some state else None
 
-abbrev pub birth_or : List ℕ → List ℕ → Act → Option (List ℕ × Bool) → Option (List ℕ × Bool)
-birth_or process parent (act.Forks child is_shared) later =
-    if bytes_eq child process then Some (parent, is_shared) else later
-birth_or process parent other later = later
+abbrev pub birth_by : List ℕ → List ℕ → Act → Option (List ℕ × Bool)
+birth_by process parent (act.Forks child is_shared) =
+    if bytes_eq child process then Some (parent, is_shared) else None
+birth_by process parent other = None
+
+abbrev pub birth_in : List ℕ → Event → Option (List ℕ × Bool)
+birth_in process event = birth_by process event.process event.act
+
+abbrev pub or_later : Option (List ℕ × Bool) → Option (List ℕ × Bool) → Option (List ℕ × Bool)
+or_later None later = later
+or_later (Some birth) later = Some birth
 
 -- who begins a process, in what is left of a trace, and whether it shares its directory
-unfoldable pub birth_of : List ℕ → List Event → Option (List ℕ × Bool)
+abbrev pub birth_of : List ℕ → List Event → Option (List ℕ × Bool)
 birth_of process [] = None
-birth_of process (event ∷ events) =
-    birth_or process event.process event.act (birth_of process events)
+birth_of process (event ∷ events) = or_later (birth_in process event) (birth_of process events)
 
 -- a process begins only where its parent runs and no process of its number does
 abbrev pub may_begin : List ℕ → List ℕ → State → Bool
@@ -111,11 +117,13 @@ acted process directory (act.Takes from) state = ended from state
 acted process directory (act.Enters name) state = entered process directory name state
 acted process directory other state = touched directory other state
 
+abbrev pub acted_known : List ℕ → Act → State → Option State
+acted_known process what state = acted process (directory_of process state) what state
+
 -- One more event, before others.
 abbrev pub step : Event → List Event → State → Option State
-step event rest state = option_and_then
-    (λ now. acted event.process (directory_of event.process now) event.act now)
-    (appeared event.process rest state)
+step event rest state =
+    option_and_then (acted_known event.process event.act) (appeared event.process rest state)
 
 -- All events in order; none where one may not be.
 abbrev pub run : List Event → State → Option State

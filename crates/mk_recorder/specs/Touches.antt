@@ -103,8 +103,11 @@ with_move touches table directory from to =
     move_at touches table (place_of directory from) (place_of directory to)
 
 -- What is done behind some calls is not seen, which is told as a read of a path that is never there.
+abbrev pub hidden_path : List ℕ → List ℕ
+hidden_path call = (codes "/what cannot be seen (" ++ call) ++ codes ")"
+
 abbrev pub hidden : List ℕ → List Touched
-hidden call = touched ((codes "/what cannot be seen (" ++ call) ++ codes ")") touch.Read
+hidden call = touched (hidden_path call) touch.Read
 
 abbrev pub with_rest : List Touched → List ℕ → Act → Touches
 with_rest touches directory (act.Enters name) = with_touch touches directory name touch.Folder

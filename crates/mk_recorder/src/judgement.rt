@@ -77,6 +77,26 @@ fn records_behind(
         .and(Ok(Some(records)))
 }
 
+// The records of a command of which this is the first event.
+fn judge_from(
+    alloc: Global,
+    directory: &[u8],
+    before: &Touches,
+    first: &Event,
+    events: &[Event],
+) -> Result<Option<Records>, NoMemory>
+    ensures { IfOk result (λ records. records
+        ≡ spec.judged_from directory.now before.now first.now events.now) }
+{
+    if !is_run(&first.act) {
+        return Ok(None);
+    }
+    let mut state = beginning(alloc, directory, before, first.process.bytes())?;
+    let records = records_behind(alloc, &mut state, events);
+    drop(state);
+    records
+}
+
 /// The records of a command that begins in a directory, behind these touches: each path once, with what
 /// the command read, missed, wrote and took away. `None` where the first event is no program that is
 /// run, a process does something that does not run, it is not known where a name leads, or a process
@@ -90,14 +110,8 @@ pub fn judge(
     ensures { IfOk result (λ records. records
         ≡ spec.judged directory.now before.now events.now) }
 {
-    let [first, ..] = events.as_slice() else {
-        return Ok(None);
-    };
-    if !is_run(&first.act) {
-        return Ok(None);
+    match events.as_slice().first() {
+        Some(first) => judge_from(alloc, directory, before, first, events.as_slice()),
+        None => Ok(None),
     }
-    let mut state = beginning(alloc, directory, before, first.process.bytes())?;
-    let records = records_behind(alloc, &mut state, events.as_slice());
-    drop(state);
-    records
 }

@@ -28,19 +28,28 @@ pub struct State {
     pub table: Table,
 }
 
+// Who begins a process by an event, and whether it shares its directory.
+fn birth_in<'e>(process: &[u8], event: &'e Event) -> Option<(&'e [u8], bool)>
+    ensures { option_map (λ birth. (birth.0.now, birth.1)) result
+        ≡ spec.birth_in process.now event.now }
+{
+    match &event.act {
+        Act::Forks { child, is_shared } if child.bytes() == process => {
+            Some((event.process.bytes(), *is_shared))
+        }
+        _ => None,
+    }
+}
+
 /// Who begins a process, in what is left of a trace, and whether it shares its directory.
 pub fn birth_of<'e>(process: &[u8], events: &'e [Event]) -> Option<(&'e [u8], bool)>
     ensures { option_map (λ birth. (birth.0.now, birth.1)) result
         ≡ spec.birth_of process.now events.now }
 {
-    let mut rest = events;
-    'events: while let [event, after @ ..] = rest {
-        if let Act::Forks { child, is_shared } = &event.act {
-            if child.bytes() == process {
-                return Some((event.process.bytes(), *is_shared));
-            }
+    for event in events {
+        if let Some(birth) = birth_in(process, event) {
+            return Some(birth);
         }
-        rest = after;
     }
     None
 }
@@ -196,6 +205,22 @@ fn act_in(
     }
 }
 
+// What a process that is known does, in its directory.
+fn act_known(
+    alloc: Global,
+    state: &mut State,
+    process: &[u8],
+    act: &Act,
+) -> Result<bool, NoMemory>
+    ensures { IfOk result (λ fine. spec.state_by fine (state_in state.new)
+        ≡ spec.acted_known process.now act.now (state_in state.old)) }
+{
+    let directory = directory_of(alloc, state, process)?;
+    let fine = act_in(alloc, state, process, directory.bytes(), act);
+    drop(directory);
+    fine
+}
+
 /// One more event, before these others. Whether it may be: its process runs or is begun, and it is known
 /// where its names lead.
 pub fn step(
@@ -207,12 +232,8 @@ pub fn step(
     ensures { IfOk result (λ fine. spec.state_by fine (state_in state.new)
         ≡ spec.step event.now rest.now (state_in state.old)) }
 {
-    let process = event.process.bytes();
-    if !appear(alloc, state, process, rest)? {
+    if !appear(alloc, state, event.process.bytes(), rest)? {
         return Ok(false);
     }
-    let directory = directory_of(alloc, state, process)?;
-    let fine = act_in(alloc, state, process, directory.bytes(), &event.act);
-    drop(directory);
-    fine
+    act_known(alloc, state, event.process.bytes(), &event.act)
 }

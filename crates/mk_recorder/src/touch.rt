@@ -269,13 +269,21 @@ fn push_move(
     }
 }
 
-// What is done behind this is not seen, which is told as a read of a path that is never there.
-fn push_hidden(alloc: Global, out: &mut Touches, call: &[u8]) -> Result<(), NoMemory>
-    ensures { OnOk result (out.new ≡ out.old ++ spec.hidden call.now) }
+// A path that is never there.
+fn hidden_path(alloc: Global, call: &[u8]) -> Result<Text, NoMemory>
+    ensures { IfOk result (λ path. path ≡ spec.hidden_path call.now) }
 {
     let mut path = Text::from_bytes(alloc, b"/what cannot be seen (")?;
     path.push(call)?;
     path.push(b")")?;
+    Ok(path)
+}
+
+// What is done behind this is not seen, which is told as a read of a path that is never there.
+fn push_hidden(alloc: Global, out: &mut Touches, call: &[u8]) -> Result<(), NoMemory>
+    ensures { OnOk result (out.new ≡ out.old ++ spec.hidden call.now) }
+{
+    let path = hidden_path(alloc, call)?;
     out.push(Touched {
         path,
         touch: Touch::Read,
