@@ -18,7 +18,7 @@ pub enum Stand {
 }
 
 /// What stands at a path, behind symbolic links.
-pub fn stand<R: Files>(rt: &R, path: &[u8]) -> Stand {
+pub fn stands_at<R: Files>(rt: &R, path: &[u8]) -> Stand {
     let Ok(path) = str::from_utf8(path) else {
         return Stand::Unknown;
     };

@@ -12,7 +12,11 @@ pub struct Log {
     count: u64,
 }
 
-fn has_newline(path: &[u8]) -> bool {
+/// What is told of a path that holds a newline: a read of a path that is never there.
+pub const NO_FORM: &[u8] = b"/a path with a newline has no record";
+
+/// Whether a path holds a newline, so that no line can hold it.
+pub fn has_newline(path: &[u8]) -> bool {
     path.iter().any(|byte| *byte == b'\n')
 }
 
@@ -32,7 +36,7 @@ impl Log {
     /// path that is never there.
     pub fn push(&mut self, letter: &[u8], path: &[u8]) -> Result<(), NoMemory> {
         if has_newline(path) {
-            return self.push_line(b"R", b"/a path with a newline has no record");
+            return self.push_line(b"R", NO_FORM);
         }
         self.push_line(letter, path)
     }

@@ -1,5 +1,5 @@
 //! Where a command is looked for.
-use crate::file::{Stand, stand};
+use crate::file::{Stand, stands_at};
 use crate::refusal::Refusal;
 use mk_bytes::{Items, Text};
 use mk_filemon::{cut_at, directory_from};
@@ -21,7 +21,7 @@ pub fn found(
 ) -> Result<bool, Refusal> {
     if word.iter().any(|byte| *byte == b'/') {
         let path = directory_from(rt.alloc(), cwd, word)?;
-        return Ok(!matches!(stand(rt, path.bytes()), Stand::Missing));
+        return Ok(!matches!(stands_at(rt, path.bytes()), Stand::Missing));
     }
     let Ok(variable) = env::var(rt, "PATH") else {
         return Ok(true);
@@ -33,7 +33,7 @@ pub fn found(
             None => (rest, None),
         };
         let path = candidate(rt, cwd, part, word)?;
-        match stand(rt, path.bytes()) {
+        match stands_at(rt, path.bytes()) {
             Stand::File => return Ok(true),
             Stand::Missing => misses.push(Touched {
                 path,

@@ -1,5 +1,5 @@
 //! The standard streams that a command has from its beginning.
-use crate::file::{Stand, bytes_of, stand};
+use crate::file::{Stand, bytes_of, stands_at};
 use crate::refusal::Refusal;
 use mk_bytes::{Text, begins};
 use mk_filemon::cut_at;
@@ -46,7 +46,7 @@ fn path_of(rt: &HostRuntime, link: &str, own: &[u8]) -> Result<Option<Text>, Ref
         return Ok(None);
     };
     let bytes = path.as_str().as_bytes();
-    if !begins(b"/", bytes) || begins(own, bytes) || !matches!(stand(rt, bytes), Stand::File) {
+    if !begins(b"/", bytes) || begins(own, bytes) || !matches!(stands_at(rt, bytes), Stand::File) {
         return Ok(None);
     }
     Ok(Some(Text::from_bytes(rt.alloc(), bytes)?))

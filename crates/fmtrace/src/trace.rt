@@ -1,7 +1,7 @@
 //! Records of a trace.
-use crate::file::{Stand, stand};
+use crate::file::{Stand, stands_at};
 use crate::interpreter::push_interpreters;
-use crate::log::{Log, keeps_deleted, keeps_read, keeps_written};
+use crate::log::{Log, NO_FORM, has_newline, keeps_deleted, keeps_read, keeps_written};
 use crate::refusal::Refusal;
 use mk_bytes::{Items, NoMemory, Text, Texts};
 use mk_filemon::push_decimal;
@@ -50,7 +50,7 @@ fn push_record(log: &mut Log, record: &Record, stand: Stand) -> Result<(), NoMem
 // Adds reads of the interpreters of the programs that were run.
 fn push_programs(rt: &HostRuntime, log: &mut Log, records: &[Record]) -> Result<(), NoMemory> {
     let alloc = rt.alloc();
-    let mut buffer = Vec::filled(alloc, 0, HEAD)?;
+    let mut buffer = vec![in alloc; 0u8; HEAD]?;
     let mut paths: Texts = Items::new(alloc, 0)?;
     for record in records {
         if record.is_run {
@@ -67,18 +67,9 @@ fn push_programs(rt: &HostRuntime, log: &mut Log, records: &[Record]) -> Result<
 /// Adds the records of a command to a log, as far as what stands at their paths agrees.
 pub fn push_all(rt: &HostRuntime, log: &mut Log, records: &[Record]) -> Result<(), NoMemory> {
     for record in records {
-        push_record(log, record, stand(rt, record.path.bytes()))?;
+        push_record(log, record, stands_at(rt, record.path.bytes()))?;
     }
     push_programs(rt, log, records)
-}
-
-// What stands at the path of a record, where no file is looked at.
-fn stand_by(record: &Record) -> Stand {
-    if record.is_folder {
-        Stand::Folder
-    } else {
-        Stand::Unknown
-    }
 }
 
 fn push_line(text: &mut Text, letter: &[u8], path: &[u8]) -> Result<(), NoMemory> {
@@ -88,6 +79,9 @@ fn push_line(text: &mut Text, letter: &[u8], path: &[u8]) -> Result<(), NoMemory
 
 fn line_up(text: &mut Text, record: &Record) -> Result<(), NoMemory> {
     let path = record.path.bytes();
+    if has_newline(path) {
+        return push_line(text, b"R", NO_FORM);
+    }
     if record.is_read {
         push_line(text, b"R", path)?;
     }
