@@ -1,124 +1,85 @@
 #!/usr/bin/env bash
-# The recorder tools/fmtrace: on traces of strace that stand in tests/fmtrace, each with the records that
-# are wanted beside it, and on real commands. Run it at the top of the repository. Its last line is
-# 'N passed, M failed'.
+# The recorder fmtrace: on traces of strace that stand in tests/fmtrace, each with the records that are
+# wanted beside it, and on real commands, each with its records below its folder. Run it at the top of
+# the repository, where the programs stand at crates/fmtrace/out/fmtrace and crates/bmake/out/bmake.
+# Its last line is 'N passed, M failed'.
 set -u
-fmtrace=$PWD/tools/fmtrace
+fmtrace=${FMTRACE:-$PWD/crates/fmtrace/out/fmtrace}
+program=${BMAKE:-$PWD/crates/bmake/out/bmake}
+stored=$PWD/tests/fmtrace
 room=$(mktemp -d) || exit 1
 room=$(cd "$room" && pwd -P)
 trap 'rm -rf "$room"' EXIT
-unset BMAKE_FILEMON
+unset BMAKE_FILEMON MAKEFLAGS
 export LC_ALL=C
-export TMPDIR=$room/tmp
-mkdir "$TMPDIR"
 passed=0
 failed=0
 
-# The records of a log of which the paths are below a directory, as make reads them: against the
-# directory of the process, cleaned, and named from that directory. It stands here by itself, so that a
-# form that the recorder alone knows shows as a difference.
-records() {
-    perl -e '
-        my ($top, %inside) = @ARGV;
-        sub clean {
-            my @parts;
-            for (split m{/}, $_[0]) { $_ eq ".." ? pop @parts : $_ eq "" || $_ eq "." || push @parts, $_ }
-            return "/" . join "/", @parts;
-        }
-        sub path {
-            my ($process, $path) = @_;
-            $path = clean($path =~ m{^/} ? $path : ($inside{$process} // $top) . "/$path");
-            return $path =~ s{^\Q$top\E/}{} ? $path : undef;
-        }
-        sub show {
-            my ($letter, @paths) = @_;
-            print join(" ", $letter, @paths), "\n" if !grep { !defined } @paths;
-        }
-        while (<STDIN>) {
-            chomp;
-            my ($letter, $process, $text) = /^(# N|[A-Z]) (\d+) (.+)$/ or next;
-            my $pair = $text =~ /^\x27(.*?)\x27 \x27(.*)\x27$/ ? [map { path($process, $_) } $1, $2] : undef;
-            show("R", path($process, $text)) if $letter =~ /^[RE]$/;
-            show("N", path($process, $text)) if $letter eq "# N";
-            show($letter, path($process, $text)) if $letter =~ /^[WD]$/;
-            show("M", @$pair) if $letter eq "M" && $pair;
-            show("R", $pair->[0]), show("W", $pair->[1]) if $letter eq "L" && $pair;
-            my $from = $inside{$process} // $top;
-            $inside{$process} = clean($text =~ m{^/} ? $text : "$from/$text") if $letter eq "C";
-            $inside{$text} = $from if $letter eq "F" && $text =~ /^\d+$/;
-        }' "$1"
-}
+if [ ! -x "$fmtrace" ]; then
+    echo "there is no program $fmtrace"
+    echo '0 passed, 1 failed'
+    exit 1
+fi
 
-# Whether a text is the wanted one; a difference is told.
-same() {
-    local shows=$1 what=$2 wanted=$3 is=$4
-    [ "$wanted" = "$is" ] && return
-    printf 'failed: %s: %s\n' "$shows" "$what"
-    diff <(printf '%s\n' "$wanted") <(printf '%s\n' "$is")
-    return 1
-}
-
-# One command, in an empty folder of its own: what it shows, the shell lines before it, the run, and then
-# the exit status, both streams and the records below the folder that are wanted, and the shell lines
-# that are true after it.
-row() {
-    local shows before=: run status=0 out='' err='' records='' after=: is good=1
-    local "$@"
-    local here=$room/$((passed + failed))
-    mkdir "$here"
-    : >"$here.log"
-    (cd "$here" && eval "$before") || good=
-    (
-        cd "$here" || exit 125
-        export BMAKE_FILEMON=$here.log
-        eval "$run"
-    ) >"$here.out" 2>"$here.err" <<<'not for commands'
-    is=$?
-    same "$shows" 'exit status' "$status" "$is" || good=
-    same "$shows" 'standard output' "$out" "$(cat "$here.out")" || good=
-    same "$shows" 'standard error' "$err" "$(cat "$here.err")" || good=
-    same "$shows" 'records' "$records" "$(records "$here" 2>/dev/null <"$here.log")" || good=
-    (cd "$here" && eval "$after") || { printf 'failed: %s: %s\n' "$shows" "$after" && good=; }
-    same "$shows" 'files for the time of the run' '' "$(ls "$TMPDIR")" || good=
-    if [ -n "$good" ]; then passed=$((passed + 1)); else failed=$((failed + 1)); fi
-}
-
-for trace in tests/fmtrace/*.trace; do
-    shows=$(head -n 1 "$trace")
-    if same "$shows" "$trace" "$(cat "${trace%.trace}.wanted")" "$("$fmtrace" --records /w <"$trace")"; then
+# Counts one row: what it shows, and what was wrong, or nothing.
+count() {
+    if [ -z "$2" ]; then
         passed=$((passed + 1))
     else
         failed=$((failed + 1))
+        printf 'failed: %s: %s\n' "$1" "$2"
     fi
+}
+
+# What differs between a wanted text and another one.
+differs() {
+    [ "$1" = "$2" ] || diff <(printf '%s\n' "$1") <(printf '%s\n' "$2") | tr '\n' ';'
+}
+
+# ---- Stored traces ----
+
+for trace in "$stored"/*.trace; do
+    count "$(head -n 1 "$trace")" \
+        "$(differs "$(cat "${trace%.trace}.wanted")" "$(tail -n +2 "$trace" | "$fmtrace" --records /w)")"
 done
 
-row shows='the text of --help' run='"$fmtrace" --help | head -n 1' out='usage: fmtrace COMMAND [WORD]..'
+# A trace that is cut behind any line, or in any line, is refused.
+unseen='R /what cannot be seen (a trace that is cut, or of a process that runs on)'
+wrong=
+lines=$(tail -n +2 "$stored/processes.trace" | wc -l)
+for ((i = 0; i < lines; i++)); do
+    is=$(tail -n +2 "$stored/processes.trace" | head -n "$i" | "$fmtrace" --records /w)
+    [ "$is" = "$unseen" ] || wrong="behind line $i"
+    is=$(tail -n +2 "$stored/processes.trace" | head -n "$((i + 1))" | head -c -1 | "$fmtrace" --records /w)
+    [ "$is" = "$unseen" ] || wrong="in line $((i + 1))"
+done
+count 'a trace that is cut is refused' "$wrong"
 
-row shows='the version' run='"$fmtrace" --version' out='fmtrace 0.1.0'
+# 8,000 files that are moved.
+{
+    printf '7 execve("/bin/sh", [...], 0x7ffc /* 3 vars */) = 0\n'
+    for ((i = 0; i < 8000; i++)); do
+        printf '7 openat(AT_FDCWD</w>, "a%d", O_WRONLY|O_CREAT|O_TRUNC, 0666) = 3</w/a%d>\n' $i $i
+        printf '7 rename("a%d", "b%d") = 0\n' $i $i
+    done
+    printf '7 +++ exited with 0 +++\n'
+} >"$room/moves"
+SECONDS=0
+is=$("$fmtrace" --records /w <"$room/moves" | grep -c '^W /w/b')
+count '8,000 moves' "$(differs 8000 "$is")$([ $SECONDS -le 10 ] || echo "$SECONDS seconds")"
 
-row shows='behind a command these are its words' run='BMAKE_FILEMON= "$fmtrace" printf %s --version' out='--version'
+# ---- The program ----
 
-row shows='no command' run='"$fmtrace" 2>&1 | head -n 1; exit "${PIPESTATUS[0]}"' \
-    status=2 out='usage: fmtrace COMMAND [WORD]..'
-
-row shows='without a log the command is run as it is' before='echo 1 >a' \
-    run='unset BMAKE_FILEMON; "$fmtrace" sh -c "cat a; exit 3"' status=3 out='1'
-
-row shows='and where it is not found' \
-    run='unset BMAKE_FILEMON; "$fmtrace" ./none' status=127 err='fmtrace: ./none: No such file or directory'
-
-row shows='where strace is missing' run='PATH=$PWD "$fmtrace" /bin/sh -c "echo 1"' \
-    status=127 err='fmtrace: strace is missing, by which commands are recorded'
-
-row shows='a command that is not found, and where it was looked for' before='mkdir p' \
-    run='PATH=p:/none:$PATH "$fmtrace" no-such-command' status=127 \
-    err='fmtrace: no-such-command: not found' records='N p/no-such-command'
-
-row shows='a command that cannot be executed' before='echo 1 >a' run='"$fmtrace" ./a' status=126 \
-    err='fmtrace: ./a: cannot be executed'
-
-row shows='a log that cannot be opened' run='mkdir d; BMAKE_FILEMON=d "$fmtrace" echo 1' status=127 \
-    err='fmtrace: d: Is a directory'
+count 'the text of --help' "$(differs 'usage: fmtrace COMMAND [WORD]..' "$("$fmtrace" --help | head -n 1)")"
+count 'the version' "$(differs 'fmtrace 0.2.0' "$("$fmtrace" --version)")"
+count 'behind a command these are its words' \
+    "$(differs '--version' "$(BMAKE_FILEMON='' "$fmtrace" printf %s --version)")"
+"$fmtrace" 2>/dev/null
+count 'no command' "$(differs 2 $?)"
+is=$(cd "$room" && "$fmtrace" sh -c 'echo 1; exit 3'; echo $?)
+count 'without a log the command is run as it is' "$(differs $'1\n3' "$is")"
+"$fmtrace" "$room/none" 2>/dev/null
+count 'and where it is not found' "$(differs 127 $?)"
 
 if ! strace -f -D -o "$room/trace" true 2>/dev/null || [ ! -s "$room/trace" ]; then
     echo 'skipped: real commands (there is no strace, or it may not trace here)'
@@ -127,100 +88,161 @@ if ! strace -f -D -o "$room/trace" true 2>/dev/null || [ ! -s "$room/trace" ]; t
     exit
 fi
 
-row shows='a command reads, and its streams are its own' before='echo 1 >a' \
-    run='"$fmtrace" cat a - nothing' status=1 out=$'1\nnot for commands' \
-    err='cat: nothing: No such file or directory' records=$'R a\nN nothing'
+# The records of a log of which the paths are below a directory.
+records() {
+    sed -n -e "s|^# N [0-9]* $1/|N |p" -e "s|^\([RWD]\) [0-9]* $1/|\1 |p" -e "s|^R [0-9]* $1\$|R .|p" \
+        -e 's|^R [0-9]* /what cannot be seen.*|X|p' | sort -u
+}
 
-row shows='what the shell of a command does, in order' before='mkdir d; echo 1 >a' \
-    run='"$fmtrace" sh -c "cd d; echo 2 >f; cat ../a f >>g; mv f h; ln h i; rm g; cd ..; cat a; exit 5"' \
-    status=5 out=1 records=$'W d/f\nW d/g\nR a\nR d/f\nM d/f d/h\nR d/h\nW d/i\nD d/g' \
-    after='[ "$(ls d | tr "\n" " ")" = "h i " ]'
+# One command by /bin/sh -c under fmtrace, or as it stands where `run` is given, in a folder of its own
+# with the files a, b and d/c, and l that leads to d: its records, and its exit status.
+row() {
+    local shows before=: command='' run='"$fmtrace" /bin/sh -c "$command"' status=0 records='' is wrong=
+    local "$@"
+    local here=$room/$((passed + failed))
+    mkdir -p "$here/d"
+    (cd "$here" && echo a >a && echo b >b && echo c >d/c && ln -s d l && eval "$before") || wrong='before'
+    (
+        cd "$here" || exit 125
+        export BMAKE_FILEMON=$here.log
+        eval "$run"
+    ) >"$here.out" 2>"$here.err" </dev/null
+    is=$?
+    [ "$is" = "$status" ] || wrong="status $is"
+    wrong+=$(differs "$(printf '%s\n' $records | sed 'N;s/\n/ /' | sort -u)" "$(records "$here" <"$here.log")")
+    wrong+=$(ls "$here".log.trace.* 2>/dev/null)
+    tail -n 1 "$here.log" | grep -q '^# Bye bye [0-9]* [0-9]* [0-9]*$' || wrong+='no end'
+    count "$shows" "$wrong"
+}
 
-row shows='the first line is the directory, and a second command is appended' before='mkdir d; echo 1 >d/a' \
-    run='cd d; "$fmtrace" cat a; cd ..; "$fmtrace" cat d/a' out=$'1\n1' records=$'R d/a\nR d/a' \
-    after='[ "$(grep "^C" "$here.log" | cut -d " " -f 3-)" = "$here/d
-$here" ] && head -n 1 "$here.log" | grep -q "^C"'
-
-row shows='the exit status' run='"$fmtrace" sh -c "exit 7"' status=7
-
-row shows='a command that ends itself by a signal' run='"$fmtrace" sh -c "kill -9 \$\$"' status=137
-
-row shows='a signal goes to the command' \
-    run='"$fmtrace" sh -c "echo 1 >ready; exec sleep 60" & until [ -s ready ]; do sleep 0.05; done; kill $!; wait $!' \
-    status=143 records='W ready'
-
-row shows='the words of a command are kept' run='"$fmtrace" printf "%s|" "" "a b" "*" "--" "\"" "
-"' out=$'|a b|*|--|"|\n|'
-
-row shows='a command with a path' before='printf "#!/bin/sh\necho \$0 \$1\n" >t; chmod +x t' \
-    run='"$fmtrace" ./t x' out='./t x' records='R t'
-
-row shows='a file that is executable and no program' before='echo 1 >t; chmod +x t' \
-    run='"$fmtrace" ./t 2>/dev/null' status=126
-
-row shows='a process in the background is not waited for' \
-    run='timeout 30 "$fmtrace" sh -c "sleep 60 >/dev/null 2>&1 & echo \$! >pid"; kill "$(cat pid)"' records='W pid'
-
-row shows='a recorder in a recorded command' before='echo 1 >a' \
-    run='"$fmtrace" sh -c "\"$fmtrace\" cat a; exit 4"' status=4 out='1' records='R a'
-
-row shows='processes at once, each in its directory' before='mkdir 1 2 3; for i in 1 2 3; do echo $i >$i/a; done' \
-    run='"$fmtrace" sh -c "for i in 1 2 3; do (cd \$i; cat a >b; cd ..; cat \$i/b >\$i/c) & done; wait"
-        records "$PWD" <"$BMAKE_FILEMON" | sort -s -b -k 2.1,2.1; : >"$BMAKE_FILEMON"' \
-    out="$(for i in 1 2 3; do printf '%s\n' "W $i/b" "R $i/a" "W $i/c" "R $i/b"; done)"
-
-row shows='two recorders at once write to one log' before='echo 1 >a; echo 2 >b' \
-    run='"$fmtrace" cat a >/dev/null & "$fmtrace" cat b >/dev/null; wait; cp "$BMAKE_FILEMON" log
-        records "$PWD" <log | sort; : >"$BMAKE_FILEMON"' out=$'R a\nR b'
-
-row shows='paths with blanks, quotes and other bytes' \
-    run='"$fmtrace" sh -c "echo 1 >\"it'\''s  \\\"a\\\" b \"; mv it* \"x\\\\y ä\"; cat \"x\\\\y ä\"; ln x* \"1'\'' '\''2\"; mv 1* 3"' out='1' \
-    records=$'W it\'s  "a" b \nM it\'s  "a" b  x\\y ä\nR x\\y ä\nR x\\y ä\nW 1\' \'2\nR 1\' \'2\nD 1\' \'2\nW 3'
-
-row shows='a path with a newline is never there' before=$'echo 1 >"a\nb"' run=$'"$fmtrace" cat "a\nb"' out='1' \
-    after='grep -q "^R [0-9]* /a path with a newline has no record$" "$here.log"'
-
-row shows='directories and devices are passed over' before='mkdir d; echo 1 >d/a; mkfifo p' \
-    run='"$fmtrace" sh -c "ls d; mkdir e; rmdir e; cat /dev/null >/dev/null; cat p & echo 1 >p; wait"' out=$'a\n1'
-
-row shows='a symbolic link, and one that leads to nothing' before='echo 1 >a' \
-    run='"$fmtrace" sh -c "ln -s a b; ln -s none c; cat b"' out='1' records=$'W b\nR b'
-
-row shows='a symbolic link that replaces another one' before='echo 1 >a; ln -s none b; ln -s none c' \
-    run='"$fmtrace" sh -c "ln -sf a b; ln -sf nothing c"
-        records "$PWD" <"$BMAKE_FILEMON" | grep -v "^N" | sed "s/ [A-Z][^ ]*/ new/"; : >"$BMAKE_FILEMON"' \
-    out=$'W new\nM new b\nW new\nR new\nD new'
-
-row shows='what is above a symbolic link' before='mkdir -p d/e; echo 1 >d/a; ln -s d/e l' \
-    run='"$fmtrace" cat l/../a; "$fmtrace" cat l/../b 2>/dev/null; "$fmtrace" sh -c "cd -P l; cat ../a"' \
-    out=$'1\n1' records=$'R d/a\nN d/b\nR d/a'
-
-row shows='what was not there and was made is no miss' \
-    run='"$fmtrace" sh -c "[ -e a ] || echo 1 >a; [ -d d ] || mkdir d; [ -e d/b ] || echo 1 >d/b; [ -e c ] || true"' \
-    records=$'W a\nW d/b\nN c'
-
-row shows='files below a directory that is moved' \
-    run='"$fmtrace" sh -c "mkdir d; echo 1 >d/a; echo 2 >d/b; rm d/b; mv d e"' \
-    records=$'W d/a\nW d/b\nD d/b\nM d/a e/a' after='[ -f e/a ]'
-
-row shows='300 processes' run='"$fmtrace" sh -c "i=0; while [ \$i -lt 300 ]; do cat /dev/null >\$i; i=\$((i+1)); done"' \
-    records="$(seq -f 'W %g' 0 299)"
+row shows='nothing' command=true
+row shows='a file is read, and one written' command='cat a >t' records='R a W t'
+row shows='input and pipes' command='cat <a | sort >t' records='R a W t'
+row shows='standard streams that are files' run='"$fmtrace" sort <a >t' records='R a W t'
+row shows='a descriptor of its own' command='exec 3<a; cat <&3 >t' records='R a W t'
+row shows='appending reads' command='echo x >>a' records='R a W a'
+row shows='so does writing in the midst' command='dd if=b of=a conv=notrunc' records='R b R a W a'
+row shows='a new time' command='touch a' records='W a'
+row shows='a look that finds a file' command='[ -e a ] && echo yes >t' records='R a W t'
+row shows='a look that finds none' command='[ -e none ]' status=1 records='N none'
+row shows='a look at what is then made' command='[ -e t ] || echo 1 >t' records='W t'
+row shows='a listing' command='ls d >t' records='R d W t'
+row shows='a pattern' command='echo *.none >t' records='R . W t'
+row shows='a script and its interpreter' before='printf "#!/bin/sh\ncat a\n" >s; chmod +x s' \
+    command=./s records='R s R a'
+row shows='a file for a time' command='echo 1 >t.tmp; cat t.tmp a >t; rm t.tmp' records='R a W t'
+row shows='a file that is moved into its place' command='echo 1 >t.tmp && mv t.tmp t' records='W t'
+row shows='a file is moved' command='mv a n' records='R a D a W n'
+row shows='a file is removed, and one that is not there' command='rm -f a none' records='D a N none'
+row shows='further names' command='ln a n; ln -s b m; cat m' records='R a W n W m R b'
+row shows='a directory that is made and moved' command='mkdir e; echo 1 >e/x; mv e f; cat f/x' records='W f/x'
+row shows='directories of processes' command='cd d; cat c ../a >../t' records='R d/c R a W t'
+row shows='a symbolic link to a directory' command='cat l/c' records='R d/c R l/c'
+row shows='without the right to' before='chmod 444 a' command='(echo x >none/a); cat a' records='R a N none/a'
+row shows='a name space of its own' command='unshare -m true; true' records='X'
+row shows='a process that runs on' command='(sleep 1; echo late >t) >/dev/null 2>&1 & echo 1 >u' records='X'
+row shows='a command that ends itself by a signal' command='kill -9 $$' status=137
+row shows='a recorder in a recorder' command='"'"$fmtrace"'" cat a' records='R a'
 
 if command -v cc >/dev/null; then
-    row shows='a compiler finds headers in the second directory' \
-        before='mkdir early inc; echo "#define A 1" >inc/a.h; echo "#define B 1" >inc/b.h
-            printf "#include \"a.h\"\n#include <b.h>\nint c = A + B;\n" >x.c' \
-        run='"$fmtrace" cc -Iearly -Iinc -c x.c -o x.o
-            records "$PWD" <"$BMAKE_FILEMON" | grep -E "^. (x.c|x.o|(early/|inc/)?[ab].h)\$" | sort; : >"$BMAKE_FILEMON"' \
-        out=$'N a.h\nN early/a.h\nN early/b.h\nR inc/a.h\nR inc/b.h\nR x.c\nW x.o'
-    row shows='a program that is linked again reads nothing that it writes' \
-        before='echo "int main(void) { return 0; }" >x.c' \
-        run='"$fmtrace" cc -c x.c -o x.o; "$fmtrace" cc x.o -o x; cp "$BMAKE_FILEMON" first; : >"$BMAKE_FILEMON"
-            "$fmtrace" cc -c x.c -o x.o; "$fmtrace" cc x.o -o x; cp "$BMAKE_FILEMON" second; : >"$BMAKE_FILEMON"
-            for i in first second; do records "$PWD" <$i | grep "^[RWN] x[.o]*\$" | sort; done' \
-        out=$'R x.o\nW x\nW x.o\nR x.o\nW x\nW x.o'
+    row shows='a compiler' before='mkdir early; echo "#define A 1" >d/a.h; echo "#include <a.h>" >y.c' \
+        run='"$fmtrace" /bin/sh -c "cc -Iearly -Id -c y.c -o y.o"; sed -i "/\.gch$/d;/stdc-predef/d" "$BMAKE_FILEMON"' \
+        records='N early/a.h R d/a.h R y.c W y.o'
 else
-    echo 'skipped: compilers (there is no cc)'
+    echo 'skipped: a compiler (there is no cc)'
+fi
+
+# A log that is cut at a byte never counts: bmake makes the target again.
+mkdir "$room/cut"
+(
+    cd "$room/cut" || exit 1
+    printf 'a\n' >a
+    BMAKE_FILEMON=$room/cut/log "$fmtrace" cat a >/dev/null
+    for ((i = 0; i < $(wc -c <log); i++)); do
+        head -c "$i" log >cut
+        [ -n "$(tail -n 1 cut | grep '^# Bye bye .* [0-9]*$')" ] && [ "$(tail -c 1 cut)" = '' ] &&
+            [ "$(wc -l <cut)" = "$(wc -l <log)" ] && echo "whole at $i"
+    done
+) >"$room/cut.out"
+count 'a log that is cut' "$(cat "$room/cut.out")"
+
+# The processor time of a command and all that it began, in milliseconds, the least of ten.
+if command -v python3 >/dev/null; then
+    least=$(BMAKE_FILEMON=$room/cpu.log python3 - "$fmtrace" <<'PY'
+import resource, subprocess, sys, ctypes, os
+ctypes.CDLL(None).prctl(36, 1, 0, 0, 0)
+def spent():
+    use = resource.getrusage(resource.RUSAGE_CHILDREN)
+    return use.ru_utime + use.ru_stime
+def once():
+    before = spent()
+    subprocess.run([sys.argv[1], 'true'])
+    while True:
+        try: os.wait()
+        except ChildProcessError: break
+    return spent() - before
+print(int(1000 * min(once() for _ in range(10))))
+PY
+    )
+    echo "fmtrace true: $least ms of processor time"
+    count 'the time of a short command' "$([ "$least" -le 8 ] || echo "$least ms")"
+fi
+
+# ---- Builds: an edit that has to be seen, and one that has not ----
+
+if [ ! -x "$program" ]; then
+    echo "skipped: builds (there is no program $program)"
+    echo "$passed passed, $failed failed"
+    [ "$failed" = 0 ]
+    exit
+fi
+
+# How often t is made by a run in the folder.
+go() {
+    : >made.list
+    "$program" >/dev/null 2>err || echo "status $?"
+    wc -l <made.list
+}
+
+# A command for t, an edit behind which t is made again, and one behind which it is not.
+build() {
+    local shows before=: makes seen unseen='echo 2 >other'
+    local "$@"
+    local here=$room/build$((passed + failed))
+    mkdir -p "$here/d" "$here/early"
+    (
+        cd "$here" || exit 1
+        echo a >a && echo b >b && echo c >d/c && echo 1 >other && eval "$before"
+        printf '%s\n\n%s\n\t@%s %s\n\t@%s\n' '.MAKE.MODE = meta missing-meta=yes missing-filemon=yes' \
+            't:' "$fmtrace" "/bin/sh -c '$makes'" 'echo made >>made.list' >makefile
+        [ "$(go)" = 1 ] || echo 'not made first'
+        [ "$(go)" = 0 ] || echo 'made again'
+        sleep 0.02
+        eval "$unseen"
+        [ "$(go)" = 0 ] || echo 'made for another edit'
+        sleep 0.02
+        eval "$seen"
+        [ "$(go)" = 1 ] || echo 'kept'
+        cat err
+    ) >"$here.wrong" 2>&1
+    count "$shows" "$(tr '\n' ';' <"$here.wrong")"
+}
+
+build shows='sed of standard input' makes='sed s/a/x/ <a >t' seen='echo aa >a'
+build shows='a test' makes='if [ -e d/o ]; then echo y >t; else echo n >t; fi' seen='echo 1 >d/o' unseen='echo 1 >d/p'
+build shows='a pattern' before='echo 1 >d/1.c' makes='cat d/*.c >t' seen='echo 2 >d/2.c' unseen='echo 1 >early/1.c'
+build shows='sort -o' makes='sort -o t a' seen='echo z >a'
+build shows='a shell script' before='printf "#!/bin/sh\ncat a >t\n" >s; chmod +x s' makes=./s \
+    seen='printf "#!/bin/sh\ncat b >t\n" >s'
+build shows='a Perl script' before='echo "print 1;" >p.pl' makes='perl p.pl >t' seen='echo "print 2;" >p.pl'
+build shows='cp' makes='cp a t' seen='echo z >a' unseen='echo z >b'
+build shows='mv' makes='cp a t.new; mv t.new t' seen='echo z >a' unseen='echo z >b'
+build shows='touch' makes='cat a >/dev/null; touch t' seen='echo z >a' unseen='echo z >b'
+build shows='a makefile in a makefile' before='printf "u:\n\tcp b t\n" >sub' makes="$program -f sub" seen='echo z >b'
+if command -v cc >/dev/null; then
+    build shows='a header that is put earlier' before='echo "#define A 1" >d/a.h; printf "#include <a.h>\nint v = A;\n" >y.c' \
+        makes='cc -Iearly -Id -c y.c -o t' seen='echo "#define A 2" >early/a.h' unseen='echo 1 >early/b.h'
+    build shows='ar' before='echo 1 >m.o' makes='rm -f t; ar rcs t m.o' seen='echo 2 >m.o'
 fi
 
 echo "$passed passed, $failed failed"

@@ -12,7 +12,7 @@ use Rattle.mk_filemon.specs.Parts.{is_newline, after_line, may_end, are_whole}
 use Rattle.mk_filemon.specs.declared.part.Part.{Part as Place}
 use Rattle.mk_filemon.proofs.EscapeLemmas.{cases}
 
-abbrev lines_by : List ℕ → Part → List (List ℕ)
+abbrev pub lines_by : List ℕ → Part → List (List ℕ)
 lines_by text None = text ∷ []
 lines_by text (Some (line, rest)) = line ∷ slice_split is_newline rest
 
@@ -22,7 +22,7 @@ lines_by-more byte text None = refl
 lines_by-more byte text (Some (line, rest)) = refl
 
 -- the first line of a text, and its other lines
-split-cut : (text : List ℕ) → slice_split is_newline text ≡ lines_by text (cut_at newline text)
+pub split-cut : (text : List ℕ) → slice_split is_newline text ≡ lines_by text (cut_at newline text)
 unfolding cut_at
 split-cut [] = refl
 split-cut (byte ∷ text) =

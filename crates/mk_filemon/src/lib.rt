@@ -42,6 +42,7 @@ mod part;
 mod record;
 mod trace;
 
+pub use directory::directory_from;
 pub use escape::{cut_at, push_escaped, unescaped};
 pub use law::{records_tell_of_steps, same_by_records};
 pub use log::read_log;

@@ -1,0 +1,16 @@
+//! From what the processes of a command did to the records of the command.
+#![tactic(auto)]
+
+mod judgement;
+mod known;
+mod place;
+mod record;
+mod state;
+mod table;
+mod touch;
+
+pub use judgement::judge;
+pub use known::{Change, Known, Touch};
+pub use place::Place;
+pub use record::{Record, Records};
+pub use table::{Table, Touched, Touches};

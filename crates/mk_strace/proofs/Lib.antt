@@ -1,0 +1,4 @@
+pub mod KeptLemmas
+pub mod QuotedLemmas
+pub mod ScanLemmas
+pub mod TraceLemmas

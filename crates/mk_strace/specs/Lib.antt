@@ -1,0 +1,11 @@
+pub mod Acts
+pub mod Calls
+pub mod Held
+pub mod Kept
+pub mod Lines
+pub mod Names
+pub mod Opens
+pub mod Quoted
+pub mod Scan
+pub mod Seen
+pub mod Traces
