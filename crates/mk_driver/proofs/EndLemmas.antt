@@ -14,6 +14,7 @@ use Rattle.mk_trace.specs.Builds.{Build, Duty, Own, free, remove, date, close, r
 use Rattle.mk_trace.specs.Collected.{has_meta, with_end}
 use Rattle.mk_trace.specs.Items.{passes, ends, changes, looks, gone, whole, cut_whole}
 use Rattle.mk_trace.specs.declared.collected.Collected.{Collected}
+use Rattle.mk_export.specs.Lists.{AreExports}
 use Rattle.mk_meta.specs.Texts.{meta_text}
 use Rattle.mk_meta.specs.TrueHistory.{meta_path}
 use Rattle.mk_trace.specs.Collected.{IsCountable, meta_of}
@@ -433,29 +434,32 @@ whole_bytes work n lines collected = meta_text (meta_of work n lines collected)
 is-whole : (work : Work) (known : Known) (nodes : List NodeState) (jobs : List Job)
     (failure : Option Failure) (n : ℕ) (lines : List TaskLine) (collected : Collected)
     (tasks : run.Tasks) (build : Build) → HasTasks tasks known → IsCountable collected
-    → length lines < 2 ^ 32 → IsDated work known nodes jobs failure n lines collected tasks build
+    → length lines < 2 ^ 32 → AreExports work.mode.exports
+    → IsDated work known nodes jobs failure n lines collected tasks build
     → IsWhole work tasks build n (whole_path work n) (whole_bytes work n lines collected)
-is-whole work known nodes jobs failure n lines collected tasks build has countable few is =
+is-whole work known nodes jobs failure n lines collected tasks build has countable few exports is =
     let task : tasks n ≡ lines = has n lines is.task in
     record {
       path_is = refl;
       bytes_are = rw (task, is.collected_is) refl;
       countable = rw is.collected_is countable;
       few = rw task few;
+      exports = exports;
     }
 
 pub go_on-whole : (work : Work) (known : Known) (nodes : List NodeState) (jobs : List Job)
     (failure : Option Failure) (n : ℕ) (lines : List TaskLine) (collected : Collected) (time : ℕ)
     (tasks : run.Tasks) (build : Build) → HasTasks tasks known → IsCountable collected
-    → length lines < 2 ^ 32 → IsDated work known nodes jobs failure n lines collected tasks build
+    → length lines < 2 ^ 32 → AreExports work.mode.exports
+    → IsDated work known nodes jobs failure n lines collected tasks build
     → GoesOn work tasks build
     (changes n (whole (whole_path work n) (whole_bytes work n lines collected) time) ∷ [])
     (IsGoing known nodes run.anything jobs failure)
-go_on-whole work known nodes jobs failure n lines collected time tasks build has countable few is = record {
+go_on-whole work known nodes jobs failure n lines collected time tasks build has countable few exports is = record {
   makes = (
     tt,
     is.at.stands.duty_is,
-    is-whole work known nodes jobs failure n lines collected tasks build has countable few is,
+    is-whole work known nodes jobs failure n lines collected tasks build has countable few exports is,
     tt,
   );
   stands = record {
@@ -473,19 +477,20 @@ go_on-whole work known nodes jobs failure n lines collected time tasks build has
 pub go_on-cut_whole : (work : Work) (known : Known) (nodes : List NodeState) (jobs : List Job)
     (failure : Option Failure) (n : ℕ) (lines : List TaskLine) (collected : Collected)
     (part : List ℕ) (time : ℕ) (tasks : run.Tasks) (build : Build) → HasTasks tasks known
-    → IsCountable collected → length lines < 2 ^ 32 → IsDated work known nodes jobs failure n lines collected tasks build
+    → IsCountable collected → length lines < 2 ^ 32 → AreExports work.mode.exports
+    → IsDated work known nodes jobs failure n lines collected tasks build
     → Begins part (whole_bytes work n lines collected)
     → GoesOn work tasks build (changes n (cut_whole (whole_path work n) part time) ∷ [])
     (λ tasks build. Unit {0})
 go_on-cut_whole work known nodes jobs failure n lines collected part time tasks build has countable few
-    is begins =
+    exports is begins =
     record {
       makes = (
         tt,
         is.at.stands.duty_is,
         (
           whole_bytes work n lines collected,
-          is-whole work known nodes jobs failure n lines collected tasks build has countable few is,
+          is-whole work known nodes jobs failure n lines collected tasks build has countable few exports is,
           begins,
         ),
         tt,

@@ -1,6 +1,7 @@
 -- A build so far, and a child that is taken in.
 use Rattle.std.proofs.Common.{◌≡◌, ◌∙◌, ◌⊎◌, ℕ, ◌+◌, ◌-◌, ◌^◌, ◌<◌, ◌≤◌, nat_le, nat_lt, List, [], ◌∷◌, ◌++◌, length, get_or, set, Option, Some, None, Bool, true, false, if◌then◌else◌}
 use Rattle.std.proofs.Common.{inl, inr, refl, sym, ap, subst, append_assoc, arith}
+use Rattle.mk_export.specs.Lists.{AreExports}
 use Rattle.mk_plan.specs.Deciding.{Rules, is_stopped, may_decide, open_jobs}
 use Rattle.mk_plan.specs.Plans.{node_at}
 use Rattle.mk_plan.specs.declared.plan.NodeState.{NodeState}
@@ -324,13 +325,14 @@ so_far-dated meaning work known nodes jobs failure job last first now next settl
 so_far-whole : (meaning : Meaning) (work : Work) (known : Known) (nodes : List NodeState)
     (jobs : List Job) (failure : Option Failure) (job : Job) (last : Option ℕ) (first now next : Moment)
     (time : ℕ) → IsCountable job.collected → length job.task.lines < 2 ^ 32
+    → AreExports work.mode.exports
     → SoFar meaning work false first now last known
     (IsDated work known nodes jobs failure job.node job.task.lines job.collected)
     → Called meaning now.history next.history (ChangeItem job.node
     (whole (whole_path work job.node) (whole_bytes work job.node job.task.lines job.collected) time))
     → next.events ≡ now.events → next.out ≡ now.out
     → SoFar meaning work false first next last known (IsGoing known nodes run.anything jobs failure)
-so_far-whole meaning work known nodes jobs failure job last first now next time countable few so call events
+so_far-whole meaning work known nodes jobs failure job last first now next time countable few exports so call events
     out =
     let n = job.node in
     let change = whole (whole_path work n) (whole_bytes work n job.task.lines job.collected) time in
@@ -339,21 +341,22 @@ so_far-whole meaning work known nodes jobs failure job last first now next time 
     (IsGoing known nodes run.anything jobs failure) (ChangeItem n change) so call
     (rw call.is_own tt) (rw call.is_own (events ∙ sym (append-none now.events))) (λ tasks has. has)
     (λ tasks build has is. rw call.is_own (go_on-whole work known nodes jobs failure n job.task.lines
-    job.collected time tasks build has countable few is))
+    job.collected time tasks build has countable few exports is))
     (λ tasks build has is. rw call.is_own (silent work tasks now next last (changes n change ∷ []) out refl
     (λ outputs p. refl)))
 
 -- or a part of it stands, and the outside has ended the build
 so_far-cut_whole : (meaning : Meaning) (work : Work) (known : Known) (nodes : List NodeState)
     (jobs : List Job) (failure : Option Failure) (job : Job) (last : Option ℕ) (first now next : Moment)
-    → IsCountable job.collected → length job.task.lines < 2 ^ 32 → SoFar meaning work false first now last known
+    → IsCountable job.collected → length job.task.lines < 2 ^ 32 → AreExports work.mode.exports
+    → SoFar meaning work false first now last known
     (IsDated work known nodes jobs failure job.node job.task.lines job.collected)
     → Called meaning now.history next.history (PartItem job.node
     (λ part time. cut_whole (whole_path work job.node) part time)
     (whole_bytes work job.node job.task.lines job.collected))
     → next.events ≡ now.events → next.out ≡ now.out
     → SoFar meaning work false first next last known (λ tasks build. Unit {0})
-so_far-cut_whole meaning work known nodes jobs failure job last first now next countable few so call events
+so_far-cut_whole meaning work known nodes jobs failure job last first now next countable few exports so call events
     out =
     so_far-called meaning work false first now next last last known known
     (IsDated work known nodes jobs failure job.node job.task.lines job.collected)
@@ -378,7 +381,7 @@ so_far-cut_whole meaning work known nodes jobs failure job last first now next c
         → (own : List Item) → Part own → GoesOn work tasks build own (λ tasks build. Unit {0})
     goes tasks build has is own (inl none) = rw none (record { makes = tt; stands = tt })
     goes tasks build has is own (inr cut) = rw cut.3 (go_on-cut_whole work known nodes jobs failure job.node
-        job.task.lines job.collected cut.0 cut.1 tasks build has countable few is cut.2)
+        job.task.lines job.collected cut.0 cut.1 tasks build has countable few exports is cut.2)
 
     quiet : (tasks : run.Tasks) (own : List Item) → Part own
         → PrintsOwn work tasks false now next last last own
@@ -416,7 +419,7 @@ going-closed meaning work history later course schedule job first out token sche
     by (inl written) =
         so_far-whole meaning work at.0 nodes course.jobs.items course.failure job course.last_shown
         first (moment written.between out course.events.items) (moment later out course.events.items) written.writes.time
-        written.countable written.few (so_far-dated meaning work at.0 nodes course.jobs.items course.failure job course.last_shown first
+        written.countable written.few written.exports (so_far-dated meaning work at.0 nodes course.jobs.items course.failure job course.last_shown first
         (moment history out course.events.items) (moment written.between out course.events.items) settled at.2
         written.asked refl refl) written.writes.call refl refl
     by (inr plain) =
@@ -446,7 +449,7 @@ halted-closing meaning work halt history later course job first out token (inr p
     halted meaning work halt first later out course.events.items course.last_shown at.0 _
     (so_far-cut_whole meaning work at.0 nodes course.jobs.items course.failure job
     course.last_shown first (moment part.between out course.events.items) (moment later out course.events.items)
-    part.countable part.few (so_far-dated meaning work at.0 nodes course.jobs.items course.failure job course.last_shown first
+    part.countable part.few part.exports (so_far-dated meaning work at.0 nodes course.jobs.items course.failure job course.last_shown first
     (moment history out course.events.items) (moment part.between out course.events.items) settled at.2 part.asked
     refl refl) part.call refl refl)
 

@@ -19,6 +19,7 @@ returns-in-Ok-clause-written g c =
       };
       countable = c.write_whole.ensures.countable;
       few = c.write_whole.ensures.few;
+      exports = c.write_whole.ensures.exports;
       writes = written;
     }) c.write_whole.ensures.written
 
@@ -34,5 +35,6 @@ returns-in-Ok-clause-refused g c =
       };
       countable = c.write_whole.ensures.countable;
       few = c.write_whole.ensures.few;
+      exports = c.write_whole.ensures.exports;
       call = part;
     })) c.write_whole.ensures.refused

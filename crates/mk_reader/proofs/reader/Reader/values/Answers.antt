@@ -1,0 +1,9 @@
+use Rattle.std.proofs.lemmas.Result.{err_from_is_err_and}
+use Rattle.mk_export.proofs.ListLemmas.{named-exports}
+use Rattle.mk_reader.proofs.StepLemmas.{here-want}
+use Rattle.mk_reader.proofs.reader.Reader.values.Goals as goal
+
+pub returns-in_err-names : goal.returns-in_err-names
+returns-in_err-names g c =
+    let p = err_from_is_err_and c.from_residual.result c.from_residual.ensures.1 in
+    rw (p.1, p.2) (here-want _ _ _ _)
