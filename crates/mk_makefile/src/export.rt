@@ -10,11 +10,20 @@ use mk_bytes::{NoMemory, Text};
 use mk_export::{Exports, is_export_name};
 use std::alloc::Global;
 
+fn are_lawful(names: &[Text]) -> bool
+    ensures { result ≡ list_all is_lawful names.now }
+{
+    names.iter().all(|name| is_export_name(name.bytes()))
+}
+
 /// Whether these are names of variables that may be exported, at least one.
 pub fn are_export_names(names: &[Text]) -> bool
     ensures { result ≡ spec.are_export_names names.now }
 {
-    !names.is_empty() && names.iter().all(|name| is_export_name(name.bytes()))
+    match names {
+        [] => false,
+        [_, ..] => are_lawful(names),
+    }
 }
 
 /// Exports variables of these names too. After a refusal the names are given up.
