@@ -10,5 +10,5 @@ returns-in_err-cmd g c =
 
 pub returns : goal.returns
 returns g c =
-    given-as _ _ _ _ _ _ (λ answers. rw c.in_ok-cmd.ensures refl)
+    given-as _ _ _ _ _ _ (λ answers. rw (c.in_ok-cmd.ensures, c.cwd.ensures.value) refl)
     c.printed.ensures
