@@ -330,6 +330,28 @@ count 'it is run again when the file appears' "$(build)$(printed "$fmrun probe t
 rm b
 count 'and when it is gone' "$(build)$(printed "$fmrun probe t b")$(holds t 'no\n')$(rests)"
 
+# What a command reads of its environment counts where it is exported, and else not.
+world exported <<END
+$meta
+.export V
+t:
+	$fmrun env t V
+END
+count 'a command finds an exported variable' "$(V=1 build)$(printed "$fmrun env t V")$(holds t '1\n')$(V=1 rests)"
+count 'the meta file keeps its value' "$(grep '^ENV ' t.meta | cmp - <(echo 'ENV V=1') 2>&1)"
+count 'with another value the target is made again' "$(V=2 build)$(printed "$fmrun env t V")$(holds t '2\n')$(V=2 rests)"
+count 'and so where it is no longer exported' "$(sed -i '/^.export/d' makefile; V=2 build)$(printed "$fmrun env t V")$(V=2 rests)"
+count 'where it is not, another value of the environment does not count' "$(V=3 rests)$(holds t '2\n')"
+
+world asked <<END
+V=1
+A!=$fmrun env a V; cat a
+.export V
+V=2
+B!=$fmrun env b V; cat b
+END
+count 'a command of != finds what is exported at its line' "$(unset V; build -V A -V B)$(printed '' 2)"
+
 world logged <<END
 $meta
 t:

@@ -87,6 +87,7 @@ fn what_name(what: &What) -> &'static str {
         What::Break => "Break",
         What::OpenBlock => "OpenBlock",
         What::IncludeForm => "IncludeForm",
+        What::ExportForm => "ExportForm",
         What::Include(_) => "Include",
         What::NoOperator => "NoOperator",
         What::DoubleColon => "DoubleColon",

@@ -12,7 +12,8 @@ ghost use Rattle.mk_world.specs.Sinks.{Gains, GainsPart};
 ghost use Rattle.mk_world.specs.declared.fault.SinkFault.TheVariants.{Failed as sink_failed};
 ghost use Rattle.mk_world.specs.declared.fault.WorldFault.TheVariants.{Failed as world_failed};
 
-use mk_bytes::{Items, NoMemory, Text};
+use mk_bytes::{NoMemory, Text};
+use mk_export::Exported;
 use mk_plan::Plan;
 use mk_trace::{Event, put};
 use mk_world::{
@@ -28,15 +29,20 @@ pub struct Place {
     pub number: u32,
 }
 
-/// The command of a line.
-pub fn command(alloc: Global, line: &TaskLine, cwd: &[u8]) -> Result<Cmd, NoMemory>
+/// The command of a line, with these variables in its environment.
+pub fn command(
+    alloc: Global,
+    line: &TaskLine,
+    cwd: &[u8],
+    exports: &Exported,
+) -> Result<Cmd, NoMemory>
     ensures { IfOk result
-        (λ cmd. cmd ≡ record { text = line.now.text; cwd = cwd.now; exports = [] }) }
+        (λ cmd. cmd ≡ record { text = line.now.text; cwd = cwd.now; exports = exports.now }) }
 {
     Ok(Cmd {
         text: line.text.copy(alloc)?,
         cwd: Text::from_bytes(alloc, cwd)?,
-        exports: Items::new(alloc, 0)?,
+        exports: exports.copy(alloc)?,
     })
 }
 

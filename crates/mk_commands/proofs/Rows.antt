@@ -93,6 +93,24 @@ probe_misses : line (codes "probe p q") (Missing ∷ [])
     ≡ More (Write (codes "p") (text_line (codes "no")))
 probe_misses = refl
 
+-- a line that finds an exported variable in its environment
+abbrev told : List ℕ → Next
+told text = language_next (record {
+  text = text;
+  cwd = codes "/w";
+  exports = record { name = codes "A"; value = codes "1" }
+      ∷ record { name = codes "B"; value = codes "2" } ∷ [];
+}) []
+
+env_writes : told (codes "env p B") ≡ More (Write (codes "p") (text_line (codes "2")))
+env_writes = refl
+
+env_of_an_unknown_name : told (codes "env p C") ≡ More (Write (codes "p") (text_line []))
+env_of_an_unknown_name = refl
+
+env_of_two_names : told (codes "env p A B") ≡ Over 2 []
+env_of_two_names = refl
+
 fail_ends : line (codes "fail 007") [] ≡ Over 7 []
 fail_ends = refl
 

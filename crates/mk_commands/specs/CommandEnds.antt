@@ -1,6 +1,7 @@
 -- Every command is at its end after as many answers as it has words.
 use Rattle.std.specs.Prelude.{ℕ, Bool, true, false, List, [], ◌∷◌, ◌++◌, Option, Some, None, if◌then◌else◌, ◌&&◌, nat_le}
 use Rattle.mk_bytes.specs.Paths.{clean}
+use Rattle.mk_world.specs.declared.command.Cmd.{Cmd}
 use Rattle.mk_commands.specs.Commands as spec
 use Rattle.mk_commands.specs.Turns.{stops, writes, deletes, moves}
 use Rattle.mk_commands.specs.Words.{line_of, number_of, place_of, picked}
@@ -98,21 +99,30 @@ fail_in verb (number ∷ []) = fails_in (verb ∷ number ∷ []) (number_of numb
 fail_in verb [] = misused_in (verb ∷ [])
 fail_in verb (a ∷ b ∷ words) = misused_in (verb ∷ a ∷ b ∷ words)
 
-does_in : (word cwd : List ℕ) (verb : Option Verb) (words : Words)
-    → EndsIn (word ∷ words) (spec.does cwd verb words)
-does_in word cwd None words = stops_in (word ∷ words) 127 []
-does_in word cwd (Some verb.Put) words = put_in word cwd words
-does_in word cwd (Some verb.Cat) words = cat_in word cwd words
-does_in word cwd (Some verb.Copy) words = copy_in word cwd words
-does_in word cwd (Some verb.Move) words = move_in word cwd words
-does_in word cwd (Some verb.Del) words = del_in word cwd words
-does_in word cwd (Some verb.Show) words = show_in word cwd words
-does_in word cwd (Some verb.Say) words = stops_in (word ∷ words) 0 (line_of words)
-does_in word cwd (Some verb.Pick) words = pick_in word cwd words
-does_in word cwd (Some verb.Probe) words = probe_in word cwd words
-does_in word cwd (Some verb.Fail) words = fail_in word words
+env_in : (verb : List ℕ) (cmd : Cmd) (words : Words) → EndsIn (verb ∷ words) (spec.env cmd words)
+env_in verb cmd (path ∷ name ∷ []) =
+    writes_in verb (path ∷ name ∷ []) (clean cmd.cwd path)
+    (line_of (spec.exported_in cmd.exports name ∷ []))
+env_in verb cmd [] = misused_in (verb ∷ [])
+env_in verb cmd (a ∷ []) = misused_in (verb ∷ a ∷ [])
+env_in verb cmd (a ∷ b ∷ c ∷ words) = misused_in (verb ∷ a ∷ b ∷ c ∷ words)
+
+does_in : (word : List ℕ) (cmd : Cmd) (verb : Option Verb) (words : Words)
+    → EndsIn (word ∷ words) (spec.does cmd verb words)
+does_in word cmd None words = stops_in (word ∷ words) 127 []
+does_in word cmd (Some verb.Put) words = put_in word cmd.cwd words
+does_in word cmd (Some verb.Cat) words = cat_in word cmd.cwd words
+does_in word cmd (Some verb.Copy) words = copy_in word cmd.cwd words
+does_in word cmd (Some verb.Move) words = move_in word cmd.cwd words
+does_in word cmd (Some verb.Del) words = del_in word cmd.cwd words
+does_in word cmd (Some verb.Show) words = show_in word cmd.cwd words
+does_in word cmd (Some verb.Say) words = stops_in (word ∷ words) 0 (line_of words)
+does_in word cmd (Some verb.Pick) words = pick_in word cmd.cwd words
+does_in word cmd (Some verb.Probe) words = probe_in word cmd.cwd words
+does_in word cmd (Some verb.Env) words = env_in word cmd words
+does_in word cmd (Some verb.Fail) words = fail_in word words
 
 -- Every command is at its end after an answer for each of its words.
-pub command_in : (cwd : List ℕ) (words : Words) → EndsIn words (spec.command cwd words)
-command_in cwd [] = stops_in [] 0 []
-command_in cwd (word ∷ words) = does_in word cwd (spec.verb_of word) words
+pub command_in : (cmd : Cmd) (words : Words) → EndsIn words (spec.command cmd words)
+command_in cmd [] = stops_in [] 0 []
+command_in cmd (word ∷ words) = does_in word cmd (spec.verb_of word) words

@@ -1,11 +1,13 @@
--- What each command does. Paths are taken from the directory `cwd` and cleaned.
+-- What each command does. Paths are taken from the directory of the line and cleaned.
 use Rattle.std.specs.Prelude.{ℕ, nat_le, ◌&&◌, List, [], ◌∷◌, ◌++◌, Option, Some, None, codes, if◌then◌else◌}
 use Rattle.std.specs.Str.{bytes_eq}
 use Rattle.mk_bytes.specs.Paths.{clean}
+use Rattle.mk_bytes.specs.declared.pair.Pair.{Pair}
+use Rattle.mk_world.specs.declared.command.Cmd.{Cmd}
 use Rattle.mk_commands.specs.Turns.{Talk, stops, writes, deletes, looks, reads, moves}
 use Rattle.mk_commands.specs.Words.{line_of, number_of, place_of, picked}
 use Rattle.mk_commands.specs.declared.verb.Verb.{Verb}
-use Rattle.mk_commands.specs.declared.verb.Verb.TheVariants.{Put, Cat, Copy, Move, Del, Show, Say, Pick, Probe, Fail}
+use Rattle.mk_commands.specs.declared.verb.Verb.TheVariants.{Put, Cat, Copy, Move, Del, Show, Say, Pick, Probe, Env, Fail}
 
 -- a wrong number of words, or a word that is not the number it should be
 abbrev pub misused : Talk
@@ -75,6 +77,18 @@ probe cwd (target ∷ path ∷ []) =
     looks (clean cwd path) (λ stands. writes (clean cwd target) (yes_or_no stands))
 probe cwd words = misused
 
+-- the value of an exported variable, or nothing
+abbrev pub exported_in : List Pair → List ℕ → List ℕ
+exported_in [] name = []
+exported_in (pair ∷ pairs) name =
+    if bytes_eq pair.name name then pair.value else exported_in pairs name
+
+-- `env P N` writes the value of the exported variable N to P as a line
+abbrev pub env : Cmd → List (List ℕ) → Talk
+env cmd (path ∷ name ∷ []) =
+    writes (clean cmd.cwd path) (line_of (exported_in cmd.exports name ∷ []))
+env cmd words = misused
+
 -- a status from 1 to 255
 abbrev pub fails : Option ℕ → Talk
 fails None = misused
@@ -97,34 +111,37 @@ verb_of word =
     else if bytes_eq word (codes "say") then Some Say
     else if bytes_eq word (codes "pick") then Some Pick
     else if bytes_eq word (codes "probe") then Some Probe
+    else if bytes_eq word (codes "env") then Some Env
     else if bytes_eq word (codes "fail") then Some Fail
     else None
 
--- of the last five
+-- of the last six
 abbrev pub other_verb_of : List ℕ → Option Verb
 other_verb_of word =
     if bytes_eq word (codes "show") then Some Show
     else if bytes_eq word (codes "say") then Some Say
     else if bytes_eq word (codes "pick") then Some Pick
     else if bytes_eq word (codes "probe") then Some Probe
+    else if bytes_eq word (codes "env") then Some Env
     else if bytes_eq word (codes "fail") then Some Fail
     else None
 
 -- an unknown word gives status 127
-abbrev pub does : List ℕ → Option Verb → List (List ℕ) → Talk
-does cwd None words = stops 127 []
-does cwd (Some Put) words = put cwd words
-does cwd (Some Cat) words = cat cwd words
-does cwd (Some Copy) words = copy cwd words
-does cwd (Some Move) words = move cwd words
-does cwd (Some Del) words = del cwd words
-does cwd (Some Show) words = show cwd words
-does cwd (Some Say) words = say words
-does cwd (Some Pick) words = pick cwd words
-does cwd (Some Probe) words = probe cwd words
-does cwd (Some Fail) words = fail words
+abbrev pub does : Cmd → Option Verb → List (List ℕ) → Talk
+does cmd None words = stops 127 []
+does cmd (Some Put) words = put cmd.cwd words
+does cmd (Some Cat) words = cat cmd.cwd words
+does cmd (Some Copy) words = copy cmd.cwd words
+does cmd (Some Move) words = move cmd.cwd words
+does cmd (Some Del) words = del cmd.cwd words
+does cmd (Some Show) words = show cmd.cwd words
+does cmd (Some Say) words = say words
+does cmd (Some Pick) words = pick cmd.cwd words
+does cmd (Some Probe) words = probe cmd.cwd words
+does cmd (Some Env) words = env cmd words
+does cmd (Some Fail) words = fail words
 
--- A command is its verb and the words after it; one without words does nothing.
-abbrev pub command : List ℕ → List (List ℕ) → Talk
-command cwd [] = stops 0 []
-command cwd (word ∷ words) = does cwd (verb_of word) words
+-- One of the commands of a line is its verb and the words after it; one without words does nothing.
+abbrev pub command : Cmd → List (List ℕ) → Talk
+command cmd [] = stops 0 []
+command cmd (word ∷ words) = does cmd (verb_of word) words

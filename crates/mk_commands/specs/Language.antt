@@ -32,14 +32,14 @@ and_then go_on printed (ends status output answers) =
     else Over status (printed ++ output)
 
 -- the rest of a line, after the commands before it have printed this
-abbrev pub in_order : List ℕ → List (List (List ℕ)) → List ℕ → List Answer → Next
-in_order cwd [] printed answers = Over 0 printed
-in_order cwd (words ∷ commands) printed answers =
-    and_then (in_order cwd commands) printed (command cwd words answers)
+abbrev pub in_order : Cmd → List (List (List ℕ)) → List ℕ → List Answer → Next
+in_order cmd [] printed answers = Over 0 printed
+in_order cmd (words ∷ commands) printed answers =
+    and_then (in_order cmd commands) printed (command cmd words answers)
 
 -- What a command line asks next, by the answers so far.
 abbrev pub language_next : NextOf
-language_next cmd answers = in_order cmd.cwd (commands_of cmd.text) [] answers
+language_next cmd answers = in_order cmd (commands_of cmd.text) [] answers
 
 -- the words of all commands
 abbrev pub together : List (List (List ℕ)) → List (List ℕ)

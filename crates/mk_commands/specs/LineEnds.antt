@@ -28,14 +28,14 @@ and_then_over go_on printed more over (ends status output answers) leaves =
     (over (printed ++ output) answers leaves)
 
 -- commands in order, where there is an answer for each of their words
-in_order_over : (cwd : List ℕ) (commands : List (List (List ℕ))) (printed : List ℕ)
+in_order_over : (cmd : Cmd) (commands : List (List (List ℕ))) (printed : List ℕ)
     (answers : List Answer) → Covers (together commands) answers
-    → IsOver (in_order cwd commands printed answers)
-in_order_over cwd [] printed answers covers = tt
-in_order_over cwd (words ∷ commands) printed answers covers =
-    and_then_over (in_order cwd commands) printed (together commands) (in_order_over cwd commands)
-    (command cwd words answers)
-    ((command_in cwd words).leaves (together commands) answers covers)
+    → IsOver (in_order cmd commands printed answers)
+in_order_over cmd [] printed answers covers = tt
+in_order_over cmd (words ∷ commands) printed answers covers =
+    and_then_over (in_order cmd commands) printed (together commands) (in_order_over cmd commands)
+    (command cmd words answers)
+    ((command_in cmd words).leaves (together commands) answers covers)
 
 -- so many answers are one for each word
 covered : (words : List (List ℕ)) (answers : List Answer) → length words ≤ length answers
@@ -49,5 +49,5 @@ covered (word ∷ words) (answer ∷ answers) enough =
 pub language_ends : (cmd : Cmd) (answers : List Answer) → most_answers cmd ≤ length answers
     → IsOver (language_next cmd answers)
 language_ends cmd answers enough =
-    in_order_over cmd.cwd (commands_of cmd.text) [] answers
+    in_order_over cmd (commands_of cmd.text) [] answers
     (covered (together (commands_of cmd.text)) answers enough)

@@ -8,21 +8,21 @@ ghost use Rattle.mk_commands.specs.Words.{held};
 use crate::turn::{Turn, ended, look, write};
 use crate::verb::{Verb, verb_of};
 use crate::word::{line_of, number_of, picked, place_of};
-use mk_bytes::{NoMemory, Text, clean_path};
-use mk_world::{Answer, Request};
+use mk_bytes::{NoMemory, Pair, Text, clean_path};
+use mk_world::{Answer, Cmd, Request};
 use std::alloc::Global;
 
-/// Where a command stands after these answers: its verb and the words after it, run in the
-/// directory `cwd`.
+/// Where one of the commands of a line stands after these answers: its verb and the words after it.
 pub fn obey<'a>(
     alloc: Global,
-    cwd: &[u8],
+    cmd: &Cmd,
     words: &[&[u8]],
     seen: &'a [Answer],
 ) -> Result<Turn<'a>, NoMemory>
     ensures { IfOk result
-        (λ turn. turn_of turn ≡ spec.command cwd.now (held words.now) seen.now) }
+        (λ turn. turn_of turn ≡ spec.command cmd.now (held words.now) seen.now) }
 {
+    let cwd = cmd.cwd.bytes();
     let [verb, words @ ..] = words else {
         return Ok(ended(alloc, 0, seen));
     };
@@ -37,6 +37,7 @@ pub fn obey<'a>(
         Some(Verb::Say) => say(alloc, words, seen),
         Some(Verb::Pick) => pick(alloc, cwd, words, seen),
         Some(Verb::Probe) => probe(alloc, cwd, words, seen),
+        Some(Verb::Env) => env(alloc, cmd, words, seen),
         Some(Verb::Fail) => Ok(fail(alloc, words, seen)),
     }
 }
@@ -274,6 +275,38 @@ fn probe<'a>(
         [Answer::Found { .. }] => write(alloc, cwd, target, Text::from_bytes(alloc, b"yes\n")?),
         [_] => write(alloc, cwd, target, Text::from_bytes(alloc, b"no\n")?),
         [_, _, rest @ ..] => Ok(ended(alloc, 0, rest)),
+    }
+}
+
+// The value of an exported variable, or nothing.
+fn exported_in<'e>(exports: &'e [Pair], name: &[u8]) -> &'e [u8]
+    ensures { result.now ≡ spec.exported_in exports.now name.now }
+{
+    for pair in exports {
+        if pair.name.bytes() == name {
+            return pair.value.bytes();
+        }
+    }
+    b""
+}
+
+fn env<'a>(
+    alloc: Global,
+    cmd: &Cmd,
+    words: &[&[u8]],
+    seen: &'a [Answer],
+) -> Result<Turn<'a>, NoMemory>
+    ensures { IfOk result (λ turn. turn_of turn ≡ spec.env cmd.now (held words.now) seen.now) }
+{
+    let [path, name] = words else {
+        return Ok(misused(alloc, seen));
+    };
+    match seen {
+        [] => {
+            let value = exported_in(cmd.exports.as_slice(), name);
+            write(alloc, cmd.cwd.bytes(), path, line_of(alloc, &[value])?)
+        }
+        [_, rest @ ..] => Ok(ended(alloc, 0, rest)),
     }
 }
 

@@ -36,20 +36,20 @@ pub fn next(alloc: Global, cmd: &Cmd, seen: &[Answer]) -> Result<Next, NoMemory>
     ensures { IfOk result (λ next. next ≡ language_next cmd.now seen.now) }
 {
     let words = words_of(alloc, cmd.text.bytes())?;
-    in_order(alloc, cmd.cwd.bytes(), words.as_slice(), seen)
+    in_order(alloc, cmd, words.as_slice(), seen)
 }
 
 // What the commands among these words ask next, or their end.
-fn in_order(alloc: Global, cwd: &[u8], words: &[&[u8]], seen: &[Answer]) -> Result<Next, NoMemory>
+fn in_order(alloc: Global, cmd: &Cmd, words: &[&[u8]], seen: &[Answer]) -> Result<Next, NoMemory>
     ensures { IfOk result (λ next. next
-        ≡ in_order cwd.now (slice_split is_semicolon (held words.now)) [] seen.now) }
+        ≡ in_order cmd.now (slice_split is_semicolon (held words.now)) [] seen.now) }
 {
     let mut printed = Text::new(alloc);
     let mut commands = Some(words);
     let mut rest = seen;
     'commands: while let Some(line) = commands {
         let (command, more) = first_command(line);
-        match obey(alloc, cwd, command, rest)? {
+        match obey(alloc, cmd, command, rest)? {
             Turn::Asks { request } => return Ok(Next::More { request }),
             Turn::Ends {
                 status,

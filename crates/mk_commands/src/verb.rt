@@ -14,6 +14,7 @@ pub enum Verb {
     Say,
     Pick,
     Probe,
+    Env,
     Fail,
 }
 
@@ -36,7 +37,7 @@ pub fn verb_of(word: &[u8]) -> Option<Verb>
     }
 }
 
-// The verb that a word is, of the last five.
+// The verb that a word is, of the last six.
 fn other_verb_of(word: &[u8]) -> Option<Verb>
     ensures { result ≡ spec.other_verb_of word.now }
 {
@@ -48,6 +49,8 @@ fn other_verb_of(word: &[u8]) -> Option<Verb>
         Some(Verb::Pick)
     } else if word == b"probe".as_slice() {
         Some(Verb::Probe)
+    } else if word == b"env".as_slice() {
+        Some(Verb::Env)
     } else if word == b"fail".as_slice() {
         Some(Verb::Fail)
     } else {

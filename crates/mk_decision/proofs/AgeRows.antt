@@ -40,6 +40,7 @@ no_mode = record {
   one_job = false;
   delete_on_error = false;
   ignore_paths = [];
+  exports = [];
 }
 
 abbrev time : ℕ → When

@@ -128,5 +128,5 @@ IsDecision work node seen Keep = (lines : List TaskLine) × IsKept work node see
 IsDecision work node seen (Refuse number what) = IsRefused work node seen number what
 IsDecision work node seen (Make task why) =
     IsBegun work node seen task.lines × (0 < length task.lines)
-    × (task ≡ task_with work.variables (node_at work.plan node).name task.lines)
+    × (task ≡ task_with work.variables work.mode.exports (node_at work.plan node).name task.lines)
     × IsJudged work node seen task (Some why)

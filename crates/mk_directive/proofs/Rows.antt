@@ -4,7 +4,7 @@ use Rattle.std.specs.Prelude.{codes}
 use Rattle.mk_cond.specs.declared.cond.Form.TheVariants as form
 use Rattle.mk_directive.specs.Arguments.{heading_in, in_at, wanted_by}
 use Rattle.mk_directive.specs.Directives.{directive_on}
-use Rattle.mk_directive.specs.declared.directive.Directive.TheVariants.{If, ElseIf, EndIf, TryInclude, Undef}
+use Rattle.mk_directive.specs.declared.directive.Directive.TheVariants.{If, ElseIf, EndIf, TryInclude, Undef, Export}
 
 -- directives
 condition : directive_on (codes ".if 1") ≡ Some (If form.If, codes "1")
@@ -30,6 +30,12 @@ longer_word = refl
 
 special_target : directive_on (codes ".PHONY: a") ≡ None
 special_target = refl
+
+exported_names : directive_on (codes ".export A B") ≡ Some (Export, codes "A B")
+exported_names = refl
+
+other_ending : directive_on (codes ".export-env A") ≡ None
+other_ending = refl
 
 -- loops
 names : heading_in (codes "a b in  1 2") ≡ Some (codes "a" ∷ codes "b" ∷ [], codes "1 2")

@@ -9,7 +9,7 @@ use Rattle.mk_bytes.specs.Texts.{without_blanks_before}
 use Rattle.mk_directive.specs.declared.directive.Directive.{Directive}
 use Rattle.mk_directive.specs.declared.directive.Directive.TheVariants.{If, ElseIf, Else, EndIf, For, EndFor}
 use Rattle.mk_directive.specs.declared.directive.Directive.TheVariants.{Break, Include, TryInclude}
-use Rattle.mk_directive.specs.declared.directive.Directive.TheVariants.{Undef, Error, Warning, Info}
+use Rattle.mk_directive.specs.declared.directive.Directive.TheVariants.{Undef, Error, Warning, Info, Export, Unexport}
 
 -- a byte of a directive's word: lower-case letters and `-`
 abbrev pub is_word_byte : ℕ → Bool
@@ -55,7 +55,9 @@ other word =
     else (if bytes_eq word (codes "error") then Some Error
     else (if bytes_eq word (codes "warning") then Some Warning
     else (if bytes_eq word (codes "info") then Some Info
-    else None)))
+    else (if bytes_eq word (codes "export") then Some Export
+    else (if bytes_eq word (codes "unexport") then Some Unexport
+    else None)))))
 
 abbrev pub or_else : Option Directive → Option Directive → Option Directive
 or_else None next = next

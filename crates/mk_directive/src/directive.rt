@@ -26,6 +26,8 @@ pub enum Directive {
     Error,
     Warning,
     Info,
+    Export,
+    Unexport,
 }
 
 /// A directive, and what follows its word and the blanks behind that.
@@ -123,6 +125,8 @@ fn other(word: &[u8]) -> Option<Directive>
         b"error" => Some(Directive::Error),
         b"warning" => Some(Directive::Warning),
         b"info" => Some(Directive::Info),
+        b"export" => Some(Directive::Export),
+        b"unexport" => Some(Directive::Unexport),
         _ => None,
     }
 }

@@ -15,6 +15,7 @@ use Rattle.mk_trace.specs.Builds.{Build, Duty, Own, free, remove, date, close, r
 use Rattle.mk_trace.specs.Collected.{has_meta, with_end}
 use Rattle.mk_trace.specs.Items.{passes, ends, changes, looks, gone, whole, cut_whole}
 use Rattle.mk_trace.specs.declared.collected.Collected.{Collected}
+use Rattle.mk_export.specs.Lists.{AreExports}
 use Rattle.mk_meta.specs.Texts.{meta_text}
 use Rattle.mk_meta.specs.TrueHistory.{meta_path}
 use Rattle.mk_trace.specs.Collected.{IsCountable, meta_of}
@@ -442,31 +443,34 @@ whole_bytes work n lines collected = meta_text (meta_of work n lines collected)
 is-whole : (work : Work) (known : Known) (nodes : List NodeState) (jobs : List Job)
     (failure : Option Failure) (n : ℕ) (lines : List TaskLine) (collected : Collected)
     (when : When) (tasks : run.Tasks) (build : Build) → HasTasks tasks known → IsCountable collected
-    → length lines < 2 ^ 32 → IsDated work known nodes jobs failure n lines collected when tasks build
+    → length lines < 2 ^ 32 → AreExports work.mode.exports
+    → IsDated work known nodes jobs failure n lines collected when tasks build
     → IsWhole work tasks build n (whole_path work n) (whole_bytes work n lines collected)
-is-whole work known nodes jobs failure n lines collected when tasks build has countable few is =
+is-whole work known nodes jobs failure n lines collected when tasks build has countable few exports is =
     let task : tasks n ≡ lines = has n lines is.task in
     record {
       path_is = refl;
       bytes_are = rw (task, is.collected_is) refl;
       countable = rw is.collected_is countable;
       few = rw task few;
+      exports = exports;
     }
 
 pub go_on-whole : (work : Work) (known : Known) (nodes : List NodeState) (jobs : List Job)
     (failure : Option Failure) (n : ℕ) (lines : List TaskLine) (collected : Collected) (when : When)
     (time : ℕ) (tasks : run.Tasks) (build : Build) → HasTasks tasks known → IsCountable collected
-    → length lines < 2 ^ 32 → raised 0 when < time
+    → length lines < 2 ^ 32 → AreExports work.mode.exports → raised 0 when < time
     → IsDated work known nodes jobs failure n lines collected when tasks build
     → GoesOn work tasks build
     (changes n (whole (whole_path work n) (whole_bytes work n lines collected) time) ∷ [])
     (IsGoing known nodes run.anything jobs failure)
-go_on-whole work known nodes jobs failure n lines collected when time tasks build has countable few later is = record {
+go_on-whole work known nodes jobs failure n lines collected when time tasks build has countable few exports later
+    is = record {
   makes = (
     tt,
     is.at.stands.duty_is,
     (
-      is-whole work known nodes jobs failure n lines collected when tasks build has countable few is,
+      is-whole work known nodes jobs failure n lines collected when tasks build has countable few exports is,
       rw is.told later,
     ),
     tt,
@@ -486,20 +490,20 @@ go_on-whole work known nodes jobs failure n lines collected when time tasks buil
 pub go_on-cut_whole : (work : Work) (known : Known) (nodes : List NodeState) (jobs : List Job)
     (failure : Option Failure) (n : ℕ) (lines : List TaskLine) (collected : Collected)
     (when : When) (part : List ℕ) (time : ℕ) (tasks : run.Tasks) (build : Build) → HasTasks tasks known
-    → IsCountable collected → length lines < 2 ^ 32
+    → IsCountable collected → length lines < 2 ^ 32 → AreExports work.mode.exports
     → IsDated work known nodes jobs failure n lines collected when tasks build
     → Begins part (whole_bytes work n lines collected)
     → GoesOn work tasks build (changes n (cut_whole (whole_path work n) part time) ∷ [])
     (λ tasks build. Unit {0})
 go_on-cut_whole work known nodes jobs failure n lines collected when part time tasks build has countable few
-    is begins =
+    exports is begins =
     record {
       makes = (
         tt,
         is.at.stands.duty_is,
         (
           whole_bytes work n lines collected,
-          is-whole work known nodes jobs failure n lines collected when tasks build has countable few is,
+          is-whole work known nodes jobs failure n lines collected when tasks build has countable few exports is,
           begins,
         ),
         tt,

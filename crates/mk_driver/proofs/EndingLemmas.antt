@@ -1,6 +1,7 @@
 -- A build so far, and a child that is taken in.
 use Rattle.std.proofs.Common.{◌≡◌, ◌∙◌, ◌⊎◌, ℕ, ◌+◌, ◌-◌, ◌^◌, ◌<◌, ◌≤◌, nat_le, nat_lt, List, [], ◌∷◌, ◌++◌, length, get_or, set, Option, Some, None, Bool, true, false, if◌then◌else◌}
 use Rattle.std.proofs.Common.{inl, inr, refl, sym, ap, subst, append_assoc, arith}
+use Rattle.mk_export.specs.Lists.{AreExports}
 use Rattle.mk_plan.specs.Deciding.{Rules, is_stopped, may_decide, open_jobs}
 use Rattle.mk_plan.specs.Plans.{node_at}
 use Rattle.mk_plan.specs.declared.plan.NodeState.{NodeState}
@@ -327,13 +328,14 @@ so_far-dated meaning work known nodes jobs failure job last first now next settl
 so_far-whole : (meaning : Meaning) (work : Work) (known : Known) (nodes : List NodeState)
     (jobs : List Job) (failure : Option Failure) (job : Job) (last : Option ℕ) (first now next : Moment)
     (when : When) (time : ℕ) → IsCountable job.collected → length job.task.lines < 2 ^ 32
-    → raised 0 when < time → SoFar meaning work false first now last known
+    → AreExports work.mode.exports → raised 0 when < time
+    → SoFar meaning work false first now last known
     (IsDated work known nodes jobs failure job.node job.task.lines job.collected when)
     → Called meaning now.history next.history (ChangeItem job.node
     (whole (whole_path work job.node) (whole_bytes work job.node job.task.lines job.collected) time))
     → next.events ≡ now.events → next.out ≡ now.out
     → SoFar meaning work false first next last known (IsGoing known nodes run.anything jobs failure)
-so_far-whole meaning work known nodes jobs failure job last first now next when time countable few later so
+so_far-whole meaning work known nodes jobs failure job last first now next when time countable few exports later so
     call events out =
     let n = job.node in
     let change = whole (whole_path work n) (whole_bytes work n job.task.lines job.collected) time in
@@ -342,7 +344,7 @@ so_far-whole meaning work known nodes jobs failure job last first now next when 
     (IsGoing known nodes run.anything jobs failure) (ChangeItem n change) so call
     (rw call.is_own tt) (rw call.is_own (events ∙ sym (append-none now.events))) (λ tasks has. has)
     (λ tasks build has is. rw call.is_own (go_on-whole work known nodes jobs failure n job.task.lines
-    job.collected when time tasks build has countable few later is))
+    job.collected when time tasks build has countable few exports later is))
     (λ tasks build has is. rw call.is_own (silent work tasks now next last (changes n change ∷ []) out refl
     (λ outputs p. refl)))
 
@@ -350,6 +352,7 @@ so_far-whole meaning work known nodes jobs failure job last first now next when 
 so_far-cut_whole : (meaning : Meaning) (work : Work) (known : Known) (nodes : List NodeState)
     (jobs : List Job) (failure : Option Failure) (job : Job) (last : Option ℕ) (first now next : Moment)
     (when : When) → IsCountable job.collected → length job.task.lines < 2 ^ 32
+    → AreExports work.mode.exports
     → SoFar meaning work false first now last known
     (IsDated work known nodes jobs failure job.node job.task.lines job.collected when)
     → Called meaning now.history next.history (PartItem job.node
@@ -357,7 +360,7 @@ so_far-cut_whole : (meaning : Meaning) (work : Work) (known : Known) (nodes : Li
     (whole_bytes work job.node job.task.lines job.collected))
     → next.events ≡ now.events → next.out ≡ now.out
     → SoFar meaning work false first next last known (λ tasks build. Unit {0})
-so_far-cut_whole meaning work known nodes jobs failure job last first now next when countable few so call
+so_far-cut_whole meaning work known nodes jobs failure job last first now next when countable few exports so call
     events out =
     so_far-called meaning work false first now next last last known known
     (IsDated work known nodes jobs failure job.node job.task.lines job.collected when)
@@ -382,7 +385,7 @@ so_far-cut_whole meaning work known nodes jobs failure job last first now next w
         → (own : List Item) → Part own → GoesOn work tasks build own (λ tasks build. Unit {0})
     goes tasks build has is own (inl none) = rw none (record { makes = tt; stands = tt })
     goes tasks build has is own (inr cut) = rw cut.3 (go_on-cut_whole work known nodes jobs failure job.node
-        job.task.lines job.collected when cut.0 cut.1 tasks build has countable few is cut.2)
+        job.task.lines job.collected when cut.0 cut.1 tasks build has countable few exports is cut.2)
 
     quiet : (tasks : run.Tasks) (own : List Item) → Part own
         → PrintsOwn work tasks false now next last last own
@@ -420,7 +423,7 @@ going-closed meaning work history later course schedule job first out token sche
     by (inl written) =
         so_far-whole meaning work at.0 nodes course.jobs.items course.failure job course.last_shown
         first (moment written.between out course.events.items) (moment later out course.events.items)
-        written.asked.when written.writes.time written.countable written.few
+        written.asked.when written.writes.time written.countable written.few written.exports
         (less-behind _ written.newest written.writes.time written.told written.writes.later) (so_far-dated meaning work at.0 nodes course.jobs.items course.failure job course.last_shown first
         (moment history out course.events.items) (moment written.between out course.events.items) settled at.2
         written.asked refl refl) written.writes.call refl refl
@@ -451,7 +454,7 @@ halted-closing meaning work halt history later course job first out token (inr p
     halted meaning work halt first later out course.events.items course.last_shown at.0 _
     (so_far-cut_whole meaning work at.0 nodes course.jobs.items course.failure job
     course.last_shown first (moment part.between out course.events.items) (moment later out course.events.items)
-    part.asked.when part.countable part.few (so_far-dated meaning work at.0 nodes course.jobs.items course.failure job course.last_shown first
+    part.asked.when part.countable part.few part.exports (so_far-dated meaning work at.0 nodes course.jobs.items course.failure job course.last_shown first
     (moment history out course.events.items) (moment part.between out course.events.items) settled at.2 part.asked
     refl refl) part.call refl refl)
 

@@ -1,5 +1,6 @@
 -- What opening and closing a job leaves in the world.
 use Rattle.std.specs.Prelude.{◌≡◌, ◌⊎◌, ℕ, ◌<◌, ◌≤◌, ◌^◌, List, [], length, Option, None, true, false}
+use Rattle.mk_export.specs.Lists.{AreExports}
 use Rattle.mk_meta.specs.Texts.{head as head_of, meta_text}
 use Rattle.mk_meta.specs.declared.meta.Meta.{Meta}
 use Rattle.mk_meta.specs.TrueHistory.{meta_path}
@@ -99,6 +100,7 @@ pub record WholeWritten (meaning : Meaning) (work : Work) (before after : Option
     pub asked : DateAsked meaning work before between job.node
     pub countable : IsCountable job.collected
     pub few : length job.task.lines < 2 ^ 32
+    pub exports : AreExports work.mode.exports
     pub newest : ℕ
     pub told : raised 0 asked.when ≤ newest
     pub writes : WritesWhole meaning work between after job newest
@@ -128,6 +130,7 @@ pub record PartOfWhole (meaning : Meaning) (work : Work) (before after : Option 
     pub asked : DateAsked meaning work before between job.node
     pub countable : IsCountable job.collected
     pub few : length job.task.lines < 2 ^ 32
+    pub exports : AreExports work.mode.exports
     pub call : WritesPartOfWhole meaning work between after job
 
 -- a job was not closed: the target's time was not asked, or the file was not written behind it

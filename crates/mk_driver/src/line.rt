@@ -109,7 +109,8 @@ fn start_command<W: World>(
     ensures children { W.runs world.new kids.new.tickets }
 {
     let line = line_at(&job.task, job.number);
-    let cmd = command(maker.alloc, line, maker.made.scopes.cwd())?;
+    let made = maker.made;
+    let cmd = command(maker.alloc, line, made.scopes.cwd(), &made.mode.exports)?;
     let place = Place {
         node: job.node,
         number: job.number,

@@ -7,6 +7,7 @@ ghost use Rattle.mk_driver.specs.Jobs.{HasToken};
 ghost use Rattle.mk_driver.specs.Metas as metas;
 ghost use Rattle.mk_driver.specs.Metas.{HasClosed, HasOpened, IsUnclosed, IsUnopened, WholeWritten, WritesHead, WritesPartOfHead, WritesPartOfWhole, WritesWhole};
 ghost use Rattle.mk_driver.specs.Progress.{Fits, FromAny, GoingAt, HaltedAt, OverAt, undecided};
+ghost use Rattle.mk_export.specs.Lists.{AreExports};
 ghost use Rattle.mk_meta.specs.Jobs as jobs;
 ghost use Rattle.mk_trace.specs.Collected as spec;
 ghost use Rattle.mk_trace.specs.Collected.{IsCountable, has_meta};
@@ -103,7 +104,7 @@ fn frame_of(maker: &Maker, job: &Job) -> Result<Meta, NoMemory>
 {
     Ok(Meta {
         stamp: Time(job.collected.owner),
-        exports: Items::new(maker.alloc, 0)?,
+        exports: maker.made.mode.exports.copy(maker.alloc)?,
         lines: kept_lines(maker.alloc, job.task.lines.as_slice())?,
         cwd: Text::from_bytes(maker.alloc, maker.made.scopes.cwd())?,
         target: Text::from_bytes(maker.alloc, maker.plan.name(job.node))?,
@@ -166,11 +167,13 @@ fn write_whole<W: World>(
         (W.history world.old) (W.history world.new) job) }
     ensures countable { IsCountable job.collected }
     ensures few { length job.task.lines < 2 ^ 32 }
+    ensures exports { AreExports (work_of maker.now).mode.exports }
     ensures cause { HasCause world_failed (W.faults world.old) (W.faults world.new) result }
     ensures children { (kids : List ℕ) → W.runs world.old kids → W.runs world.new kids }
 {
     let _printed = job.collected.output.len();
     let _lines = job.task.lines.len();
+    let _exports = maker.made.mode.exports.as_slice();
     let node = job.node;
     let text = whole_text(maker, job)?;
     let path = meta_path(maker.alloc, maker.plan.name(node))?;

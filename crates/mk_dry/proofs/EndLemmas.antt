@@ -395,7 +395,7 @@ pub begun-from : (meaning : Meaning) (made : Made) (flags : Flags) (n : ℕ) (li
     (now : Point) (seen : List Seen) → IsDue made flags now.course n
     → IsBegun (work_in now.course made flags) n seen lines → 0 < length lines → (from : Origin)
     → (at : SeenAt meaning from.start made flags now.history now.course n seen from.first now.out)
-    → AreLinesOf made.scopes n lines now.course.failure (scene_from made flags n lines at.1 now from)
+    → AreLinesOf made n lines now.course.failure (scene_from made flags n lines at.1 now from)
     × StandsIn meaning (moment now.history now.out now.course.events.items)
     (IsBehind (scene_from made flags n lines at.1 now from) 0)
     (scene_from made flags n lines at.1 now from)
@@ -411,6 +411,7 @@ begun-from meaning made flags n lines now seen due begun some from at =
         node_is = refl;
         lines_are = refl;
         variables_are = refl;
+        mode_is = refl;
         failure_is = refl;
       },
       so_far-begun meaning from.start work at.1 nodes course.failure n lines seen from.first

@@ -12,6 +12,8 @@ use Rattle.mk_decision.specs.Decisions.{IsBegun}
 use Rattle.mk_plan.specs.Deciding.{Rules, first_ready, is_stopped, may_decide, open_jobs}
 use Rattle.mk_plan.specs.declared.plan.NodeState.{NodeState}
 use Rattle.mk_plan.specs.declared.plan.NodeState.TheVariants.{Open, Settled, Failed}
+use Rattle.mk_graph.specs.declared.Made.{Made}
+use Rattle.mk_graph.specs.declared.mode.Mode.{Mode}
 use Rattle.mk_scopes.specs.Scopes.{Variables}
 use Rattle.mk_trace.specs.Builds.{Moment, Prints, IsCommandOf, command_of, moment, or_next}
 use Rattle.mk_trace.specs.Calls.{Called, EndItem, NoItem, StartItem}
@@ -526,26 +528,28 @@ in-unwaited meaning scene halt number ticket history then_history out events now
 -- the line of a node was started
 pub line-started : (meaning : Meaning) (scene : Scene) (place : Place) (one : TaskLine) (cmd : Cmd)
     (cwd : List ℕ) (history then_history : Option History) (out : Option (List ℕ))
-    (events now : List Event) (variables : Variables) → IsLineOf variables place one scene
-    → is_started one ≡ true → cwd ≡ variables.cwd
-    → cmd ≡ record { text = one.text; cwd = cwd; exports = [] }
+    (events now : List Event) (made : Made) → IsLineOf made place one scene
+    → is_started one ≡ true → cwd ≡ made.scopes.cwd
+    → cmd ≡ record { text = one.text; cwd = cwd; exports = made.mode.exports }
     → InScene meaning scene (IsAnnounced scene place.number) history out events
     → Called meaning history then_history (StartItem place.node place.number 1 0 cmd)
     → now ≡ events ++ event.Start place.node place.number ∷ []
     → InScene meaning scene (IsRunning scene place.number 1 run.anything) then_history out now
-line-started meaning scene place one cmd cwd history then_history out events now variables at started
+line-started meaning scene place one cmd cwd history then_history out events now made at started
     directory command so call told =
     let number = place.number in
     let here : cwd ≡ scene.work.variables.cwd = directory ∙ ap (λ (v : Variables). v.cwd) (sym at.variables_are) in
     in-starts meaning scene number 1 0 one cmd history then_history out events now at.is_open at.line_is
-    started (command ∙ ap (λ (d : List ℕ). record { text = one.text; cwd = d; exports = [] }) here) refl so
+    started (command ∙ ap (λ (d : List ℕ). record { text = one.text; cwd = d; exports = made.mode.exports }) here
+    ∙ ap (λ (m : Mode). record { text = one.text; cwd = scene.work.variables.cwd; exports = m.exports })
+    (sym at.mode_is)) refl so
     (subst (λ k. Called meaning history then_history (StartItem k number 1 0 cmd)) (sym at.node_is) call)
     (told ∙ ap (λ k. events ++ event.Start k number ∷ []) (sym at.node_is))
 
 -- its child was taken in, and what it printed was written, whole or in part
 pub line-ended : (meaning : Meaning) (scene : Scene) (cut : Bool) (place : Place) (one : TaskLine)
     (ended : Ended) (history then_history : Option History) (out next : Option (List ℕ))
-    (events now : List Event) (variables : Variables) → IsLineOf variables place one scene
+    (events now : List Event) (made : Made) → IsLineOf made place one scene
     → ended.ticket.0 ≡ 1
     → InScene meaning scene (IsRunning scene place.number 1 run.anything) history out events
     → Called meaning history then_history (EndItem place.node place.number ended)
@@ -554,7 +558,7 @@ pub line-ended : (meaning : Meaning) (scene : Scene) (cut : Bool) (place : Place
     ended.output
     → SoFar meaning scene.start cut scene.first (moment then_history next now) scene.known
     (IsEnded scene place.number ended.status (run.fails (Some one) ended.status))
-line-ended meaning scene cut place one ended history then_history out next events now variables at same so
+line-ended meaning scene cut place one ended history then_history out next events now made at same so
     call told prints =
     let number = place.number in
     let waited = events ++ event.Wait ∷ [] in
@@ -597,17 +601,18 @@ line-at lines given done one same is =
     back n = omega arith
 
 -- the next line of a node
-pub line-of : (meaning : Meaning) (variables : Variables) (node : ℕ) (lines : List TaskLine)
+pub line-of : (meaning : Meaning) (made : Made) (node : ℕ) (lines : List TaskLine)
     (failure : Option Failure) (done : ℕ) (line : TaskLine) (scene : Scene) (now : Moment)
-    → AreLinesOf variables node lines failure scene → done < length lines → slice_get lines done ≡ Some line
+    → AreLinesOf made node lines failure scene → done < length lines → slice_get lines done ≡ Some line
     → StandsIn meaning now (IsBehind scene done) scene
-    → IsLineOf variables (record { node = node; number = done + 1 }) line scene
+    → IsLineOf made (record { node = node; number = done + 1 }) line scene
     × StandsIn meaning now (IsPoised scene (done + 1)) scene
-line-of meaning variables node lines failure done line scene now at more is so = (
+line-of meaning made node lines failure done line scene now at more is so = (
   record {
     is_open = at.is_open;
     node_is = at.node_is;
     variables_are = at.variables_are;
+    mode_is = at.mode_is;
     counted = omega arith;
     line_is = line-at scene.lines lines done line at.lines_are is;
   },

@@ -8,7 +8,6 @@ use Rattle.mk_flags.specs.declared.Flags.{Flags}
 use Rattle.mk_graph.specs.declared.Made.{Made}
 use Rattle.mk_plan.specs.Deciding.{is_stopped}
 use Rattle.mk_plan.specs.declared.plan.NodeState.{NodeState}
-use Rattle.mk_scopes.specs.Scopes.{Variables}
 use Rattle.mk_trace.specs.Builds.{Moment, moment}
 use Rattle.mk_trace.specs.Runs.{fails, line_of}
 use Rattle.mk_trace.specs.declared.result.Failure.{Failure}
@@ -36,11 +35,12 @@ pub record Leads {S A : Type 0} (Before : S → Type 0) (Behind : A → S → Ty
 -- the lines of a node
 
 -- the line at a place is one of the scene's open node
-pub record IsLineOf (variables : Variables) (place : Place) (line : TaskLine) (scene : Scene) : Type 0
+pub record IsLineOf (made : Made) (place : Place) (line : TaskLine) (scene : Scene) : Type 0
   where
     pub is_open : IsOpenScene scene
     pub node_is : scene.node ≡ place.node
-    pub variables_are : scene.work.variables ≡ variables
+    pub variables_are : scene.work.variables ≡ made.scopes
+    pub mode_is : scene.work.mode ≡ made.mode
     pub counted : 0 < place.number
     pub line_is : line_of scene.lines place.number ≡ Some line
 
@@ -52,29 +52,30 @@ abbrev pub EndedIn : Meaning → Moment → Halt → Scene → Type 0
 EndedIn meaning now halt scene = HaltedIn meaning scene halt now.history now.out now.events
 
 -- A part begins where a line so stands, and gives the status with which the line has ended.
-abbrev pub EndsLine : Meaning → Variables → Place → TaskLine → (Scene → ℕ → Standing) → Moment → Moment
+abbrev pub EndsLine : Meaning → Made → Place → TaskLine → (Scene → ℕ → Standing) → Moment → Moment
     → Result ℕ Halt → Type 0
-EndsLine meaning variables place line Stands old new result =
-    Leads (λ scene. IsLineOf variables place line scene
+EndsLine meaning made place line Stands old new result =
+    Leads (λ scene. IsLineOf made place line scene
     × StandsIn meaning old (Stands scene place.number) scene)
     (λ status scene. StandsIn meaning new
     (IsEnded scene place.number status (fails (Some line) status)) scene) (EndedIn meaning new) result
 
 -- these are the lines of the scene's open node
-pub record AreLinesOf (variables : Variables) (node : ℕ) (lines : List TaskLine)
+pub record AreLinesOf (made : Made) (node : ℕ) (lines : List TaskLine)
     (failure : Option Failure) (scene : Scene) : Type 0
   where
     pub is_open : IsOpenScene scene
     pub node_is : scene.node ≡ node
     pub lines_are : scene.lines ≡ lines
-    pub variables_are : scene.work.variables ≡ variables
+    pub variables_are : scene.work.variables ≡ made.scopes
+    pub mode_is : scene.work.mode ≡ made.mode
     pub failure_is : scene.failure ≡ failure
 
 -- A part begins with the first line of a node, and gives how the node stands behind its lines.
-abbrev pub EndsLines : Meaning → Variables → ℕ → List TaskLine → Option Failure → Option Failure → Moment
+abbrev pub EndsLines : Meaning → Made → ℕ → List TaskLine → Option Failure → Option Failure → Moment
     → Moment → Result NodeState Halt → Type 0
-EndsLines meaning variables node lines before failure old new result =
-    Leads (λ scene. AreLinesOf variables node lines before scene
+EndsLines meaning made node lines before failure old new result =
+    Leads (λ scene. AreLinesOf made node lines before scene
     × StandsIn meaning old (IsBehind scene 0) scene)
     (λ stands scene. StandsIn meaning new
     (IsAt (set scene.opened node stands) [] scene.work failure) scene) (EndedIn meaning new) result

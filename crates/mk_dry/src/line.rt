@@ -53,7 +53,7 @@ fn run_line<W: World, S: Sink>(
 ) -> Result<u8, Halt>
     requires alone { IsAlone (W.runs world.old) kids.old.tickets kids.old.room }
     requires starts { spec.is_started line.now ≡ true }
-    ensures goes { EndsLine W.meaning made.now.scopes place line.now IsAnnounced
+    ensures goes { EndsLine W.meaning made.now place line.now IsAnnounced
         (moment (W.history world.old) (S.held out.old) events.old.items)
         (moment (W.history world.new) (S.held out.new) events.new.items) result }
     ensures alone { IfOk result (λ status. IsAlone (W.runs world.new) kids.new.tickets kids.new.room) }
@@ -61,7 +61,7 @@ fn run_line<W: World, S: Sink>(
     ensures sink_cause { HasCause halts.Sink (S.faults out.old) (S.faults out.new) result }
     ensures children { W.runs world.new kids.new.tickets }
 {
-    let cmd = command(alloc, line, made.scopes.cwd())?;
+    let cmd = command(alloc, line, made.scopes.cwd(), &made.mode.exports)?;
     let started = start_child(alloc, world, kids, events, place, TICKET, Time(0), &cmd);
     drop(cmd);
     started?;
@@ -83,7 +83,7 @@ fn show_line<W: World, S: Sink>(
     line: &TaskLine,
 ) -> Result<u8, Halt>
     requires alone { IsAlone (W.runs world.old) kids.old.tickets kids.old.room }
-    ensures goes { EndsLine W.meaning made.now.scopes place line.now IsPoised
+    ensures goes { EndsLine W.meaning made.now place line.now IsPoised
         (moment (W.history world.old) (S.held out.old) events.old.items)
         (moment (W.history world.new) (S.held out.new) events.new.items) result }
     ensures alone { IfOk result (λ status. IsAlone (W.runs world.new) kids.new.tickets kids.new.room) }
@@ -112,7 +112,7 @@ pub fn show_lines<W: World, S: Sink>(
     task: &Task,
 ) -> Result<NodeState, Halt>
     requires alone { IsAlone (W.runs world.old) kids.old.tickets kids.old.room }
-    ensures goes { EndsLines W.meaning made.now.scopes node task.now.lines failure.old failure.new
+    ensures goes { EndsLines W.meaning made.now node task.now.lines failure.old failure.new
         (moment (W.history world.old) (S.held out.old) events.old.items)
         (moment (W.history world.new) (S.held out.new) events.new.items) result }
     ensures stands { IfOk result (λ stands. HasCome stands failure.old failure.new) }

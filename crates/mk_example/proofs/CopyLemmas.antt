@@ -99,7 +99,7 @@ unfolding lines_from text_at parts.joined
 files-are others bytes = refl
 
 clean-task-is : (others : Store) (bytes : List ℕ)
-    → task_on work 1 (start others bytes) ≡ Ok (task_with work.variables (codes "t") lines, [])
+    → task_on work 1 (start others bytes) ≡ Ok (task_with work.variables work.mode.exports (codes "t") lines, [])
 unfolding lines_from text_at parts.joined refers
 clean-task-is others bytes = refl
 
@@ -210,7 +210,7 @@ alike others bytes tasks is = record {
   same_tasks = λ one among.
       subst (HasSameTask work work tasks)
       (the-job others bytes one (subst (λ l. IsAmong one l) (jobs-are others bytes) among))
-      ([], clean-task-is others bytes ∙ ap (λ l. Ok (task_with work.variables (codes "t") l, [])) (sym is));
+      ([], clean-task-is others bytes ∙ ap (λ l. Ok (task_with work.variables work.mode.exports (codes "t") l, [])) (sym is));
 }
 
 files-stand : (bytes : List ℕ) (old : History) → IsReady bytes old → files (files_of old) bytes ≡ files_of old

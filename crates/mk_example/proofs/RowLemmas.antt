@@ -131,6 +131,7 @@ made = record {
     one_job = false;
     delete_on_error = false;
     ignore_paths = [];
+    exports = [];
   };
 }
 
@@ -171,7 +172,7 @@ abbrev pub lines : List TaskLine
 lines = record { text = codes "copy a t"; ignore = false; silent = false; always = false; compared = true } ∷ []
 
 pub task-is : (newer : List (List ℕ)) (asked : List Dated)
-    → asked_task work 1 newer asked ≡ Ok (task_with work.variables (codes "t") lines, [])
+    → asked_task work 1 newer asked ≡ Ok (task_with work.variables work.mode.exports (codes "t") lines, [])
 unfolding lines_from text_at parts.joined refers
 task-is newer asked = refl
 

@@ -1,7 +1,9 @@
 use mk_bytes::Texts;
+use mk_export::Exported;
 
 /// How a build goes, as the makefiles of a run ask for it (make(1), `.MAKE.MODE` and
-/// `.MAKE.META.IGNORE_PATHS`, and the special targets `.NOTPARALLEL` and `.DELETE_ON_ERROR`).
+/// `.MAKE.META.IGNORE_PATHS`, the special targets `.NOTPARALLEL` and `.DELETE_ON_ERROR`, and the
+/// directive `.export`).
 #[derive(Drop)]
 pub struct Mode {
     /// Meta files are written and read.
@@ -24,4 +26,6 @@ pub struct Mode {
     pub delete_on_error: bool,
     /// Paths that begin with one of these do not count.
     pub ignore_paths: Texts,
+    /// What commands find in their environment.
+    pub exports: Exported,
 }

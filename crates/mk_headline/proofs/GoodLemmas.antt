@@ -67,7 +67,7 @@ begun-has work node seen lines begun some =
     (manner_of work.mode work.flags (node_at work.plan node).marks) [] 1 []
     (node_at work.plan node).commands)
     (λ (made : List TaskLine × List Asked).
-    Ok (task_with work.variables (node_at work.plan node).name made.0, made.1)) _ begun.2.has in
+    Ok (task_with work.variables work.mode.exports (node_at work.plan node).name made.0, made.1)) _ begun.2.has in
     let lines_are : all.0.0 ≡ lines =
     ap (λ (made : Task × List Asked). made.0.lines) (same-ok _ _ all.2) ∙ sym begun.3 in
     nil-lines (setting_by work sight.asked)

@@ -289,7 +289,7 @@ same-ok one other is = cc
 
 task-is : (work : Work) (node : ℕ) (target : When) (sources : List Sighting) (asked : List Dated) (task : Task)
     → decide.HasTask work node target sources asked task
-    → (lines : List TaskLine) × (task ≡ task_with work.variables (node_at work.plan node).name lines)
+    → (lines : List TaskLine) × (task ≡ task_with work.variables work.mode.exports (node_at work.plan node).name lines)
 task-is work node target sources asked task has =
     let all = bound
     (lines_from (setting_by work asked)
@@ -297,7 +297,7 @@ task-is work node target sources asked task has =
     (manner_of work.mode work.flags (node_at work.plan node).marks) [] 1 []
     (node_at work.plan node).commands)
     (λ (made : List TaskLine × List Asked).
-    Ok (task_with work.variables (node_at work.plan node).name made.0, made.1)) _ has in
+    Ok (task_with work.variables work.mode.exports (node_at work.plan node).name made.0, made.1)) _ has in
     (all.0.0, sym (ap (λ (made : Task × List Asked). made.0) (same-ok _ _ all.2)))
 
 weaken-all : (P Q : When → Type 0) (times : List When) → ((time : When) → P time → Q time)
@@ -388,7 +388,7 @@ module _ (meaning : Meaning) (work : Work) (tasks : run.Tasks) (base : List File
     abbrev told_target : When
     told_target = judged.sight.target
 
-    task_made : (lines : List TaskLine) × (task ≡ task_with work.variables name lines)
+    task_made : (lines : List TaskLine) × (task ≡ task_with work.variables work.mode.exports name lines)
     task_made = task-is work n told_target judged.sight.sources judged.sight.asked task judged.has
 
     has_task : HasTask plan n task

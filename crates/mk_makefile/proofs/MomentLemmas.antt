@@ -4,6 +4,7 @@ use Rattle.std.proofs.lemmas.Grind.{common_steps}
 use Rattle.std.proofs.lemmas.List.{append-nil, map-append}
 use Rattle.mk_blocks.specs.Acts.{Act, looked, ran}
 use Rattle.mk_cli.specs.declared.order.Order.{Order}
+use Rattle.mk_world.specs.declared.command.Cmd.{Cmd}
 use Rattle.mk_world.specs.declared.step.Ended.{Ended}
 use Rattle.mk_makefile.specs.Acts.{acts_of}
 use Rattle.mk_makefile.specs.Moments.{Moment, moment_of}
@@ -11,7 +12,7 @@ use Rattle.mk_makefile.specs.Notes.{asked_by, question_of, questions_in}
 use Rattle.mk_makefile.specs.Questions.{Answered, Answers, Reading, Running, bytes_of, output_of, readings_in, runnings_in}
 use Rattle.mk_makefile.specs.Questions.{times_in}
 use Rattle.mk_makefile.specs.Questions.{readings_in-append, runnings_in-append, times_in-append}
-use Rattle.mk_makefile.specs.Values.{asking, command_at, contents, output}
+use Rattle.mk_makefile.specs.Values.{asking, contents, printed_by}
 use Rattle.mk_makefile.specs.declared.note.Note.{Note}
 use Rattle.mk_makefile.specs.declared.state.State.{State}
 use Rattle.mk_makefile.proofs.QuestionLemmas.{readings_in-none, runnings_in-none}
@@ -155,18 +156,18 @@ contents-noted answers s t a b note path found made in_group order added is by =
 
 -- And so of a command.
 pub output-noted : (answers : Answers) (s t : State) (a b : Order) (note : Note)
-    (text : List ℕ) (ended : Ended)
+    (cmd : Cmd) (ended : Ended)
     → t.made ≡ s.made → t.in_group ≡ s.in_group → b ≡ a
     → t.notes.items ≡ s.notes.items ++ note ∷ []
-    → question_of note ≡ output_of (command_at (moment_of s a) text) ended
+    → question_of note ≡ output_of cmd ended
     → Answered answers (questions_in t.notes.items)
-    → output answers text (moment_of s a) ≡ asking (ran (command_at (moment_of s a) text)) ended.output (moment_of t b)
-output-noted answers s t a b note text ended made in_group order added is by =
-    let one : Running = record { cmd = command_at (moment_of s a) text; ended = ended } in
+    → printed_by answers cmd (moment_of s a) ≡ asking (ran cmd) ended.output (moment_of t b)
+output-noted answers s t a b note cmd ended made in_group order added is by =
+    let one : Running = record { cmd = cmd; ended = ended } in
     let running : runnings_in (questions_in (note ∷ [])) ≡ one ∷ [] = rw is refl in
     let answer = by.outputs (length (runnings_in (questions_in s.notes.items))) one
     (last-running s t note one added running) in
-    let act : Act = ran (command_at (moment_of s a) text) in
+    let act : Act = ran cmd in
     ap (λ (f : List ℕ). asking act f (record (moment_of s a) { ran = (moment_of s a).ran + 1 }))
     (sym answer)
     ∙ ap (λ (m : Moment). asking act ended.output m)

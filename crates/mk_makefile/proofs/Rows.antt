@@ -64,7 +64,7 @@ answers files = record {
 }
 
 abbrev env : Env
-env = record { vars = []; cwd = codes "/w" }
+env = record { vars = []; cwd = codes "/w"; program = codes "bmake" }
 
 abbrev order : Order
 order = record {

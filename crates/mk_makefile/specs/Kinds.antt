@@ -37,7 +37,8 @@ abbrev pub begins_comment : List ℕ → Bool
 begins_comment [] = true
 begins_comment (byte ∷ rest) = byte == hash
 
--- directives that are none of the blocks' are lines like others
+-- directives that are none of the blocks' are lines like others, but what says which variables are
+-- exported counts nothing
 abbrev pub kind_of : Directive → LineKind
 kind_of (directive.If form) = kind.If
 kind_of (directive.ElseIf form) = kind.ElseIf
@@ -52,6 +53,8 @@ kind_of directive.Undef = kind.Plain
 kind_of directive.Error = kind.Plain
 kind_of directive.Warning = kind.Plain
 kind_of directive.Info = kind.Plain
+kind_of directive.Export = kind.Uncounted
+kind_of directive.Unexport = kind.Uncounted
 
 abbrev pub by_directive : List ℕ → Option Directed → LineKind
 by_directive line (Some directed) = kind_of directed.0

@@ -3,6 +3,7 @@ pub mod Assignments
 pub mod Blocks
 pub mod Dependencies
 pub mod DependencyView
+pub mod Exports
 pub mod Facts
 pub mod Inclusions
 pub mod Kinds

@@ -13,10 +13,15 @@ use Rattle.mk_makefile.specs.Moments.{Doing, Moment, stands}
 use Rattle.mk_makefile.specs.Questions.{Answers}
 use Rattle.mk_makefile.specs.Variables.{assigned_at, assigned_by, set_by}
 
--- the environment, no line, and no question
+-- the environment, no line, nothing exported, and no question
 abbrev pub first_moment : Env → Order → Moment
 first_moment env order = record {
-  made = record { scopes = first_scopes env order.env_first; rules = no_rules; file = [] };
+  made = record {
+    scopes = first_scopes env order.env_first;
+    exports = [];
+    rules = no_rules;
+    file = [];
+  };
   in_group = false;
   order = order;
   asked = [];

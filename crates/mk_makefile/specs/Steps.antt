@@ -4,13 +4,14 @@ use Rattle.std.specs.Prelude.{if◌then◌else◌}
 use Rattle.mk_blocks.specs.Outcomes.{refused, ◌>>=◌}
 use Rattle.mk_directive.specs.Directives.{Directed, directive_on}
 use Rattle.mk_directive.specs.declared.directive.Directive.{Directive}
-use Rattle.mk_directive.specs.declared.directive.Directive.TheVariants.{Undef, Error, Warning, Info}
+use Rattle.mk_directive.specs.declared.directive.Directive.TheVariants.{Undef, Error, Warning, Info, Export, Unexport}
 use Rattle.mk_ast.specs.declared.fault.AstFault.{AstFault}
 use Rattle.mk_values.specs.Texts.{of_tree}
 use Rattle.mk_rules.specs.Rules.{Ruled, commanded}
 use Rattle.mk_scopes.specs.declared.scopes.Class.TheVariants.{Global}
 use Rattle.mk_makefile.specs.Assignments.{Parts, assignment}
 use Rattle.mk_makefile.specs.Dependencies.{Parted, parted, ruled}
+use Rattle.mk_makefile.specs.Exports.{exported_by, unexported_by}
 use Rattle.mk_makefile.specs.Kinds.{command_in, plain_text, is_only_white}
 use Rattle.mk_makefile.specs.Messages.{message, stop}
 use Rattle.mk_makefile.specs.Moments.{Doing, Moment, closed, stands}
@@ -66,6 +67,8 @@ directed answers file number Undef text s = stands (undefined_by text s)
 directed answers file number Error text s = stop answers text s
 directed answers file number Warning text s = message answers file number (codes "warning: ") text s
 directed answers file number Info text s = message answers file number [] text s
+directed answers file number Export text s = exported_by answers text s
+directed answers file number Unexport text s = unexported_by answers text s
 directed answers file number _ text s = stands s
 
 abbrev pub by_directive : Answers → List ℕ → ℕ → List ℕ → Option Directed → Moment → Doing (Unit {0})

@@ -1,7 +1,9 @@
 -- What reading asks of the outside.
-use Rattle.std.specs.Prelude.{ℕ, ◌+◌, Bool, List, [], ◌∷◌, Option, Result, Ok, Err}
+use Rattle.std.specs.Prelude.{ℕ, ◌+◌, Bool, false, List, [], ◌∷◌, ◌++◌, Option, Result, Ok, Err}
 use Rattle.mk_blocks.specs.Acts.{Act, looked, ran}
-use Rattle.mk_blocks.specs.Outcomes.{refused}
+use Rattle.mk_blocks.specs.Outcomes.{refused, ◌>>=◌}
+use Rattle.mk_bytes.specs.Bytes.{curly_close, curly_open, dollar}
+use Rattle.mk_bytes.specs.declared.pair.Pair.{Pair}
 use Rattle.mk_cond.specs.Cond.{Cond}
 use Rattle.mk_values.specs.Facts.{Lists}
 use Rattle.mk_values.specs.Locals.{no_locals}
@@ -42,11 +44,40 @@ abbrev pub contents : Answers → List ℕ → Moment → Doing (Option (List �
 contents answers path s =
     asking (looked path) (answers.contents s.read path) (record s { read = s.read + 1 })
 
-abbrev pub command_at : Moment → List ℕ → Cmd
-command_at s text = record { text = text; cwd = s.made.scopes.cwd; exports = [] }
+-- Exported variables
 
--- what a command prints
+-- a reference to a variable
+abbrev pub reference : List ℕ → List ℕ
+reference name = dollar ∷ curly_open ∷ name ++ curly_close ∷ []
+
+-- an exported variable: its value, which is empty where it is undefined
+abbrev pub exported : Answers → List ℕ → Moment → Doing Pair
+exported answers name s =
+    value answers false (reference name) s
+    >>= λ shown. given (record { name = name; value = shown.0 }) shown.1
+
+-- the variables of these names, behind those so far
+abbrev pub all_exported : Answers → List Pair → List (List ℕ) → Moment → Doing (List Pair)
+all_exported answers pairs [] s = given pairs s
+all_exported answers pairs (name ∷ names) s =
+    exported answers name s
+    >>= λ one. all_exported answers (pairs ++ one.0 ∷ []) names one.1
+
+-- The values of the exported variables, in the order of their names.
+abbrev pub values : Answers → Moment → Doing (List Pair)
+values answers s = all_exported answers [] s.made.exports s
+
+-- Commands
+
+-- a command in the current directory, with these variables in its environment
+abbrev pub command_at : Moment → List Pair → List ℕ → Cmd
+command_at s exports text = record { text = text; cwd = s.made.scopes.cwd; exports = exports }
+
+abbrev pub printed_by : Answers → Cmd → Moment → Doing (List ℕ)
+printed_by answers cmd s =
+    asking (ran cmd) (answers.outputs s.ran cmd) (record s { ran = s.ran + 1 })
+
+-- what a text prints as a command, which finds the exported variables in its environment
 abbrev pub output : Answers → List ℕ → Moment → Doing (List ℕ)
 output answers text s =
-    asking (ran (command_at s text)) (answers.outputs s.ran (command_at s text))
-    (record s { ran = s.ran + 1 })
+    values answers s >>= λ all. printed_by answers (command_at all.1 all.0 text) all.1

@@ -44,6 +44,9 @@ pub enum What {
     IncludeForm,
     /// The file of this name is missing.
     Include(Text),
+    /// An `.export` or `.unexport` has no word, or one that is no name of letters, digits and `_` with
+    /// no digit first.
+    ExportForm,
     /// A dependency line has no operator.
     NoOperator,
     /// A dependency line has the operator `::`.

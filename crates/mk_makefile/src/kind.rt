@@ -54,6 +54,8 @@ fn kind_of(directive: Directive) -> LineKind
         Directive::Error => LineKind::Plain,
         Directive::Warning => LineKind::Plain,
         Directive::Info => LineKind::Plain,
+        Directive::Export => LineKind::Uncounted,
+        Directive::Unexport => LineKind::Uncounted,
     }
 }
 

@@ -6,6 +6,7 @@
 
 mod block;
 mod dependency;
+mod export;
 mod facts;
 mod fault;
 mod inclusion;
@@ -20,6 +21,7 @@ mod variable;
 
 pub use block::{argument_on, condition_on, divide};
 pub use dependency::{add_line, parted};
+pub use export::{add_exports, are_export_names, reference_to, remove_exports};
 pub use facts::ReadFacts;
 pub use fault::{Fault, Outside, ReadFault, Refusal, Stop, What, refused, refused_at_end};
 pub use inclusion::{candidates, may_miss, required};

@@ -10,15 +10,17 @@ use crate::fault::ReadFault;
 use crate::note::Note;
 use mk_bytes::{NoMemory, Text};
 use mk_cli::Order;
+use mk_export::Exports;
 use mk_graph::{Made, Mode};
 use mk_rules::Rules;
 use mk_scopes::{Env, Scopes};
 use std::alloc::Global;
 
-/// The variables and what dependency lines left, in which makefile.
+/// The variables, which of them are exported, and what dependency lines left, in which makefile.
 #[derive(Drop)]
 pub struct Draft {
     pub scopes: Scopes,
+    pub exports: Exports,
     pub rules: Rules,
     /// The makefile that is read, as the command line has it.
     pub file: Text,
@@ -55,6 +57,7 @@ pub fn first_state(alloc: Global, env: &Env, order: &Order) -> Result<State, NoM
         Ok(rules) => Ok(State {
             made: Draft {
                 scopes,
+                exports: Exports::new(alloc),
                 rules,
                 file: Text::new(alloc),
             },

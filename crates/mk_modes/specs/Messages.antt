@@ -47,6 +47,7 @@ plain_text what.Break = codes "misplaced .break"
 plain_text what.OpenBlock = codes "block is not closed"
 plain_text what.IncludeForm = codes "bad .include"
 plain_text (what.Include file) = codes "can't find " ++ file
+plain_text what.ExportForm = codes "bad .export"
 plain_text what.NoOperator = codes "no operator"
 plain_text what.DoubleColon = codes ":: is not supported"
 plain_text what.NoTargets = codes "no targets"

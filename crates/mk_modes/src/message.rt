@@ -105,6 +105,7 @@ fn plain_text(what: &What) -> [&[u8]; 2]
         What::Break => [b"misplaced .break", b""],
         What::OpenBlock => [b"block is not closed", b""],
         What::IncludeForm => [b"bad .include", b""],
+        What::ExportForm => [b"bad .export", b""],
         What::Include(file) => [b"can't find ", file.bytes()],
         What::NoOperator => [b"no operator", b""],
         What::DoubleColon => [b":: is not supported", b""],

@@ -78,6 +78,6 @@ lines-newer k l newer m (raw ∷ more) lines number asked none =
 
 pub newer_do_not_count : NewerDoNotCount
 newer_do_not_count k suffixes nodes n oodate newer mode flags asked none =
-    ap (λ lines. lines >>= λ all. Ok (task_with k.variables (node_at nodes n).name all.0, all.1))
+    ap (λ lines. lines >>= λ all. Ok (task_with k.variables mode.exports (node_at nodes n).name all.0, all.1))
     (lines-newer k (locals_of suffixes nodes n oodate) newer
     (manner_of mode flags (node_at nodes n).marks) (node_at nodes n).commands [] 1 asked none)

@@ -2,6 +2,7 @@
 use Rattle.std.proofs.Common.{◌≡◌, ◌∙◌, ◌⊎◌, ℕ, ◌+◌, length, List, [], ◌∷◌, ◌++◌, Ok, Err, Result, inl, inr, refl, length-append, arith}
 use Rattle.std.proofs.lemmas.Grind.{common_steps}
 use Rattle.mk_bytes.specs.Agrees.{◌>>=◌}
+use Rattle.mk_bytes.specs.declared.pair.Pair.{Pair}
 use Rattle.mk_values.specs.Facts.{IsOutside}
 use Rattle.mk_values.specs.declared.facts.Asked.{Asked}
 use Rattle.mk_values.specs.declared.fault.ExpandFault.{ExpandFault}
@@ -76,11 +77,11 @@ bind-ok (Ok given) next value is = (given, refl, is)
 bind-ok (Err fault) next value is = cc
 
 -- what is made of these lines is their task
-task_is : (v : Variables) (name : List ℕ) (lines : List TaskLine) (asked now : List Asked)
+task_is : (v : Variables) (e : List Pair) (name : List ℕ) (lines : List TaskLine) (asked now : List Asked)
     (task : Task) (result : Result (Task × List Asked) TaskFault)
-    → result ≡ Ok (task_with v name lines, asked) → result ≡ Ok (task, now)
-    → task ≡ task_with v name lines
-task_is v name lines asked now task result first second = grind (arith, common_steps)
+    → result ≡ Ok (task_with v e name lines, asked) → result ≡ Ok (task, now)
+    → task ≡ task_with v e name lines
+task_is v e name lines asked now task result first second = grind (arith, common_steps)
 
 -- as many lines as commands
 lines_from-length : (s : Setting) (l : Locals) (m : Manner) (lines : List TaskLine) (number : ℕ)
@@ -104,24 +105,24 @@ task_of-lines : (s : Setting) (suffixes : List (List ℕ)) (nodes : List PlanNod
     → (lines : List TaskLine) × (behind : List Asked)
     × (lines_from s (locals_of suffixes nodes n oodate) (manner_of mode f (node_at nodes n).marks) [] 1
     asked (node_at nodes n).commands ≡ Ok (lines, behind))
-    × (task ≡ task_with s.variables (node_at nodes n).name lines)
+    × (task ≡ task_with s.variables mode.exports (node_at nodes n).name lines)
 task_of-lines s suffixes nodes n oodate mode f asked now task is =
     let name = (node_at nodes n).name in
     let parts = bind-ok (lines_from s (locals_of suffixes nodes n oodate)
     (manner_of mode f (node_at nodes n).marks) [] 1 asked (node_at nodes n).commands)
-    (λ lines. Ok (task_with s.variables name lines.0, lines.1)) (task, now) is in (
+    (λ lines. Ok (task_with s.variables mode.exports name lines.0, lines.1)) (task, now) is in (
       parts.0.0,
       parts.0.1,
       parts.1,
-      task_is s.variables name parts.0.0 parts.0.1 now task
-          (Ok (task_with s.variables name parts.0.0, parts.0.1)) refl parts.2,
+      task_is s.variables mode.exports name parts.0.0 parts.0.1 now task
+          (Ok (task_with s.variables mode.exports name parts.0.0, parts.0.1)) refl parts.2,
     )
 
--- a task says nothing of a node but its lines, its name and the directory
+-- a task says nothing of a node but its lines, its name, the directory and the exported variables
 pub task_of-with : (s : Setting) (suffixes : List (List ℕ)) (nodes : List PlanNode) (n : ℕ)
     (oodate : List (List ℕ)) (mode : Mode) (f : Flags) (asked now : List Asked) (task : Task)
     → task_of s suffixes nodes n oodate mode f asked ≡ Ok (task, now)
-    → task ≡ task_with s.variables (node_at nodes n).name task.lines
+    → task ≡ task_with s.variables mode.exports (node_at nodes n).name task.lines
 task_of-with s suffixes nodes n oodate mode f asked now task is =
     let made = task_of-lines s suffixes nodes n oodate mode f asked now task is in rw made.3 refl
 

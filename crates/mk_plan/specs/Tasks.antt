@@ -4,6 +4,7 @@ use Rattle.std.specs.List.{list_any}
 use Rattle.mk_ast.specs.Tree.{Tree}
 use Rattle.mk_bytes.specs.Agrees.{◌>>=◌}
 use Rattle.mk_bytes.specs.Bytes.{at_sign, minus, plus, is_blank}
+use Rattle.mk_bytes.specs.declared.pair.Pair.{Pair}
 use Rattle.mk_values.specs.Texts.{parsed}
 use Rattle.mk_values.specs.Facts.{Answers, Lists}
 use Rattle.mk_values.specs.Value.{of_tree, questions_of, value}
@@ -126,9 +127,9 @@ locals_of suffixes nodes n oodate = record {
   some = true;
 }
 
-abbrev pub task_with : Variables → List ℕ → List TaskLine → Task
-task_with variables target lines =
-    record { lines = lines; cwd = variables.cwd; target = target; exports = [] }
+abbrev pub task_with : Variables → List Pair → List ℕ → List TaskLine → Task
+task_with variables exports target lines =
+    record { lines = lines; cwd = variables.cwd; target = target; exports = exports }
 
 -- The task of a node, where these of its sources are newer than it, and the questions of `exists`
 -- behind it.
@@ -137,7 +138,7 @@ abbrev pub task_of : Setting → List (List ℕ) → List PlanNode → ℕ → L
 task_of k suffixes nodes n oodate mode flags asked =
     lines_from k (locals_of suffixes nodes n oodate) (manner_of mode flags (node_at nodes n).marks) [] 1
     asked (node_at nodes n).commands
-    >>= λ lines. Ok (task_with k.variables (node_at nodes n).name lines.0, lines.1)
+    >>= λ lines. Ok (task_with k.variables mode.exports (node_at nodes n).name lines.0, lines.1)
 
 -- The questions of `exists` behind it, also behind its fault.
 abbrev pub task_questions : Setting → List (List ℕ) → List PlanNode → ℕ → List (List ℕ) → Mode → Flags

@@ -210,6 +210,6 @@ pub fn task<F: Facts>(
         lines: lines?,
         cwd: Text::from_bytes(alloc, made.scopes.cwd())?,
         target: Text::from_bytes(alloc, plan.name(n))?,
-        exports: Items::new(alloc, 0).unwrap(),
+        exports: made.mode.exports.copy(alloc)?,
     })
 }

@@ -6,15 +6,15 @@ ghost use Rattle.mk_values.specs.Locals.{no_locals};
 ghost use Rattle.mk_values.specs.Value as expand;
 ghost use Rattle.mk_values.specs.declared.fault.ExpandFault.TheVariants.{Failed as failed};
 ghost use Rattle.mk_makefile.specs.Facts.{lists_of};
-ghost use Rattle.mk_makefile.specs.Moments.{moment_of};
 ghost use Rattle.mk_makefile.specs.Notes.{asked_by};
 ghost use Rattle.mk_makefile.specs.Values as spec;
 ghost use Rattle.mk_reader.specs.Ties.{Evaluated, Gave, outer};
 ghost use Rattle.mk_world.specs.Causes.{HasCause};
 
 use crate::reader::Reader;
-use mk_bytes::{Items, NoMemory, Text, Texts};
+use mk_bytes::{NoMemory, Text, Texts};
 use mk_cond::Cond;
+use mk_export::Exported;
 use mk_expand::{ExpandFault, Locals, eval_cond, value_of_text};
 use mk_makefile::{Note, ReadFacts, Refusal, State};
 use mk_world::{Cmd, Sink, World};
@@ -78,13 +78,18 @@ fn truth_in<W: World>(
     truth
 }
 
-// The command of a text in a directory, with no names in its environment.
-fn command_to_run(alloc: Global, directory: &[u8], text: Text) -> Result<Cmd, NoMemory>
+// The command of a text in a directory, with these variables in its environment.
+fn command_to_run(
+    alloc: Global,
+    directory: &[u8],
+    exports: &Exported,
+    text: Text,
+) -> Result<Cmd, NoMemory>
     ensures { IfOk result (λ cmd.
-        cmd ≡ record { text = text; cwd = directory.now; exports = [] }) }
+        cmd ≡ record { text = text; cwd = directory.now; exports = exports.now }) }
 {
     let cwd = Text::from_bytes(alloc, directory)?;
-    let exports = Items::new(alloc, 0)?;
+    let exports = exports.copy(alloc)?;
     Ok(Cmd { text, cwd, exports })
 }
 
@@ -128,14 +133,12 @@ impl<'a, W: World, S: Sink> Reader<'a, W, S> {
         Ok(found)
     }
 
-    // What a command prints that is run in the current directory, with no names in its environment.
+    // What a command prints.
     fn printed(&mut self, alloc: Global, cmd: &Cmd) -> Result<Text, Refusal>
         requires directory { IsTrue (is_clean_directory cmd.now.cwd) }
-        requires here { cmd.now
-            ≡ spec.command_at (moment_of self.old.state.now self.old.order.now) cmd.now.text }
         ensures { Gave (outer W.meaning W.history W.faults W.runs S.held S.faults)
             self.old self.new (λ output. output) result
-            (λ answers. spec.output answers cmd.now.text) }
+            (λ answers. spec.printed_by answers cmd.now) }
     {
         if self.state.notes.reserve(1).is_err() {
             return Err(Refusal::NoMemory);
@@ -155,13 +158,29 @@ impl<'a, W: World, S: Sink> Reader<'a, W, S> {
         }
     }
 
-    /// What a command prints that is run in the current directory.
+    // What a text prints as a command in the current directory, with these variables.
+    fn run_with(
+        &mut self,
+        alloc: Global,
+        exports: &Exported,
+        text: Text,
+    ) -> Result<Text, Refusal>
+        ensures { Gave (outer W.meaning W.history W.faults W.runs S.held S.faults)
+            self.old self.new (λ output. output) result
+            (λ answers s. spec.printed_by answers (spec.command_at s exports.now text) s) }
+    {
+        let cmd = command_to_run(alloc, self.state.made.scopes.cwd(), exports, text)?;
+        self.printed(alloc, &cmd)
+    }
+
+    /// What a text prints as a command that is run in the current directory, with the exported
+    /// variables in its environment.
     pub fn run(&mut self, alloc: Global, text: Text) -> Result<Text, Refusal>
         ensures { Gave (outer W.meaning W.history W.faults W.runs S.held S.faults)
             self.old self.new (λ output. output) result
             (λ answers. spec.output answers text) }
     {
-        let cmd = command_to_run(alloc, self.state.made.scopes.cwd(), text)?;
-        self.printed(alloc, &cmd)
+        let exports = self.values(alloc)?;
+        self.run_with(alloc, &exports, text)
     }
 }

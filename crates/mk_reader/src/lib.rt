@@ -3,6 +3,7 @@
 
 mod asking;
 mod block;
+mod export;
 mod inclusion;
 mod language;
 mod law;

@@ -147,8 +147,23 @@ impl<'a, W: World, S: Sink> Reader<'a, W, S> {
             self.old self.new (λ mode. mode) result (λ answers. modes.mode_with answers words.now) }
     {
         let ignored = self.words_of(alloc, b"${.MAKE.META.IGNORE_PATHS}")?;
+        self.mode_exporting(alloc, words, ignored)
+    }
+
+    // The same, where these paths do not count.
+    fn mode_exporting(
+        &mut self,
+        alloc: Global,
+        words: &Texts,
+        ignored: Texts,
+    ) -> Result<Mode, Refusal>
+        ensures { Gave (outer W.meaning W.history W.faults W.runs S.held S.faults)
+            self.old self.new (λ mode. mode) result
+            (λ answers. modes.mode_exporting answers words.now ignored) }
+    {
+        let exports = self.values(alloc)?;
         let rules = &self.state.made.rules;
-        Ok(mode_by(words, ignored, rules.one_job(), rules.delete_on_error()))
+        Ok(mode_by(words, ignored, exports, rules.one_job(), rules.delete_on_error()))
     }
 
     // How a build goes, as the variables ask for it.

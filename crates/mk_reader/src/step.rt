@@ -87,6 +87,8 @@ impl<'a, W: World, S: Sink> Reader<'a, W, S> {
             Directive::Error => self.stop(alloc, found.argument),
             Directive::Warning => self.inform(alloc, file, number, b"warning: ", found.argument),
             Directive::Info => self.inform(alloc, file, number, b"", found.argument),
+            Directive::Export => self.export(alloc, found.argument),
+            Directive::Unexport => self.unexport(alloc, found.argument),
             Directive::If(_) => Ok(()),
             Directive::ElseIf(_) => Ok(()),
             Directive::Else => Ok(()),

@@ -3,6 +3,7 @@ use Rattle.std.specs.Prelude.{ℕ, ◌+◌, ◌==◌, ◌&&◌, ◌||◌, Bool, 
 use Rattle.std.specs.Prelude.{if◌then◌else◌, nat_eq, codes}
 use Rattle.std.specs.List.{starts_with}
 use Rattle.std.specs.Str.{bytes_eq}
+use Rattle.mk_bytes.specs.declared.pair.Pair.{Pair}
 use Rattle.mk_graph.specs.declared.mode.Mode.{Mode}
 
 -- a lower-case letter, or the same one in upper case
@@ -53,8 +54,8 @@ with_words mode [] = mode
 with_words mode (word ∷ more) = with_words (with_word mode word) more
 
 -- what no word says
-abbrev pub no_mode : List (List ℕ) → Bool → Bool → Mode
-no_mode ignored one_job delete = record {
+abbrev pub no_mode : List (List ℕ) → List Pair → Bool → Bool → Mode
+no_mode ignored exports one_job delete = record {
   meta = false;
   curdir_ok = false;
   missing_meta = false;
@@ -65,8 +66,10 @@ no_mode ignored one_job delete = record {
   one_job = one_job;
   delete_on_error = delete;
   ignore_paths = ignored;
+  exports = exports;
 }
 
 -- Of words that say the same thing the last counts.
-abbrev pub mode_by : List (List ℕ) → List (List ℕ) → Bool → Bool → Mode
-mode_by words ignored one_job delete = with_words (no_mode ignored one_job delete) words
+abbrev pub mode_by : List (List ℕ) → List (List ℕ) → List Pair → Bool → Bool → Mode
+mode_by words ignored exports one_job delete =
+    with_words (no_mode ignored exports one_job delete) words

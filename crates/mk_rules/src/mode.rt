@@ -3,6 +3,7 @@ ghost use Rattle.std.specs.Prelude.{◌≡◌, length};
 ghost use Rattle.mk_rules.specs.Modes as spec;
 
 use mk_bytes::Texts;
+use mk_export::Exported;
 use mk_graph::Mode;
 
 fn is_letter(lower: u8, byte: u8) -> bool
@@ -66,8 +67,14 @@ fn take_word(mode: &mut Mode, word: &[u8])
 /// `curdirOk=`, `missing-meta=`, `missing-filemon=` and `silent=` with `yes`, `true`, `on` or `1`, in any
 /// case of letters. Of words that say the same thing the last counts, and others say nothing. What
 /// else a mode says is given. Takes no memory.
-pub fn mode_by(words: &Texts, ignore_paths: Texts, one_job: bool, delete_on_error: bool) -> Mode
-    ensures { result ≡ spec.mode_by words.now ignore_paths one_job delete_on_error }
+pub fn mode_by(
+    words: &Texts,
+    ignore_paths: Texts,
+    exports: Exported,
+    one_job: bool,
+    delete_on_error: bool,
+) -> Mode
+    ensures { result ≡ spec.mode_by words.now ignore_paths exports one_job delete_on_error }
 {
     let mut mode = Mode {
         meta: false,
@@ -80,6 +87,7 @@ pub fn mode_by(words: &Texts, ignore_paths: Texts, one_job: bool, delete_on_erro
         one_job,
         delete_on_error,
         ignore_paths,
+        exports,
     };
     for word in words.as_slice() {
         take_word(&mut mode, word.bytes());

@@ -25,6 +25,7 @@ use Rattle.mk_meta.specs.TrueHistory.{IsTrueHistory, deeds_of_job}
 use Rattle.mk_plan.proofs.PlanLawLemmas.{names_differ, plans_reached, plans_sourced}
 use Rattle.mk_plan.proofs.PlanLemmas.{nodes_of-ordered}
 use Rattle.mk_plan.specs.Plans.{are_ordered, node_at, planned}
+use Rattle.mk_bytes.specs.declared.pair.Pair.{Pair}
 use Rattle.mk_plan.specs.Tasks.{task_with}
 use Rattle.mk_plan.specs.declared.fault.TaskFault.{TaskFault}
 use Rattle.mk_plan.specs.declared.plan.NodeState.TheVariants.{Settled}
@@ -98,26 +99,31 @@ asked-files meaning old planned asked leave =
 
 -- the jobs of the clean build that plans anew
 
-task-directory : (variables : Variables) (name : List ℕ) (lines : Result (List TaskLine × List Asked) TaskFault)
+task-directory : (variables : Variables) (exports : List Pair) (name : List ℕ) (lines : Result (List TaskLine × List Asked) TaskFault)
     (given : Task × List Asked)
-    → (lines >>= λ all. Ok (task_with variables name all.0, all.1)) ≡ Ok given → given.0.cwd ≡ variables.cwd
-task-directory variables name (Ok all) given is =
-    let same : (task_with variables name all.0, all.1) ≡ given = cc in
-    sym (ap (λ (one : Task × List Asked). one.0.cwd) same)
-task-directory variables name (Err fault) given is = absurd cc
+    → (lines >>= λ all. Ok (task_with variables exports name all.0, all.1)) ≡ Ok given
+    → (given.0.cwd ≡ variables.cwd) × (given.0.exports ≡ exports)
+task-directory variables exports name (Ok all) given is =
+    let same : (task_with variables exports name all.0, all.1) ≡ given = cc in (
+      sym (ap (λ (one : Task × List Asked). one.0.cwd) same),
+      sym (ap (λ (one : Task × List Asked). one.0.exports) same),
+    )
+task-directory variables exports name (Err fault) given is = absurd cc
 
-command_in : List ℕ → TaskLine → Cmd
-command_in cwd one = record { text = one.text; cwd = cwd; exports = [] }
+command_in : List ℕ → List Pair → TaskLine → Cmd
+command_in cwd exports one = record { text = one.text; cwd = cwd; exports = exports }
 
 same-command : (clean work : Work) → clean.variables.cwd ≡ work.variables.cwd
-    → command_of clean ≡ command_of work
+    → clean.mode.exports ≡ work.mode.exports → command_of clean ≡ command_of work
 unfolding command_in
-same-command clean work same = ap command_in same
+same-command clean work same exports =
+    ap (λ cwd. command_in cwd clean.mode.exports) same
+    ∙ ap (command_in work.variables.cwd) exports
 
 same-lines : (clean work : Work) (tasks : Tasks) (node : ℕ) (files : Store) (asked : List Asked)
     → has_job (node_at work.plan node) ≡ true
     → task_on clean node files
-    ≡ Ok (task_with work.variables (node_at work.plan node).name (tasks node), asked)
+    ≡ Ok (task_with work.variables work.mode.exports (node_at work.plan node).name (tasks node), asked)
     → lines_on clean node files ≡ lines_of work tasks node
 same-lines clean work tasks node files asked has is =
     ap lines_of_task is ∙ sym (ap (λ b. if b then working (tasks node) else []) has)
@@ -128,9 +134,10 @@ same-job : (meaning : Meaning) (clean work : Work) (tasks : Tasks) (node : ℕ) 
     (record { node = node; before = files; doings = job_on meaning clean node files })
     → job_on meaning clean node files ≡ doings_on meaning (clean_plan work tasks) node files
 same-job meaning clean work tasks node files has (asked, is) =
-    let directory : clean.variables.cwd ≡ work.variables.cwd =
-    sym (task-directory clean.variables (node_at clean.plan node).name _ _ is) in
-    ap (λ command. job meaning command (lines_on clean node files) files) (same-command clean work directory)
+    let parts = task-directory clean.variables clean.mode.exports (node_at clean.plan node).name _ _ is in
+    let directory : clean.variables.cwd ≡ work.variables.cwd = sym parts.0 in
+    ap (λ command. job meaning command (lines_on clean node files) files)
+    (same-command clean work directory (sym parts.1))
     ∙ ap (λ lines. job meaning (command_of work) lines files)
     (same-lines clean work tasks node files asked has is)
 

@@ -112,7 +112,7 @@ clean_files_of meaning work files = files_behind meaning work (jobs_from 0 work.
 abbrev pub HasSameTask : Work → Work → Tasks → CleanJob → Type 0
 HasSameTask clean work tasks one = (asked : List Asked)
     × (task_on clean one.node one.before
-    ≡ Ok (task_with work.variables (node_at work.plan one.node).name (tasks one.node), asked))
+    ≡ Ok (task_with work.variables work.mode.exports (node_at work.plan one.node).name (tasks one.node), asked))
 
 -- Plans are alike: the clean build has the plan of the run, and for each node its task.
 pub record ArePlansAlike (meaning : Meaning) (env : Env) (order : Order) (files : Store) (work : Work)

@@ -151,9 +151,9 @@ no-lines : (work : Work) (node : ℕ) (seen : List Seen) (task : Task) (why : Op
 unfolding lines_from
 no-lines work node seen task why judged none =
     let is : ◌≡◌ {A = Result (Task × List Asked) TaskFault}
-    (Ok (task_with work.variables (node_at work.plan node).name [], []))
+    (Ok (task_with work.variables work.mode.exports (node_at work.plan node).name [], []))
     (Ok (task, map as_asked judged.sight.asked)) = rw none at judged.has in
-    ap (λ (t : Task). t.lines) (sym (of-none (task_with work.variables (node_at work.plan node).name [], [])
+    ap (λ (t : Task). t.lines) (sym (of-none (task_with work.variables work.mode.exports (node_at work.plan node).name [], [])
     (task, map as_asked judged.sight.asked) is))
 
 module _ (files : FileMap) (work : Work) (node : ℕ) where

@@ -101,11 +101,11 @@ tasks_are_by_answers k other suffixes nodes n newer mode flags asked task is ans
     let locals = locals_of suffixes nodes n newer in
     let manner = manner_of mode flags (node_at nodes n).marks in
     let made = bound (lines_from k locals manner [] 1 asked (node_at nodes n).commands)
-    (λ (lines : List TaskLine × List Asked). Ok (task_with k.variables (node_at nodes n).name lines.0, lines.1)) task
+    (λ (lines : List TaskLine × List Asked). Ok (task_with k.variables mode.exports (node_at nodes n).name lines.0, lines.1)) task
     is in
     let last : made.0.1 ≡ task.1 = ap (λ it. it.1) (same-ok _ task made.2) in
     let same = lines-same k other locals manner [] 1 asked (node_at nodes n).commands made.0 made.1
     (subst (AnsweredBy other) (sym last) answered) in
     ap (λ (it : Result (List TaskLine × List Asked) TaskFault). it
-    >>= λ (lines : List TaskLine × List Asked). Ok (task_with k.variables (node_at nodes n).name lines.0, lines.1))
+    >>= λ (lines : List TaskLine × List Asked). Ok (task_with k.variables mode.exports (node_at nodes n).name lines.0, lines.1))
     same.0 ∙ made.2

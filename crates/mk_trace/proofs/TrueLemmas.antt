@@ -674,7 +674,7 @@ module _ (meaning : Meaning) (work : Work) (tasks : run.Tasks) (entry : Stand)
       job.along in
       let same : part ≡ meta_text meta = cc in
       let true_then = whole-true meaning.next work tasks node done (build.own node) job old path part time meta
-      is.countable is.few is.path_is
+      is.countable is.few is.exports is.path_is
       (record { rest = begins.rest; is = sym is.bytes_are ∙ begins.is }) alone lawful same in (
         true_then.0,
         subst (IsOver build stand) true_then.1 (record {

@@ -4,6 +4,7 @@ use Rattle.std.proofs.Common.{refl, sym, ap, subst, append_assoc}
 use Rattle.std.proofs.lemmas.List.{append-nil}
 use Rattle.std.specs.List.{AllZip}
 use Rattle.std.specs.Option.{option_map}
+use Rattle.mk_export.specs.Lists.{AreExports}
 use Rattle.mk_filemon.specs.declared.record.Rec.{Rec}
 use Rattle.mk_meta.proofs.JobLemmas.{jobs_are_lawful}
 use Rattle.mk_meta.proofs.MetaLemmas.{none_begins}
@@ -90,15 +91,16 @@ module _ (next : NextOf) (work : Work) (tasks : run.Tasks) (node : ℕ) (done : 
   same-records false None are = refl
   same-records false (Some one) are = ap Some (are ∙ job.goes.records_are)
 
-  mine-lawful : IsCountable own.collected → length (tasks node) < 2 ^ 32 → IsLawful mine
-  mine-lawful countable few =
+  mine-lawful : IsCountable own.collected → length (tasks node) < 2 ^ 32
+      → AreExports work.mode.exports → IsLawful mine
+  mine-lawful countable few exports =
       let recorded : Option (List (List Op)) =
       if work.mode.nofilemon then None
       else option_map (λ r. ops_of_children job.goes.doings) own.collected.records in
       subst IsLawful
       (ap (λ (r : Option (List Rec)). record {
         stamp = record { 0 = own.collected.owner };
-        exports = [];
+        exports = work.mode.exports;
         lines = map kept_line (tasks node);
         cwd = work.variables.cwd;
         target = (node_at work.plan node).name;
@@ -110,9 +112,14 @@ module _ (next : NextOf) (work : Work) (tasks : run.Tasks) (node : ℕ) (done : 
         lines = tasks node;
         cwd = work.variables.cwd;
         target = (node_at work.plan node).name;
-        exports = [];
+        exports = work.mode.exports;
       }) own.collected.output recorded
-      (record { commands = job.commands; few = few; names = tt; sorted = refl }) countable.owner
+      (record {
+        commands = job.commands;
+        few = few;
+        names = exports.names;
+        sorted = exports.sorted;
+      }) countable.owner
       countable.output)
 
   same-commands : (some : List TaskLine)
@@ -189,14 +196,14 @@ module _ (next : NextOf) (work : Work) (tasks : run.Tasks) (node : ℕ) (done : 
 
   -- What stands of it, where a value has this text, is true, and it is that job's.
   pub whole-true : (old : List Happening) (path part : List ℕ) (time : ℕ) (meta : Meta)
-      → IsCountable own.collected → length (tasks node) < 2 ^ 32
+      → IsCountable own.collected → length (tasks node) < 2 ^ 32 → AreExports work.mode.exports
       → path ≡ meta_path (node_at work.plan node).name → Begins part (meta_text mine)
       → Alone job.stamp ((node_at work.plan node).name ∷ changed_paths (deeds_in job.stamp job.during))
       (happened_all job.during)
       → IsLawful meta → part ≡ meta_text meta
       → IsTrue next meta ((old ++ happened_all done) ++ Put path part time ∷ []) × (job.stamp ≡ meta.stamp.0)
-  whole-true old path part time meta countable few path_is begins alone lawful stands =
-      let also = mine-lawful countable few in
+  whole-true old path part time meta countable few exports path_is begins alone lawful stands =
+      let also = mine-lawful countable few exports in
       let over : meta_text meta ++ begins.rest ≡ meta_text mine =
       ap (λ l. l ++ begins.rest) (sym stands) ∙ sym begins.is in
       let none = none_begins meta mine begins.rest lawful also over in

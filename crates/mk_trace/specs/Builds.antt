@@ -1,5 +1,6 @@
 -- What make has to do in a build: why each node is kept, started or refused.
 use Rattle.std.specs.Prelude.{◌≡◌, ℕ, ◌<◌, ◌^◌, ◌==◌, nat_le, nat_lt, List, [], ◌∷◌, ◌++◌, length, Option, Some, None, Bool, true, false, not, ◌&&◌, if◌then◌else◌}
+use Rattle.mk_export.specs.Lists.{AreExports}
 use Rattle.mk_meta.specs.Texts as texts
 use Rattle.mk_meta.specs.Texts.{meta_text}
 use Rattle.mk_meta.specs.TrueHistory.{meta_path}
@@ -203,9 +204,10 @@ build_after_all work tasks build [] = build
 build_after_all work tasks build (item ∷ items) =
     build_after_all work tasks (build_after work tasks build item) items
 
--- the command of a line
+-- the command of a line, with the exported variables
 abbrev pub command_of : Work → TaskLine → Cmd
-command_of work one = record { text = one.text; cwd = work.variables.cwd; exports = [] }
+command_of work one =
+    record { text = one.text; cwd = work.variables.cwd; exports = work.mode.exports }
 
 abbrev pub IsCommandOf : Work → Option TaskLine → Cmd → Type 0
 IsCommandOf work None cmd = ⊥
@@ -236,6 +238,7 @@ pub record IsWhole (work : Work) (tasks : run.Tasks) (build : Build) (node : ℕ
     pub bytes_are : bytes ≡ meta_text (meta_of work node (tasks node) (build.own node).collected)
     pub countable : IsCountable (build.own node).collected
     pub few : length (tasks node) < 2 ^ 32
+    pub exports : AreExports work.mode.exports
 
 -- The time of a head is later than each known time that was told for the decision of its node.
 abbrev pub IsLaterHead : (work : Work) (tasks : run.Tasks) (build : Build) (node : ℕ)

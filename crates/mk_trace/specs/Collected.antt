@@ -44,12 +44,12 @@ pub record IsCountable (collected : Collected) : Type 0 where
 abbrev pub has_meta : Work → ℕ → Bool
 has_meta work node = is_meta work.mode (node_at work.plan node).marks
 
--- What the meta file of a node's job tells: when the job began, the lines of its task, what they printed
--- and, where records count, what they recorded.
+-- What the meta file of a node's job tells: when the job began, the exported variables, the lines of its
+-- task, what they printed and, where records count, what they recorded.
 abbrev pub meta_of : Work → ℕ → List TaskLine → Collected → Meta
 meta_of work node lines collected = record {
   stamp = record { 0 = collected.owner };
-  exports = [];
+  exports = work.mode.exports;
   lines = map kept_line lines;
   cwd = work.variables.cwd;
   target = (node_at work.plan node).name;

@@ -8,9 +8,9 @@ use Rattle.mk_commands.proofs.language.in_order.Given as goal
 -- the commands that are left decide what comes next
 abbrev pub invariant-commands : goal.invariant-commands
 invariant-commands l =
-    in_order l.cwd (commands_after (option_map held (option_copied l.commands)))
+    in_order l.cmd (commands_after (option_map held (option_copied l.commands)))
     l.printed l.rest
-    ≡ in_order l.cwd (slice_split is_semicolon (held l.words)) [] l.seen
+    ≡ in_order l.cmd (slice_split is_semicolon (held l.words)) [] l.seen
 
 -- the words of the commands that are left
 abbrev words_left : Option (Bor (List (Bor (List ℕ)))) → ℕ

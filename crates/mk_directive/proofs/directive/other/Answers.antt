@@ -19,5 +19,13 @@ pub returns-in-info : goal.returns-in-info
 returns-in-info c =
     rw (text_from_reads c.args.word.now (codes "info") (omega arith) (search rules)) refl
 
+pub returns-in-export : goal.returns-in-export
+returns-in-export c =
+    rw (text_from_reads c.args.word.now (codes "export") (omega arith) (search rules)) refl
+
+pub returns-in-unexport : goal.returns-in-unexport
+returns-in-unexport c =
+    rw (text_from_reads c.args.word.now (codes "unexport") (omega arith) (search rules)) refl
+
 pub returns-in_default : goal.returns-in_default
 returns-in_default c = grind (arith, common_steps)

@@ -20,6 +20,7 @@ returns-in-Ok-clause-written g c =
       };
       countable = c.write_whole.ensures.countable;
       few = c.write_whole.ensures.few;
+      exports = c.write_whole.ensures.exports;
       newest = _;
       told = raised-on _ _ c.in-Ok.when c.raise.ensures;
       writes = written;
@@ -37,5 +38,6 @@ returns-in-Ok-clause-refused g c =
       };
       countable = c.write_whole.ensures.countable;
       few = c.write_whole.ensures.few;
+      exports = c.write_whole.ensures.exports;
       call = part;
     })) c.write_whole.ensures.refused

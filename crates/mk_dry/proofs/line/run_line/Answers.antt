@@ -35,7 +35,7 @@ returns-in_err-ended-clause-goes g c =
     (g.S.Sink.held c.args.out.now) c.start_child-started.new.events.items c.wait_child.new.events.items at.0.is_open
     (line-started g.W.World.meaning scene c.args.place c.args.line.now c.in_ok-cmd.cmd c.cwd.result.now
     (g.W.World.history c.args.world.now) (g.W.World.history c.start_child-started.new.world)
-    (g.S.Sink.held c.args.out.now) c.args.events.now.items c.start_child-started.new.events.items c.args.made.now.scopes at.0
+    (g.S.Sink.held c.args.out.now) c.args.events.now.items c.start_child-started.new.events.items c.args.made.now at.0
     c.requires.starts c.cwd.ensures.value c.in_ok-cmd.ensures at.1 c.in_ok-started.ensures.done
     c.in_ok-started.ensures.told)
     c.in_err-ended.ensures.refused c.in_err-ended.ensures.untold)
@@ -55,10 +55,10 @@ returns-in_err-write_all-clause-goes g c =
           (line-ended g.W.World.meaning scene true c.args.place c.args.line.now
           ended (g.W.World.history c.start_child-started.new.world) (g.W.World.history c.wait_child.new.world)
           (g.S.Sink.held c.args.out.now) (g.S.Sink.held c.write_all.new.sink) c.start_child-started.new.events.items
-          c.put.new.events.items c.args.made.now.scopes at.0 ticket.0
+          c.put.new.events.items c.args.made.now at.0 ticket.0
           (line-started g.W.World.meaning scene c.args.place c.args.line.now c.in_ok-cmd.cmd c.cwd.result.now
           (g.W.World.history c.args.world.now) (g.W.World.history c.start_child-started.new.world)
-          (g.S.Sink.held c.args.out.now) c.args.events.now.items c.start_child-started.new.events.items c.args.made.now.scopes at.0
+          (g.S.Sink.held c.args.out.now) c.args.events.now.items c.start_child-started.new.events.items c.args.made.now at.0
           c.requires.starts c.cwd.ensures.value c.in_ok-cmd.ensures at.1 c.in_ok-started.ensures.done
           c.in_ok-started.ensures.told)
           (c.in_ok-ended.ensures.done c.args.place.node c.args.place.number) told
@@ -78,10 +78,10 @@ returns-clause-goes g c =
       goes = λ scene at. line-ended g.W.World.meaning scene false c.args.place c.args.line.now
           ended (g.W.World.history c.start_child-started.new.world) (g.W.World.history c.wait_child.new.world)
           (g.S.Sink.held c.args.out.now) (g.S.Sink.held c.write_all.new.sink) c.start_child-started.new.events.items
-          c.put.new.events.items c.args.made.now.scopes at.0 ticket.0
+          c.put.new.events.items c.args.made.now at.0 ticket.0
           (line-started g.W.World.meaning scene c.args.place c.args.line.now c.in_ok-cmd.cmd c.cwd.result.now
           (g.W.World.history c.args.world.now) (g.W.World.history c.start_child-started.new.world)
-          (g.S.Sink.held c.args.out.now) c.args.events.now.items c.start_child-started.new.events.items c.args.made.now.scopes at.0
+          (g.S.Sink.held c.args.out.now) c.args.events.now.items c.start_child-started.new.events.items c.args.made.now at.0
           c.requires.starts c.cwd.ensures.value c.in_ok-cmd.ensures at.1 c.in_ok-started.ensures.done
           c.in_ok-started.ensures.told)
           (c.in_ok-ended.ensures.done c.args.place.node c.args.place.number) told

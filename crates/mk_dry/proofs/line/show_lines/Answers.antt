@@ -13,6 +13,6 @@ returns-in_err-status-clause-goes g c =
     let more : l.done < length c.args.task.now.lines = grind (arith, nat_tests, common_steps) in
     was-ended p.0 p.1 (rw p.2 (λ scene at.
     c.in_err-status.ensures.goes.ends scene
-    (line-of g.W.World.meaning c.args.made.now.scopes c.args.node c.args.task.now.lines c.args.failure.now l.done
+    (line-of g.W.World.meaning c.args.made.now c.args.node c.args.task.now.lines c.args.failure.now l.done
     c.get-line.result.now scene (moment (g.W.World.history l.world) (g.S.Sink.held l.out) l.events.items) at.0 more
     c.get-line.ensures (l.invariant.goes scene at.0 at.1))))

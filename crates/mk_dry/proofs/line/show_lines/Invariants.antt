@@ -10,7 +10,7 @@ invariant-lines g l = record {
   alone : IsAlone (g.W.World.runs l.world) l.kids.tickets l.kids.room;
   within : l.done ≤ length l.task.lines;
   failure : l.failure ≡ l.fn.failure;
-  goes : (scene : Scene) → AreLinesOf l.made.scopes l.node l.task.lines l.fn.failure scene
+  goes : (scene : Scene) → AreLinesOf l.made l.node l.task.lines l.fn.failure scene
       → StandsIn g.W.World.meaning
       (moment (g.W.World.history l.fn.world) (g.S.Sink.held l.fn.out) l.fn.events.items) (IsBehind scene 0) scene
       → StandsIn g.W.World.meaning

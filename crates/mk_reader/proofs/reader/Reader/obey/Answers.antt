@@ -18,6 +18,14 @@ pub returns-in-Info : goal.returns-in-Info
 returns-in-Info g c =
     rw c.in-Info.is c.inform-in-Info.ensures
 
+pub returns-in-Export : goal.returns-in-Export
+returns-in-Export g c =
+    rw c.in-Export.is c.export.ensures
+
+pub returns-in-Unexport : goal.returns-in-Unexport
+returns-in-Unexport g c =
+    rw c.in-Unexport.is c.unexport.ensures
+
 pub returns-in-If : goal.returns-in-If
 returns-in-If g c =
     here-given _ _ _ _ _ (λ answers. rw c.in-If.is refl)

@@ -1,7 +1,5 @@
 use Rattle.std.proofs.Common.{◌≡◌, [], ◌∷◌, ◌++◌, refl, ap, ◌∙◌}
 use Rattle.mk_blocks.specs.Acts.{Act, ran}
-use Rattle.mk_makefile.specs.Moments.{moment_of}
-use Rattle.mk_makefile.specs.Values.{command_at}
 use Rattle.mk_makefile.specs.declared.note.Note.TheVariants.{Cut, Ran}
 use Rattle.mk_makefile.proofs.MomentLemmas.{output-noted}
 use Rattle.mk_world.proofs.AskLemmas.{asked_idle, unanswered_idle}
@@ -22,10 +20,9 @@ returns-in-Ok g c =
     let pushed = (rw c.unwrap.ensures at c.push.ensures.items)
     ∙ ap (λ l. l ++ note ∷ []) c.reserve.ensures.items in
     let x = c.args.self.now in
-    let act : Act = ran (command_at (moment_of x.state.now x.order.now) c.args.cmd.now.text) in
-    let is : c.of.result.value ≡ command_at (moment_of x.state.now x.order.now) c.args.cmd.now.text =
-    rw c.of.ensures c.requires.here in
-    gave-asked _ _ _ _ _ (act ∷ []) note refl pushed (ap (λ (cmd : Cmd). ran cmd ∷ []) is) refl _
+    let act : Act = ran c.args.cmd.now in
+    gave-asked _ _ _ _ _ (act ∷ []) note refl pushed
+    (ap (λ (cmd : Cmd). ran cmd ∷ []) c.of.ensures) refl _
     (leads-noted _ _ _
     (record { world = refl; err = refl; state = refl; order = refl; same = refl }) note pushed
     (λ runs.
@@ -39,23 +36,20 @@ returns-in-Ok g c =
     (world-cause _ _ _ c.in-Ok.ensures.cause))
     (λ answers by.
     output-noted answers x.state.now (record x.state.now { notes = c.push.new.self })
-    x.order.now x.order.now note c.args.cmd.now.text c.in-Ok.ended refl refl refl pushed
-    (rw (is, c.of-in-Ok.ensures) refl) by)
+    x.order.now x.order.now note c.args.cmd.now c.in-Ok.ended refl refl refl pushed
+    (rw (c.of.ensures, c.of-in-Ok.ensures) refl) by)
 
 pub returns-in-Err : goal.returns-in-Err
 returns-in-Err g c =
     let note = Cut c.of-in-Err.result in
     let pushed = (rw c.unwrap-in-Err.ensures at c.push-in-Err.ensures.items)
     ∙ ap (λ l. l ++ note ∷ []) c.reserve.ensures.items in
-    let x = c.args.self.now in
-    let act : Act = ran (command_at (moment_of x.state.now x.order.now) c.args.cmd.now.text) in
-    let is : c.of-in-Err.result.value
-    ≡ command_at (moment_of x.state.now x.order.now) c.args.cmd.now.text =
-    rw c.of-in-Err.ensures c.requires.here in
+    let act : Act = ran c.args.cmd.now in
     rw c.from.ensures
     (gave-cut_off _ _ _
     (record { world = refl; err = refl; state = refl; order = refl; same = refl }) _ _ _ note act
-    (λ answers. []) pushed (ap (λ (cmd : Cmd). ran cmd ∷ []) is) refl (λ answers. refl)
+    (λ answers. []) pushed (ap (λ (cmd : Cmd). ran cmd ∷ []) c.of-in-Err.ensures) refl
+    (λ answers. refl)
     (λ runs.
     let idle : IsIdle (g.W.World.history c.args.self.now.world.now) =
     λ h is. g.met.W.World.told_children c.args.self.now.world.now h [] runs is in
