@@ -9,14 +9,11 @@ use mk_bytes::{Items, Text};
 use mk_filemon::{cut_at, push_decimal};
 use mk_recorder::{Records, Touches};
 use mk_strace::behind;
-use std::env;
 use std::io::ErrorKind;
-use std::process;
 use std::os::unix::process::ExitStatusExt;
 use std::process::{Command, ExitStatus};
-use std::str;
-use std::thread;
 use std::time::Duration;
+use std::{env, process, str, thread};
 
 // The calls that are recorded. strace passes over those with a question mark that it does not know.
 const CALLS: &str = "trace=?open,?openat,?openat2,?creat,?execve,?execveat,?stat,?stat64,?lstat,\
@@ -93,7 +90,20 @@ pub fn is_traced(rt: &HostRuntime) -> Result<bool, Refusal> {
 fn strace_words(rt: &HostRuntime, trace: &Text, words: &[Text]) -> Result<Items<Text>, Refusal> {
     let alloc = rt.alloc();
     let mut all = Items::new(alloc, 0)?;
-    for word in ["-D", "-f", "-q", "-y", "--seccomp-bpf", "-s", "0", "-e", "signal=none", "-e", CALLS, "-o"] {
+    for word in [
+        "-D",
+        "-f",
+        "-q",
+        "-y",
+        "--seccomp-bpf",
+        "-s",
+        "0",
+        "-e",
+        "signal=none",
+        "-e",
+        CALLS,
+        "-o",
+    ] {
         all.push(Text::from_bytes(alloc, word.as_bytes())?)?;
     }
     all.push(trace.copy(alloc)?)?;

@@ -111,7 +111,11 @@ const LOGS: [LogRow; 24] = [
         b"# recorder r 1\n# recorder s 1\n# Bye bye 5 0 1\n",
         b"no log\n",
     ),
-    LogRow("a part whose beginning is cut", b"R 5 a\n# recor", b"no log\n"),
+    LogRow(
+        "a part whose beginning is cut",
+        b"R 5 a\n# recor",
+        b"no log\n",
+    ),
     LogRow(
         "the end of a plain log",
         b"# filemon version 5\n# Target pid 5\nV 5\nR 5 a\n# Bye bye\n",

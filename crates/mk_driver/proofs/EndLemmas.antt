@@ -466,26 +466,26 @@ pub go_on-whole : (work : Work) (known : Known) (nodes : List NodeState) (jobs :
     (IsGoing known nodes run.anything jobs failure)
 go_on-whole work known nodes jobs failure n lines collected when time tasks build has countable few exports later
     is = record {
-  makes = (
-    tt,
-    is.at.stands.duty_is,
-    (
-      is-whole work known nodes jobs failure n lines collected when tasks build has countable few exports is,
-      rw is.told later,
-    ),
-    tt,
-  );
-  stands = record {
-    nodes_are = is.at.nodes_are;
-    due_is = is.at.due_is;
-    stands = record {
-      running = is.at.stands.running;
-      failed = is.at.stands.failed;
-      duty_is = refl;
-      fresh = is.at.stands.fresh;
-    };
-  };
-}
+      makes = (
+        tt,
+        is.at.stands.duty_is,
+        (
+          is-whole work known nodes jobs failure n lines collected when tasks build has countable few exports is,
+          rw is.told later,
+        ),
+        tt,
+      );
+      stands = record {
+        nodes_are = is.at.nodes_are;
+        due_is = is.at.due_is;
+        stands = record {
+          running = is.at.stands.running;
+          failed = is.at.stands.failed;
+          duty_is = refl;
+          fresh = is.at.stands.fresh;
+        };
+      };
+    }
 
 pub go_on-cut_whole : (work : Work) (known : Known) (nodes : List NodeState) (jobs : List Job)
     (failure : Option Failure) (n : ℕ) (lines : List TaskLine) (collected : Collected)

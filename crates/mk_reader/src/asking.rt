@@ -14,8 +14,8 @@ ghost use Rattle.mk_world.specs.Causes.{HasCause};
 use crate::reader::Reader;
 use mk_bytes::{NoMemory, Text, Texts};
 use mk_cond::Cond;
-use mk_export::Exported;
 use mk_expand::{ExpandFault, Locals, eval_cond, value_of_text};
+use mk_export::Exported;
 use mk_makefile::{Note, ReadFacts, Refusal, State};
 use mk_world::{Cmd, Sink, World};
 use std::alloc::Global;
@@ -159,12 +159,7 @@ impl<'a, W: World, S: Sink> Reader<'a, W, S> {
     }
 
     // What a text prints as a command in the current directory, with these variables.
-    fn run_with(
-        &mut self,
-        alloc: Global,
-        exports: &Exported,
-        text: Text,
-    ) -> Result<Text, Refusal>
+    fn run_with(&mut self, alloc: Global, exports: &Exported, text: Text) -> Result<Text, Refusal>
         ensures { Gave (outer W.meaning W.history W.faults W.runs S.held S.faults)
             self.old self.new (λ output. output) result
             (λ answers s. spec.printed_by answers (spec.command_at s exports.now text) s) }

@@ -10,9 +10,7 @@ use crate::reader::Reader;
 use mk_bytes::{Items, Pair, Pairs, Text, Texts};
 use mk_directive::words;
 use mk_export::Exported;
-use mk_makefile::{
-    Refusal, What, add_exports, are_export_names, reference_to, remove_exports,
-};
+use mk_makefile::{Refusal, What, add_exports, are_export_names, reference_to, remove_exports};
 use mk_world::{Sink, World};
 use std::alloc::Global;
 

@@ -163,7 +163,13 @@ impl<'a, W: World, S: Sink> Reader<'a, W, S> {
     {
         let exports = self.values(alloc)?;
         let rules = &self.state.made.rules;
-        Ok(mode_by(words, ignored, exports, rules.one_job(), rules.delete_on_error()))
+        Ok(mode_by(
+            words,
+            ignored,
+            exports,
+            rules.one_job(),
+            rules.delete_on_error(),
+        ))
     }
 
     // How a build goes, as the variables ask for it.

@@ -72,6 +72,10 @@ loop-name-preserved g c =
           (left-first _ (λ answers one.
           all_exported answers (c.loop-name.pairs ++ one.0 ∷ []) (drop (at + 1) names) one.1)
           c.in_ok-exported.ensures.pair));
-      named = rw (c.in_ok-push.ensures.ok, map-append, c.loop-name.invariant.named,
-          c.in_ok-exported.ensures.named) (grind (arith, common_steps));
+      named = rw (
+        c.in_ok-push.ensures.ok,
+        map-append,
+        c.loop-name.invariant.named,
+        c.in_ok-exported.ensures.named,
+      ) (grind (arith, common_steps));
     }
