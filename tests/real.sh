@@ -316,6 +316,10 @@ if $nobody true 2>/dev/null && $nobody test -x "$program"; then
     row shows='a directory that cannot be written is no hindrance' \
         makefile=$'A!=echo 1\nt:\n\t@echo ${A}\n' \
         run='chmod 555 .; $nobody "$program" -V A; $nobody "$program"; chmod 755 .' out=$'1\n1\n'
+    row shows='a recorded path below a closed folder makes its target again, and ends no run' \
+        before='mkdir p; chmod 777 .' \
+        makefile=$'.MAKE.MODE=meta curdirOk=yes missing-meta=yes\nt:\n\t@echo "R 1 p/x" >"$$BMAKE_FILEMON"; echo made; : >t\n' \
+        run='$nobody "$program"; chmod 700 p; sleep 0.1; $nobody "$program"' out=$'made\nmade\n'
 else
     echo 'skipped: a directory that cannot be written (nobody may not run the program here)'
 fi
@@ -401,6 +405,10 @@ row shows='so does one whose name is too long' \
 row shows='a source of the future makes its target anew in each run, and is not waited for' \
     before='touch -d "+1 hour" a' makefile="$meta$nl"$'t: a\n\t@echo made; : >t\n' \
     run='timeout 20 "$program"; timeout 20 "$program"; touch a; "$program"; sleep 0.1; "$program"' out=$'made\nmade\nmade\n'
+
+row shows='a time that is a little ahead is waited for' \
+    before='touch -d "+1500 milliseconds" a' makefile="$meta$nl"$'t: a\n\t@echo made; : >t\n' \
+    run='timeout 20 "$program"; sleep 0.1; timeout 20 "$program"' out=$'made\n'
 
 row shows='a pipe with a name as meta file gives way' \
     before='mkfifo t.meta; touch t' makefile="$meta$nl"$'t:\n\t@echo made; : >t\n' \

@@ -4,9 +4,11 @@
 # program stands at crates/bmake/out/bmake. Its last line is 'N passed, M failed'.
 set -u
 program=${BMAKE:-$PWD/crates/bmake/out/bmake}
+recorder=${FMTRACE:-$PWD/crates/fmtrace/out/fmtrace}
 room=$(mktemp -d) || exit 1
 trap 'rm -rf "$room"' EXIT
-unset MAKEFLAGS BMAKE_FILEMON
+unset MAKEFLAGS BMAKE_FILEMON BMAKE_FLAGS
+export BMAKE_RECORDER=$recorder
 passed=0
 failed=0
 
@@ -22,16 +24,17 @@ if ! strace -f -D -o "$room/trace" true 2>/dev/null || [ ! -s "$room/trace" ]; t
     echo "0 passed, 0 failed"
     exit 0
 fi
-if [ ! -x "$program" ]; then
-    echo "there is no program $program"
-    echo "0 passed, 1 failed"
-    exit 1
-fi
+for needed in "$program" "$recorder"; do
+    if [ ! -x "$needed" ]; then
+        echo "there is no program $needed"
+        echo "0 passed, 1 failed"
+        exit 1
+    fi
+done
 
-# A copy of the example, as it stands beside the recorder.
+# A copy of the example.
 copy() {
-    mkdir -p "$1/examples/tool" "$1/tools"
-    cp tools/fmtrace "$1/tools/"
+    mkdir -p "$1/examples/tool"
     cp -R examples/tool/. "$1/examples/tool/"
     rm -f "$1"/examples/tool/{tool,*.o,*.meta,local/*.h}
 }
@@ -46,11 +49,11 @@ link_flags=-s
 
 # The commands that make an object, and the program.
 compile() {
-    printf '../../tools/fmtrace cc %s -Ilocal -Iinclude -c %s.c -o %s.o\n' "$flags" "$1" "$1"
+    printf 'cc %s -Ilocal -Iinclude -c %s.c -o %s.o\n' "$flags" "$1" "$1"
 }
 
 link() {
-    printf '../../tools/fmtrace cc %s -o tool main.o table.o words.o\n' "$link_flags"
+    printf 'cc %s -o tool main.o table.o words.o\n' "$link_flags"
 }
 
 objects() {
@@ -136,8 +139,8 @@ step shows='the same flags again' words=CFLAGS=-O1
 link_flags=-rdynamic
 step shows='the flags of the linker reach the program alone' words='CFLAGS=-O1 LDFLAGS=-rdynamic' wanted=link \
     told=$'tool command 1
-- ../../tools/fmtrace cc -s -o tool main.o table.o words.o
-+ ../../tools/fmtrace cc -rdynamic -o tool main.o table.o words.o'
+- cc -s -o tool main.o table.o words.o
++ cc -rdynamic -o tool main.o table.o words.o'
 
 flags=-O2
 link_flags=-s
