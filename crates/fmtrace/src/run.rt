@@ -26,6 +26,22 @@ const CALLS: &str = "trace=?open,?openat,?openat2,?creat,?execve,?execveat,?stat
 ?vfork,?clone,?clone3,?unshare,?chroot,?pivot_root,?mount,?setns,?open_by_handle_at,?io_uring_setup,\
 ?move_mount";
 
+// The options of strace; the name of the trace follows.
+const OPTIONS: [&str; 12] = [
+    "-D",
+    "-f",
+    "-q",
+    "-y",
+    "--seccomp-bpf",
+    "-s",
+    "0",
+    "-e",
+    "signal=none",
+    "-e",
+    CALLS,
+    "-o",
+];
+
 // How often the end of a trace is waited for, and how long each time in microseconds: strace writes it
 // when the command is gone already.
 const TRIES: u32 = 1000;
@@ -93,7 +109,7 @@ pub fn is_traced(rt: &HostRuntime) -> Result<bool, Refusal> {
 fn strace_words(rt: &HostRuntime, trace: &Text, words: &[Text]) -> Result<Items<Text>, Refusal> {
     let alloc = rt.alloc();
     let mut all = Items::new(alloc, 0)?;
-    for word in ["-D", "-f", "-q", "-y", "--seccomp-bpf", "-s", "0", "-e", "signal=none", "-e", CALLS, "-o"] {
+    for word in OPTIONS {
         all.push(Text::from_bytes(alloc, word.as_bytes())?)?;
     }
     all.push(trace.copy(alloc)?)?;

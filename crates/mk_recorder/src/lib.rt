@@ -3,6 +3,7 @@
 
 mod judgement;
 mod known;
+mod law;
 mod place;
 mod record;
 mod state;
@@ -10,6 +11,7 @@ mod table;
 mod touch;
 
 pub use judgement::judge;
+pub use law::reads_are_told;
 pub use known::{Change, Known, Touch};
 pub use place::Place;
 pub use record::{Record, Records};
