@@ -156,11 +156,12 @@ fn log_of(
     rt: &HostRuntime,
     process: u32,
     status: u8,
+    own: &[u8],
     records: Option<Records>,
 ) -> Result<Log, Refusal> {
     let mut log = Log::new(rt.alloc(), process)?;
     match &records {
-        Some(records) => push_all(rt, &mut log, records.as_slice())?,
+        Some(records) => push_all(rt, &mut log, own, records.as_slice())?,
         None => log.push(b"R", UNREAD)?,
     }
     log.end(status)?;
@@ -170,7 +171,7 @@ fn log_of(
 // The directory of a path, with its slash.
 fn folder_of<'t>(path: &'t [u8]) -> &'t [u8] {
     match path.iter().rposition(|byte| *byte == b'/') {
-        Some(place) => &path[..place],
+        Some(place) => &path[..=place],
         None => path,
     }
 }
@@ -217,7 +218,7 @@ fn written(
         return Ok(status);
     }
     let records = whole_records(rt, directory, before, trace)?;
-    let part = log_of(rt, process, status, records)?;
+    let part = log_of(rt, process, status, folder_of(log), records)?;
     append(rt, log, part.bytes())?;
     Ok(status)
 }
