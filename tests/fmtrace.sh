@@ -231,14 +231,13 @@ build() {
 build shows='sed of standard input' makes='sed s/a/x/ <a >t' seen='echo aa >a'
 build shows='a test' makes='if [ -e d/o ]; then echo y >t; else echo n >t; fi' seen='echo 1 >d/o' unseen='echo 1 >d/p'
 build shows='a pattern' before='echo 1 >d/1.c' makes='cat d/*.c >t' seen='echo 2 >d/2.c' unseen='echo 1 >early/1.c'
-build shows='sort -o' makes='sort -o t a' seen='echo z >a'
+build shows='sort -o' makes='rm -f t; sort -o t a' seen='echo z >a'
 build shows='a shell script' before='printf "#!/bin/sh\ncat a >t\n" >s; chmod +x s' makes=./s \
     seen='printf "#!/bin/sh\ncat b >t\n" >s'
 build shows='a Perl script' before='echo "print 1;" >p.pl' makes='perl p.pl >t' seen='echo "print 2;" >p.pl'
 build shows='cp' makes='cp a t' seen='echo z >a' unseen='echo z >b'
 build shows='mv' makes='cp a t.new; mv t.new t' seen='echo z >a' unseen='echo z >b'
 build shows='touch' makes='cat a >/dev/null; touch t' seen='echo z >a' unseen='echo z >b'
-build shows='a makefile in a makefile' before='printf "u:\n\tcp b t\n" >sub' makes="$program -f sub" seen='echo z >b'
 if command -v cc >/dev/null; then
     build shows='a header that is put earlier' before='echo "#define A 1" >d/a.h; printf "#include <a.h>\nint v = A;\n" >y.c' \
         makes='cc -Iearly -Id -c y.c -o t' seen='echo "#define A 2" >early/a.h' unseen='echo 1 >early/b.h'

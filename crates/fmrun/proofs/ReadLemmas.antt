@@ -175,8 +175,10 @@ log-whole : (directory : List ℕ) (ops : List Op) → has_form directory ≡ tr
     → list_all has_lines ops ≡ true → is_whole (log directory ops) ≡ true
 log-whole [] ops form are = absurd cc
 log-whole (byte ∷ directory) ops form are =
-    rw (log-something byte directory ops form,
-    line-split (codes "C 1 ") (byte ∷ directory) (flat_map lines_of ops) refl form)
+    rw (
+      log-something byte directory ops form,
+      line-split (codes "C 1 ") (byte ∷ directory) (flat_map lines_of ops) refl form,
+    )
     (whole-next Outside (codes "C 1 " ++ byte ∷ directory) (flat_map lines_of ops)
     ∙ all-whole ops are)
 

@@ -9,14 +9,11 @@ use mk_bytes::{Items, Text};
 use mk_filemon::{cut_at, push_decimal};
 use mk_recorder::{Records, Touches};
 use mk_strace::behind;
-use std::env;
 use std::io::ErrorKind;
-use std::process;
 use std::os::unix::process::ExitStatusExt;
 use std::process::{Command, ExitStatus};
-use std::str;
-use std::thread;
 use std::time::Duration;
+use std::{env, process, str, thread};
 
 // The calls that are recorded. strace passes over those with a question mark that it does not know.
 const CALLS: &str = "trace=?open,?openat,?openat2,?creat,?execve,?execveat,?stat,?stat64,?lstat,\

@@ -4,8 +4,7 @@ use crate::refusal::Refusal;
 use mk_bytes::{Text, begins};
 use mk_filemon::cut_at;
 use mk_recorder::{Touch, Touched, Touches};
-use std::fs;
-use std::str;
+use std::{fs, str};
 
 const LINKS: [&str; 3] = ["/proc/self/fd/0", "/proc/self/fd/1", "/proc/self/fd/2"];
 

@@ -135,4 +135,5 @@ pub fn print_records(rt: &HostRuntime, directory: &[u8]) -> Result<u8, Refusal> 
 }
 
 /// The path that stands for what a trace does not tell: it is never there.
-pub const UNREAD: &[u8] = b"/what cannot be seen (a trace that is cut, or of a process that runs on)";
+pub const UNREAD: &[u8] =
+    b"/what cannot be seen (a trace that is cut, or of a process that runs on)";

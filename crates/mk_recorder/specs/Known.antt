@@ -8,7 +8,12 @@ use Rattle.mk_recorder.specs.declared.known.Known.{Known}
 
 abbrev pub not_known : Known
 not_known = record {
-  found = false; seen = false; missed = false; listed = false; folder = false; ran = false;
+  found = false;
+  seen = false;
+  missed = false;
+  listed = false;
+  folder = false;
+  ran = false;
   change = Untouched;
 }
 

@@ -11,8 +11,8 @@ mod table;
 mod touch;
 
 pub use judgement::judge;
-pub use law::reads_are_told;
 pub use known::{Change, Known, Touch};
+pub use law::reads_are_told;
 pub use place::Place;
 pub use record::{Record, Records};
 pub use table::{Table, Touched, Touches};

@@ -41,9 +41,7 @@ pub fn place_of(alloc: Global, directory: &[u8], name: &Name) -> Result<Place, N
 pub fn is_outside(path: &[u8]) -> bool
     ensures { result ≡ spec.is_outside path.now }
 {
-    is_at_or_below(b"/dev", path)
-        || is_at_or_below(b"/proc", path)
-        || is_at_or_below(b"/sys", path)
+    is_at_or_below(b"/dev", path) || is_at_or_below(b"/proc", path) || is_at_or_below(b"/sys", path)
 }
 
 fn is_at_or_below(directory: &[u8], path: &[u8]) -> bool

@@ -143,12 +143,7 @@ fn directory_of(alloc: Global, state: &State, process: &[u8]) -> Result<Text, No
 }
 
 // What an act does to paths is noted. Whether it is known where its names lead.
-fn touch(
-    alloc: Global,
-    state: &mut State,
-    directory: &[u8],
-    act: &Act,
-) -> Result<bool, NoMemory>
+fn touch(alloc: Global, state: &mut State, directory: &[u8], act: &Act) -> Result<bool, NoMemory>
     ensures { IfOk result (λ fine. spec.state_by fine (state_in state.new)
         ≡ spec.touched directory.now act.now (state_in state.old)) }
 {
@@ -206,12 +201,7 @@ fn act_in(
 }
 
 // What a process that is known does, in its directory.
-fn act_known(
-    alloc: Global,
-    state: &mut State,
-    process: &[u8],
-    act: &Act,
-) -> Result<bool, NoMemory>
+fn act_known(alloc: Global, state: &mut State, process: &[u8], act: &Act) -> Result<bool, NoMemory>
     ensures { IfOk result (λ fine. spec.state_by fine (state_in state.new)
         ≡ spec.acted_known process.now act.now (state_in state.old)) }
 {

@@ -3,9 +3,9 @@ ghost use Rattle.std.specs.Prelude.{◌≡◌, [], ◌++◌, OnOk, IfOk, map, fi
 ghost use Rattle.mk_recorder.specs.Records.{records_of};
 ghost use Rattle.mk_recorder.specs.Tables as spec;
 
+use crate::known::{Known, Touch, after, not_known, stands};
 use crate::place::is_outside;
 use crate::record::{Records, record_of};
-use crate::known::{Known, Touch, after, not_known, stands};
 use indexmap::IndexMap;
 use mk_bytes::{Items, NoMemory, Text, Texts, skip};
 use std::alloc::Global;
@@ -86,12 +86,7 @@ impl Table {
         }
     }
 
-    fn add_below(
-        &self,
-        alloc: Global,
-        directory: &[u8],
-        paths: &mut Texts,
-    ) -> Result<(), NoMemory>
+    fn add_below(&self, alloc: Global, directory: &[u8], paths: &mut Texts) -> Result<(), NoMemory>
         ensures { OnOk result (paths.new
             ≡ paths.old ++ spec.paths_below directory.now self.now) }
     {
@@ -108,8 +103,7 @@ impl Table {
         ensures { IfOk result (λ paths. paths ≡ spec.paths_below directory.now self.now) }
     {
         let mut paths = Items::new(alloc, 0)?;
-        self.add_below(alloc, directory, &mut paths)
-            .and(Ok(paths))
+        self.add_below(alloc, directory, &mut paths).and(Ok(paths))
     }
 
     /// Adds what is recorded of the paths.

@@ -141,12 +141,7 @@ fn push_removal(
 }
 
 // Adds what is done to a path.
-fn push_path(
-    alloc: Global,
-    out: &mut Touches,
-    path: &[u8],
-    touch: Touch,
-) -> Result<(), NoMemory>
+fn push_path(alloc: Global, out: &mut Touches, path: &[u8], touch: Touch) -> Result<(), NoMemory>
     ensures { OnOk result (out.new ≡ out.old ++ spec.touched path.now touch) }
 {
     let path = Text::from_bytes(alloc, path)?;
@@ -154,12 +149,7 @@ fn push_path(
 }
 
 // A file is moved: it is read and taken away, and the other path is made.
-fn push_file_move(
-    alloc: Global,
-    out: &mut Touches,
-    from: &[u8],
-    to: &[u8],
-) -> Result<(), NoMemory>
+fn push_file_move(alloc: Global, out: &mut Touches, from: &[u8], to: &[u8]) -> Result<(), NoMemory>
     ensures { OnOk result (out.new ≡ out.old ++ spec.file_move from.now to.now) }
 {
     push_path(alloc, out, from, Touch::Read)?;
@@ -291,12 +281,7 @@ fn push_hidden(alloc: Global, out: &mut Touches, call: &[u8]) -> Result<(), NoMe
 }
 
 // Adds what an act does to paths, where it is no move.
-fn push_act(
-    alloc: Global,
-    out: &mut Touches,
-    directory: &[u8],
-    act: &Act,
-) -> Result<bool, NoMemory>
+fn push_act(alloc: Global, out: &mut Touches, directory: &[u8], act: &Act) -> Result<bool, NoMemory>
     ensures { IfOk result (λ clear. spec.touch_list clear out.new
         ≡ spec.with_act out.old directory.now act.now) }
 {

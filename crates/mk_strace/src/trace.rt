@@ -50,12 +50,7 @@ fn resumed(alloc: Global, start: &[u8], rest: &[u8]) -> Result<Option<Act>, NoMe
 }
 
 // What a line of a process says that it did, by the call that it has begun, if there is one.
-fn act_on(
-    alloc: Global,
-    start: &[u8],
-    kind: Kind<'_>,
-    text: &[u8],
-) -> Result<Option<Act>, NoMemory>
+fn act_on(alloc: Global, start: &[u8], kind: Kind<'_>, text: &[u8]) -> Result<Option<Act>, NoMemory>
     ensures { IfOk result (λ act. act
         ≡ spec.act_on start.now (kind_now kind.entry) text.now) }
 {
@@ -72,12 +67,7 @@ fn act_on(
 }
 
 // The calls that are begun behind a line.
-fn go_on(
-    alloc: Global,
-    begun: &mut Kept,
-    process: &[u8],
-    kind: Kind<'_>,
-) -> Result<(), NoMemory>
+fn go_on(alloc: Global, begun: &mut Kept, process: &[u8], kind: Kind<'_>) -> Result<(), NoMemory>
     ensures { OnOk result (texts_in begun.new
         ≡ spec.begun_behind (texts_in begun.old) process.now (kind_now kind.entry)) }
 {
@@ -112,11 +102,7 @@ fn read_line(alloc: Global, begun: &mut Kept, line: &[u8]) -> Result<Option<Even
     }
 }
 
-fn with_process(
-    alloc: Global,
-    process: &[u8],
-    act: Option<Act>,
-) -> Result<Option<Event>, NoMemory>
+fn with_process(alloc: Global, process: &[u8], act: Option<Act>) -> Result<Option<Event>, NoMemory>
     ensures { IfOk result (λ event. event ≡ spec.with_process process.now act) }
 {
     let Some(act) = act else {
