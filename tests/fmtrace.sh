@@ -100,18 +100,18 @@ row() {
     local shows before=: command='' run='"$fmtrace" /bin/sh -c "$command"' status=0 records='' is wrong=
     local "$@"
     local here=$room/$((passed + failed))
-    mkdir -p "$here/d"
+    mkdir -p "$here/d" "$here.logs"
     (cd "$here" && echo a >a && echo b >b && echo c >d/c && ln -s d l && eval "$before") || wrong='before'
     (
         cd "$here" || exit 125
-        export BMAKE_FILEMON=$here.log
+        export BMAKE_FILEMON=$here.logs/log
         eval "$run"
     ) >"$here.out" 2>"$here.err" </dev/null
     is=$?
     [ "$is" = "$status" ] || wrong="status $is"
-    wrong+=$(differs "$(printf '%s\n' $records | sed 'N;s/\n/ /' | sort -u)" "$(records "$here" <"$here.log")")
-    wrong+=$(ls "$here".log.trace.* 2>/dev/null)
-    tail -n 1 "$here.log" | grep -q '^# Bye bye [0-9]* [0-9]* [0-9]*$' || wrong+='no end'
+    wrong+=$(differs "$(printf '%s\n' $records | sed 'N;s/\n/ /' | sort -u)" "$(records "$here" <"$here.logs/log")")
+    wrong+=$(ls "$here.logs"/log.trace.* 2>/dev/null)
+    tail -n 1 "$here.logs/log" | grep -q '^# Bye bye [0-9]* [0-9]* [0-9]*$' || wrong+='no end'
     count "$shows" "$wrong"
 }
 
@@ -141,7 +141,7 @@ row shows='a symbolic link to a directory' command='cat l/c' records='R d/c R l/
 row shows='without the right to' before='chmod 444 a' command='(echo x >none/a); cat a' records='R a N none/a'
 row shows='a name space of its own' command='unshare -m true; true' records='X'
 row shows='a process that runs on' command='(sleep 1; echo late >t) >/dev/null 2>&1 & echo 1 >u' records='X'
-row shows='a command that ends itself by a signal' command='kill -9 $$' status=137
+row shows='a command that ends itself by a signal' command='kill -9 $$' status=137 records=X
 row shows='a recorder in a recorder' command='"'"$fmtrace"'" cat a' records='R a'
 
 if command -v cc >/dev/null; then
@@ -157,7 +157,9 @@ mkdir "$room/cut"
 (
     cd "$room/cut" || exit 1
     printf 'a\n' >a
-    BMAKE_FILEMON=$room/cut/log "$fmtrace" cat a >/dev/null
+    mkdir logs
+    BMAKE_FILEMON=$room/cut/logs/log "$fmtrace" cat a >/dev/null
+    mv logs/log log
     for ((i = 0; i < $(wc -c <log); i++)); do
         head -c "$i" log >cut
         [ -n "$(tail -n 1 cut | grep '^# Bye bye .* [0-9]*$')" ] && [ "$(tail -c 1 cut)" = '' ] &&
@@ -199,9 +201,7 @@ fi
 
 # How often t is made by a run in the folder.
 go() {
-    : >made.list
-    "$program" >/dev/null 2>err || echo "status $?"
-    wc -l <made.list
+    "$program" 2>err | grep -c '^made$'
 }
 
 # A command for t, an edit behind which t is made again, and one behind which it is not.
@@ -213,8 +213,8 @@ build() {
     (
         cd "$here" || exit 1
         echo a >a && echo b >b && echo c >d/c && echo 1 >other && eval "$before"
-        printf '%s\n\n%s\n\t@%s %s\n\t@%s\n' '.MAKE.MODE = meta missing-meta=yes missing-filemon=yes' \
-            't:' "$fmtrace" "/bin/sh -c '$makes'" 'echo made >>made.list' >makefile
+        printf '%s\n\n%s\n\t@%s %s\n' '.MAKE.MODE = meta curdirOk=yes missing-meta=yes missing-filemon=yes' \
+            't:' "$fmtrace" "/bin/sh -c '$makes; echo made'" >makefile
         [ "$(go)" = 1 ] || echo 'not made first'
         [ "$(go)" = 0 ] || echo 'made again'
         sleep 0.02
@@ -231,14 +231,13 @@ build() {
 build shows='sed of standard input' makes='sed s/a/x/ <a >t' seen='echo aa >a'
 build shows='a test' makes='if [ -e d/o ]; then echo y >t; else echo n >t; fi' seen='echo 1 >d/o' unseen='echo 1 >d/p'
 build shows='a pattern' before='echo 1 >d/1.c' makes='cat d/*.c >t' seen='echo 2 >d/2.c' unseen='echo 1 >early/1.c'
-build shows='sort -o' makes='sort -o t a' seen='echo z >a'
+build shows='sort -o' makes='rm -f t; sort -o t a' seen='echo z >a'
 build shows='a shell script' before='printf "#!/bin/sh\ncat a >t\n" >s; chmod +x s' makes=./s \
     seen='printf "#!/bin/sh\ncat b >t\n" >s'
 build shows='a Perl script' before='echo "print 1;" >p.pl' makes='perl p.pl >t' seen='echo "print 2;" >p.pl'
 build shows='cp' makes='cp a t' seen='echo z >a' unseen='echo z >b'
 build shows='mv' makes='cp a t.new; mv t.new t' seen='echo z >a' unseen='echo z >b'
 build shows='touch' makes='cat a >/dev/null; touch t' seen='echo z >a' unseen='echo z >b'
-build shows='a makefile in a makefile' before='printf "u:\n\tcp b t\n" >sub' makes="$program -f sub" seen='echo z >b'
 if command -v cc >/dev/null; then
     build shows='a header that is put earlier' before='echo "#define A 1" >d/a.h; printf "#include <a.h>\nint v = A;\n" >y.c' \
         makes='cc -Iearly -Id -c y.c -o t' seen='echo "#define A 2" >early/a.h' unseen='echo 1 >early/b.h'

@@ -23,6 +23,22 @@ const CALLS: &str = "trace=?open,?openat,?openat2,?creat,?execve,?execveat,?stat
 ?vfork,?clone,?clone3,?unshare,?chroot,?pivot_root,?mount,?setns,?open_by_handle_at,?io_uring_setup,\
 ?move_mount";
 
+// The options of strace; the name of the trace follows.
+const OPTIONS: [&str; 12] = [
+    "-D",
+    "-f",
+    "-q",
+    "-y",
+    "--seccomp-bpf",
+    "-s",
+    "0",
+    "-e",
+    "signal=none",
+    "-e",
+    CALLS,
+    "-o",
+];
+
 // How often the end of a trace is waited for, and how long each time in microseconds: strace writes it
 // when the command is gone already.
 const TRIES: u32 = 1000;
@@ -90,20 +106,7 @@ pub fn is_traced(rt: &HostRuntime) -> Result<bool, Refusal> {
 fn strace_words(rt: &HostRuntime, trace: &Text, words: &[Text]) -> Result<Items<Text>, Refusal> {
     let alloc = rt.alloc();
     let mut all = Items::new(alloc, 0)?;
-    for word in [
-        "-D",
-        "-f",
-        "-q",
-        "-y",
-        "--seccomp-bpf",
-        "-s",
-        "0",
-        "-e",
-        "signal=none",
-        "-e",
-        CALLS,
-        "-o",
-    ] {
+    for word in OPTIONS {
         all.push(Text::from_bytes(alloc, word.as_bytes())?)?;
     }
     all.push(trace.copy(alloc)?)?;
@@ -150,11 +153,12 @@ fn log_of(
     rt: &HostRuntime,
     process: u32,
     status: u8,
+    own: &[u8],
     records: Option<Records>,
 ) -> Result<Log, Refusal> {
     let mut log = Log::new(rt.alloc(), process)?;
     match &records {
-        Some(records) => push_all(rt, &mut log, records.as_slice())?,
+        Some(records) => push_all(rt, &mut log, own, records.as_slice())?,
         None => log.push(b"R", UNREAD)?,
     }
     log.end(status)?;
@@ -164,7 +168,7 @@ fn log_of(
 // The directory of a path, with its slash.
 fn folder_of<'t>(path: &'t [u8]) -> &'t [u8] {
     match path.iter().rposition(|byte| *byte == b'/') {
-        Some(place) => &path[..place],
+        Some(place) => &path[..=place],
         None => path,
     }
 }
@@ -211,7 +215,7 @@ fn written(
         return Ok(status);
     }
     let records = whole_records(rt, directory, before, trace)?;
-    let part = log_of(rt, process, status, records)?;
+    let part = log_of(rt, process, status, folder_of(log), records)?;
     append(rt, log, part.bytes())?;
     Ok(status)
 }

@@ -27,7 +27,7 @@ pub fn found(
         return Ok(true);
     };
     let mut rest = variable.as_bytes();
-    'parts: loop {
+    for _ in 0..u64::MAX {
         let (part, after) = match cut_at(b':', rest) {
             Some((part, after)) => (part, Some(after)),
             None => (rest, None),
@@ -46,4 +46,5 @@ pub fn found(
         };
         rest = after;
     }
+    Ok(false)
 }

@@ -3,7 +3,7 @@ use crate::file::{Stand, stands_at};
 use crate::interpreter::push_interpreters;
 use crate::log::{Log, NO_FORM, has_newline, keeps_deleted, keeps_read, keeps_written};
 use crate::refusal::Refusal;
-use mk_bytes::{Items, NoMemory, Text, Texts};
+use mk_bytes::{Items, NoMemory, Text, Texts, begins};
 use mk_filemon::push_decimal;
 use mk_recorder::{Record, Records, Touches, judge};
 use mk_strace::read_trace;
@@ -64,10 +64,19 @@ fn push_programs(rt: &HostRuntime, log: &mut Log, records: &[Record]) -> Result<
     Ok(())
 }
 
-/// Adds the records of a command to a log, as far as what stands at their paths agrees.
-pub fn push_all(rt: &HostRuntime, log: &mut Log, records: &[Record]) -> Result<(), NoMemory> {
+/// Adds the records of a command to a log, as far as what stands at their paths agrees, but for paths that
+/// begin with `own`: the files of make for its children.
+pub fn push_all(
+    rt: &HostRuntime,
+    log: &mut Log,
+    own: &[u8],
+    records: &[Record],
+) -> Result<(), NoMemory> {
     for record in records {
-        push_record(log, record, stands_at(rt, record.path.bytes()))?;
+        let path = record.path.bytes();
+        if !begins(own, path) {
+            push_record(log, record, stands_at(rt, path))?;
+        }
     }
     push_programs(rt, log, records)
 }

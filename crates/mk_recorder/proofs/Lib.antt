@@ -1,2 +1,3 @@
+pub mod SoundnessLemmas
 pub mod StateLemmas
 pub mod TableLemmas

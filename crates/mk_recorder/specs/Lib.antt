@@ -4,5 +4,6 @@ pub mod Known
 pub mod Places
 pub mod Records
 pub mod States
+pub mod Soundness
 pub mod Tables
 pub mod Touches

@@ -3,6 +3,7 @@
 
 mod judgement;
 mod known;
+mod law;
 mod place;
 mod record;
 mod state;
@@ -11,6 +12,7 @@ mod touch;
 
 pub use judgement::judge;
 pub use known::{Change, Known, Touch};
+pub use law::reads_are_told;
 pub use place::Place;
 pub use record::{Record, Records};
 pub use table::{Table, Touched, Touches};
