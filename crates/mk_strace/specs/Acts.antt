@@ -43,6 +43,7 @@ outcome_of (first ∷ text) = outcome_by (is_miss (first ∷ text)) first
 abbrev pub is_look : Call → Bool
 is_look call.Points = false
 is_look call.EntersOpen = false
+is_look call.CutsOpen = false
 is_look call.Lists = false
 is_look call.Forks = false
 is_look call.Parts = false
@@ -121,12 +122,19 @@ pointed by_open words = option_and_then
     (λ first. option_map (λ name. act.Makes name.0) (name_at by_open first.2))
     (cut true Plain words)
 
-abbrev pub done_in : Call → Name → Act
-done_in call.Lists name = act.Lists name
-done_in _ name = act.Enters name
+-- a file that is open and is cut at its beginning is empty
+abbrev pub cuts_open : Name → List ℕ → Act
+cuts_open name words =
+    if starts_with nat_eq words (codes "0)") then act.Empties name else act.Updates name
+
+abbrev pub done_in : Call → Name → List ℕ → Act
+done_in call.Lists name words = act.Lists name
+done_in call.CutsOpen name words = cuts_open name words
+done_in _ name words = act.Enters name
 
 abbrev pub done_to_open : Call → List ℕ → Option Act
-done_to_open what words = option_map (λ first. done_in what (open_in first.0)) (cut true Plain words)
+done_to_open what words =
+    option_map (λ first. done_in what (open_in first.0) first.2) (cut true Plain words)
 
 -- what has names of its own for files or users is not seen by paths
 abbrev pub is_hidden : List ℕ → Bool
@@ -148,6 +156,7 @@ parted name words =
 abbrev pub done_by : Call → Form → List ℕ → List ℕ → List ℕ → Option Act
 done_by call.Points form name words end = pointed form.by_open words
 done_by call.EntersOpen form name words end = done_to_open call.EntersOpen words
+done_by call.CutsOpen form name words end = done_to_open call.CutsOpen words
 done_by call.Lists form name words end = done_to_open call.Lists words
 done_by call.Forks form name words end = forked name words end
 done_by call.Parts form name words end = parted name words

@@ -6,7 +6,7 @@ use Rattle.mk_strace.specs.declared.call.Call.TheVariants.{Opens, Makes, Runs, L
 use Rattle.mk_strace.specs.declared.call.Call.TheVariants.{Follows, Cuts, Nodes, Folders, Removes}
 use Rattle.mk_strace.specs.declared.call.Call.TheVariants.{RemovesFolder, Moves, Links, Points, Enters}
 use Rattle.mk_strace.specs.declared.call.Call.TheVariants.{EntersOpen, Lists, Forks, Parts, Hides}
-use Rattle.mk_strace.specs.declared.call.Call.TheVariants.{Other}
+use Rattle.mk_strace.specs.declared.call.Call.TheVariants.{CutsOpen, Other}
 use Rattle.mk_strace.specs.declared.call.Form.{Form}
 
 abbrev pub with : Call → Bool → Form
@@ -38,7 +38,9 @@ form_of_place name =
     else (if bytes_eq name (codes "fchdir") then with EntersOpen false
     else (if bytes_eq name (codes "getdents") then with Lists false
     else (if bytes_eq name (codes "getdents64") then with Lists false
-    else form_of_process name)))
+    else (if bytes_eq name (codes "ftruncate") then with CutsOpen false
+    else (if bytes_eq name (codes "ftruncate64") then with CutsOpen false
+    else form_of_process name)))))
 
 abbrev pub form_of_touch : List ℕ → Form
 form_of_touch name =

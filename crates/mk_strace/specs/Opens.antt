@@ -19,18 +19,16 @@ abbrev pub is_touched : List ℕ → Bool
 is_touched flags = has (codes "O_WRONLY") flags
     && (has (codes "O_NONBLOCK") flags && not (has (codes "O_APPEND") flags))
 
-abbrev pub is_written : List ℕ → Bool
-is_written flags = has (codes "O_WRONLY") flags || has (codes "O_RDWR") flags
-
--- What opening a file does to it.
+-- What opening a file does to it. Where it is open for writing alone, nothing of it is read by that.
 abbrev pub how_of : List ℕ → How
 how_of flags =
     if has (codes "O_PATH") flags then how.Passes
     else (if is_folder flags then how.Folder
     else (if is_new flags || is_touched flags then how.Makes
-    else (if is_written flags then how.Updates
+    else (if has (codes "O_RDWR") flags then how.Updates
+    else (if has (codes "O_WRONLY") flags then how.Overwrites
     else (if has (codes "O_CREAT") flags then how.ReadsOrMakes
-    else how.Reads))))
+    else how.Reads)))))
 
 -- What a look found, by the mode that is shown behind its path.
 abbrev pub sort_in : List ℕ → Sort

@@ -28,6 +28,8 @@ pub enum Act {
     Makes(Name),
     /// It changed a file of which old bytes may stay.
     Updates(Name),
+    /// It cut a file that is open to nothing.
+    Empties(Name),
     /// It made a directory.
     MakesFolder(Name),
     Removes { name: Name, is_folder: bool },
@@ -107,6 +109,7 @@ fn is_look(call: Call) -> bool
     match call {
         Call::Points
         | Call::EntersOpen
+        | Call::CutsOpen
         | Call::Lists
         | Call::Forks
         | Call::Parts
@@ -254,23 +257,35 @@ fn pointed(alloc: Global, by_open: bool, words: &[u8]) -> Result<Option<Act>, No
     }
 }
 
-fn done_in(call: Call, name: Name) -> Act
-    ensures { result ≡ spec.done_in call name }
+// A file that is open is cut.
+fn cuts_open(name: Name, words: &[u8]) -> Act
+    ensures { result ≡ spec.cuts_open name words.now }
+{
+    if words.starts_with(b"0)") {
+        Act::Empties(name)
+    } else {
+        Act::Updates(name)
+    }
+}
+
+fn done_in(call: Call, name: Name, words: &[u8]) -> Act
+    ensures { result ≡ spec.done_in call name words.now }
 {
     match call {
         Call::Lists => Act::Lists(name),
+        Call::CutsOpen => cuts_open(name, words),
         _ => Act::Enters(name),
     }
 }
 
-// What was done to a directory that is open.
+// What was done to a file or a directory that is open.
 fn done_to_open(alloc: Global, call: Call, words: &[u8]) -> Result<Option<Act>, NoMemory>
     ensures { IfOk result (λ act. act ≡ spec.done_to_open call words.now) }
 {
-    let Some((first, _, _)) = cut(true, words) else {
+    let Some((first, _, rest)) = cut(true, words) else {
         return Ok(None);
     };
-    Ok(Some(done_in(call, open_in(alloc, first)?)))
+    Ok(Some(done_in(call, open_in(alloc, first)?, rest)))
 }
 
 fn is_hidden(words: &[u8]) -> bool
@@ -318,7 +333,7 @@ fn done(alloc: Global, name: &[u8], words: &[u8], end: &[u8]) -> Result<Option<A
     let form = form_of(name);
     match form.call {
         Call::Points => pointed(alloc, form.by_open, words),
-        Call::EntersOpen | Call::Lists => done_to_open(alloc, form.call, words),
+        Call::EntersOpen | Call::CutsOpen | Call::Lists => done_to_open(alloc, form.call, words),
         Call::Forks => forked(alloc, name, words, end),
         Call::Parts => parted(alloc, name, words),
         Call::Hides => hides(alloc, name),

@@ -19,6 +19,8 @@ pub enum Call {
     Follows,
     /// A file is cut.
     Cuts,
+    /// A file that is open is cut.
+    CutsOpen,
     /// A file or a device is made.
     Nodes,
     /// A directory is made.
@@ -190,6 +192,10 @@ fn form_of_place(name: &[u8]) -> Form
         with(Call::Lists, false)
     } else if name == b"getdents64".as_slice() {
         with(Call::Lists, false)
+    } else if name == b"ftruncate".as_slice() {
+        with(Call::CutsOpen, false)
+    } else if name == b"ftruncate64".as_slice() {
+        with(Call::CutsOpen, false)
     } else {
         form_of_process(name)
     }

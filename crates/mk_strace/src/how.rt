@@ -13,8 +13,10 @@ pub enum How {
     Folder,
     /// What stood there before does not matter.
     Makes,
-    /// Its old bytes may stay where it was there.
+    /// It is read and written where it was there, and else made.
     Updates,
+    /// It is written, and not read; its old bytes may stay where it was there.
+    Overwrites,
     /// It is read, or made where it was not there.
     ReadsOrMakes,
     Reads,
@@ -40,12 +42,6 @@ fn is_touched(flags: &[u8]) -> bool
     has(b"O_WRONLY", flags) && has(b"O_NONBLOCK", flags) && !has(b"O_APPEND", flags)
 }
 
-fn is_written(flags: &[u8]) -> bool
-    ensures { result ≡ spec.is_written flags.now }
-{
-    has(b"O_WRONLY", flags) || has(b"O_RDWR", flags)
-}
-
 /// What opening a file with these flags does to it.
 pub fn how_of(flags: &[u8]) -> How
     ensures { result ≡ spec.how_of flags.now }
@@ -56,8 +52,10 @@ pub fn how_of(flags: &[u8]) -> How
         How::Folder
     } else if is_new(flags) || is_touched(flags) {
         How::Makes
-    } else if is_written(flags) {
+    } else if has(b"O_RDWR", flags) {
         How::Updates
+    } else if has(b"O_WRONLY", flags) {
+        How::Overwrites
     } else if has(b"O_CREAT", flags) {
         How::ReadsOrMakes
     } else {
