@@ -10,7 +10,7 @@ use Rattle.mk_strace.specs.declared.act.Act.{Act}
 use Rattle.mk_strace.specs.declared.act.Act.TheVariants as act
 use Rattle.mk_strace.specs.declared.name.Name.{Name}
 use Rattle.mk_strace.specs.declared.trace.Event.{Event}
-use Rattle.mk_recorder.specs.Known.{not_known, after, is_outer, is_old}
+use Rattle.mk_recorder.specs.Known.{not_known, after, holds_old, may_hold}
 use Rattle.mk_recorder.specs.Places.{place_of}
 use Rattle.mk_recorder.specs.Records.{is_read}
 use Rattle.mk_recorder.specs.Soundness.{IsFound, ReadsAreFound, FoundIn, RunsKeepReads}
@@ -18,7 +18,7 @@ use Rattle.mk_recorder.specs.Soundness.{FoundIsRecorded}
 use Rattle.mk_recorder.specs.States.{State, may_begin, begun, born, early_born, appeared, forked}
 use Rattle.mk_recorder.specs.States.{ended, noted_in, touched, entered_at, entered, acted, acted_known}
 use Rattle.mk_recorder.specs.States.{step, run, birth_of}
-use Rattle.mk_recorder.specs.Tables.{Entry, known_in, noted, all_noted}
+use Rattle.mk_recorder.specs.Tables.{Entry, known_in, noted, all_noted, touch_in}
 use Rattle.mk_recorder.specs.Touches.{with_touches}
 use Rattle.mk_recorder.specs.declared.known.Known.{Known}
 use Rattle.mk_recorder.specs.declared.known.Touch.{Touch}
@@ -41,14 +41,17 @@ old-found known false is = is
 
 -- one more touch
 found-after : (known : Known) (one : Touch) → known.found ≡ true → (after known one).found ≡ true
-found-after known touch.Read is = or-true known.found (is_outer known) is
-found-after known touch.Run is = or-true known.found (is_outer known) is
+found-after known touch.Read is = or-true known.found (holds_old known) is
+found-after known touch.Run is = or-true known.found (holds_old known) is
 found-after known touch.Look is = is
 found-after known touch.Miss is = is
 found-after known touch.Make is = is
-found-after known touch.Update is = or-true known.found (is_old known) is
+found-after known touch.NewFolder is = is
+found-after known touch.Update is = or-true known.found (may_hold known) is
+found-after known touch.Overwrite is = is
+found-after known touch.Empty is = is
 found-after known touch.ReadOrMake is =
-    cases (is_old known) (λ old. rw old refl) (λ new. rw new is)
+    cases (may_hold known) (λ old. rw old refl) (λ new. rw new is)
 found-after known touch.Remove is = is
 found-after known touch.Folder is = is
 found-after known touch.List is = is
@@ -86,21 +89,21 @@ found-all : (table : List Entry) (path : List ℕ) (all : List Touched) → IsFo
     → IsFound (all_noted table all) path
 found-all table path [] is = is
 found-all table path (one ∷ more) is =
-    found-all (noted table one.path one.touch) path more
-    (found-noted table path one.path one.touch is)
+    let what = touch_in table one.path one.touch in
+    found-all (noted table one.path what) path more (found-noted table path one.path what is)
 
 all_noted-append : (table : List Entry) (first second : List Touched)
     → all_noted table (first ++ second) ≡ all_noted (all_noted table first) second
 all_noted-append table [] second = refl
 all_noted-append table (one ∷ more) second =
-    all_noted-append (noted table one.path one.touch) more second
+    all_noted-append (noted table one.path (touch_in table one.path one.touch)) more second
 
 pub reads-found : ReadsAreFound
 reads-found table first rest path outer =
     let now = all_noted table first in
     let read : IsFound (noted now path touch.Read) path =
     rw (known_in-same now path touch.Read)
-    (or-second (known_in now path).found (is_outer (known_in now path)) outer) in
+    (or-second (known_in now path).found (holds_old (known_in now path)) outer) in
     rw (all_noted-append table first (record { path = path; touch = touch.Read } ∷ rest))
     (found-all (noted now path touch.Read) path rest read)
 

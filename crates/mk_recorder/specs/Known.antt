@@ -14,6 +14,8 @@ not_known = record {
   listed = false;
   folder = false;
   ran = false;
+  kept = false;
+  fresh = false;
   change = Untouched;
 }
 
@@ -46,31 +48,49 @@ is_gone known = is_gone_by known.change
 abbrev pub is_old : Known → Bool
 is_old known = is_outer known && not known.missed
 
+-- what is read there may be older than the command
+abbrev pub holds_old : Known → Bool
+holds_old known = is_outer known || known.kept
+
+-- the same where it is opened, which may have made it
+abbrev pub may_hold : Known → Bool
+may_hold known = is_old known || known.kept
+
 abbrev pub read_or_made : Known → Known
 read_or_made known =
-    if is_old known then record known { found = true } else record known { change = Made }
+    if may_hold known then record known { found = true } else record known { change = Made }
 
 abbrev pub updated : Known → Known
-updated known = record known { found = known.found || is_old known; change = Made }
+updated known =
+    record known { found = known.found || may_hold known; fresh = false; change = Made }
+
+-- written by one that does not read it: old bytes may stay
+abbrev pub overwritten : Known → Known
+overwritten known = record known { kept = known.kept || is_old known; change = Made }
 
 abbrev pub removed : Known → Known
-removed known = record known { seen = known.seen || is_outer known; change = Gone }
+removed known =
+    record known { seen = known.seen || holds_old known; kept = false; fresh = false; change = Gone }
 
 abbrev pub run : Known → Known
-run known = record known { found = known.found || is_outer known; ran = known.ran || is_outer known }
+run known =
+    record known { found = known.found || holds_old known; ran = known.ran || is_outer known }
 
 abbrev pub listed : Known → Known
 listed known = record known { listed = known.listed || is_outer known; folder = true }
 
 -- What is known of a path behind one more touch: what is read, looked at and missed counts where the
--- command has not changed the path before.
+-- command has not changed the path before, and what is read also where old bytes may stay in it.
 abbrev pub after : Known → Touch → Known
-after known touch.Read = record known { found = known.found || is_outer known }
+after known touch.Read = record known { found = known.found || holds_old known }
 after known touch.Run = run known
 after known touch.Look = record known { seen = known.seen || is_outer known }
 after known touch.Miss = record known { missed = known.missed || is_outer known }
-after known touch.Make = record known { change = Made }
+after known touch.Make = record known { fresh = false; change = Made }
+after known touch.NewFolder = record known { folder = true; fresh = true; change = Made }
 after known touch.Update = updated known
+after known touch.Overwrite = overwritten known
+after known touch.Empty = record known { kept = false; change = Made }
 after known touch.ReadOrMake = read_or_made known
 after known touch.Remove = removed known
 after known touch.Folder = record known { folder = true }

@@ -1,7 +1,7 @@
 -- What the records of a command say of what it read.
 use Rattle.std.specs.Prelude.{◌≡◌, ℕ, Bool, true, false, List, [], ◌∷◌, ◌++◌, Option, Some, None}
 use Rattle.mk_strace.specs.declared.trace.Event.{Event}
-use Rattle.mk_recorder.specs.Known.{is_outer}
+use Rattle.mk_recorder.specs.Known.{holds_old}
 use Rattle.mk_recorder.specs.Records.{is_read}
 use Rattle.mk_recorder.specs.States.{State, run}
 use Rattle.mk_recorder.specs.Tables.{Entry, known_in, all_noted}
@@ -14,12 +14,12 @@ use Rattle.mk_recorder.specs.declared.table.Touched.{Touched}
 abbrev pub IsFound : List Entry → List ℕ → Type 0
 IsFound table path = (known_in table path).found ≡ true
 
--- A path that is read, and that the command has not changed before, is found, whatever was touched
--- before and is touched behind.
+-- A path that is read, and that the command has not changed before or in which old bytes may stay, is
+-- found, whatever was touched before and is touched behind.
 abbrev pub ReadsAreFound : Type 0
 ReadsAreFound =
     (table : List Entry) (first rest : List Touched) (path : List ℕ)
-    → is_outer (known_in (all_noted table first) path) ≡ true
+    → holds_old (known_in (all_noted table first) path) ≡ true
     → IsFound (all_noted table (first ++ (touched path Read ++ rest))) path
 
 -- where there is a state, the path is found in it

@@ -1,11 +1,12 @@
 -- What is known of paths, in the order of their first touch.
-use Rattle.std.specs.Prelude.{ℕ, Bool, ◌&&◌, nat_eq, List, [], ◌∷◌, map, filter, codes, length, drop}
-use Rattle.std.specs.Prelude.{if◌then◌else◌}
-use Rattle.std.specs.List.{starts_with}
+use Rattle.std.specs.Prelude.{ℕ, Bool, true, false, not, ◌&&◌, ◌==◌, ◌-◌, nat_eq, List, [], ◌∷◌, map}
+use Rattle.std.specs.Prelude.{filter, codes, length, drop, take, if◌then◌else◌}
+use Rattle.std.specs.List.{starts_with, suffix_len}
 use Rattle.std.specs.Str.{bytes_eq}
 use Rattle.std.specs.Global.{Vec}
 use Rattle.mk_recorder.specs.Known.{not_known, after, stands}
 use Rattle.mk_recorder.specs.declared.known.Touch.{Touch}
+use Rattle.mk_recorder.specs.declared.known.Touch.TheVariants as touch
 use Rattle.mk_recorder.specs.declared.known.Known.{Known}
 use Rattle.mk_recorder.specs.declared.table.Touched.{Touched}
 
@@ -29,9 +30,28 @@ noted (entry ∷ table) path touch =
     if bytes_eq path entry.0 then (entry.0, after entry.1 touch) ∷ table
     else entry ∷ noted table path touch
 
+abbrev pub is_in_name : ℕ → Bool
+is_in_name byte = not (byte == 47)
+
+-- the directory of a path: what stands before its last slash
+abbrev pub folder_of : List ℕ → List ℕ
+folder_of path = take (length path - suffix_len is_in_name path - 1) path
+
+abbrev pub may_make : Touch → Bool
+may_make touch.Update = true
+may_make touch.Overwrite = true
+may_make touch.ReadOrMake = true
+may_make other = false
+
+-- In a directory that the command made nothing stood before: what is opened there to be written is made.
+abbrev pub touch_in : List Entry → List ℕ → Touch → Touch
+touch_in table path what =
+    if may_make what && (known_in table (folder_of path)).fresh then touch.Make else what
+
 abbrev pub all_noted : List Entry → List Touched → List Entry
 all_noted table [] = table
-all_noted table (one ∷ more) = all_noted (noted table one.path one.touch) more
+all_noted table (one ∷ more) =
+    all_noted (noted table one.path (touch_in table one.path one.touch)) more
 
 abbrev pub is_below : List ℕ → List ℕ → Bool
 is_below directory path =

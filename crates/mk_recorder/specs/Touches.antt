@@ -44,6 +44,7 @@ touch_by how.Passes = None
 touch_by how.Folder = Some touch.Folder
 touch_by how.Makes = Some touch.Make
 touch_by how.Updates = Some touch.Update
+touch_by how.Overwrites = Some touch.Overwrite
 touch_by how.ReadsOrMakes = Some touch.ReadOrMake
 touch_by how.Reads = Some touch.Read
 
@@ -112,6 +113,7 @@ hidden call = touched (hidden_path call) touch.Read
 abbrev pub with_rest : List Touched → List ℕ → Act → Touches
 with_rest touches directory (act.Enters name) = with_touch touches directory name touch.Folder
 with_rest touches directory (act.Lists name) = with_touch touches directory name touch.List
+with_rest touches directory (act.Empties name) = with_touch touches directory name touch.Empty
 with_rest touches directory (act.Hides call) = Some (touches ++ hidden call)
 with_rest touches directory _ = Some touches
 
@@ -122,8 +124,7 @@ with_act touches directory (act.Runs name) = with_touch touches directory name t
 with_act touches directory (act.Looks name what) = with_look touches directory name what
 with_act touches directory (act.Makes name) = with_touch touches directory name touch.Make
 with_act touches directory (act.Updates name) = with_touch touches directory name touch.Update
-with_act touches directory (act.MakesFolder name) =
-    with_two touches directory name touch.Folder name touch.Make
+with_act touches directory (act.MakesFolder name) = with_touch touches directory name touch.NewFolder
 with_act touches directory (act.Removes name is_folder) =
     with_removal touches directory name is_folder
 with_act touches directory (act.Links from to) =

@@ -12,8 +12,14 @@ pub enum Touch {
     Look,
     Miss,
     Make,
-    /// It is changed, and old bytes may stay.
+    /// It is made, as a directory in which nothing is.
+    NewFolder,
+    /// It is read and changed.
     Update,
+    /// It is changed by one that does not read it, and old bytes may stay.
+    Overwrite,
+    /// It is changed, and no old bytes stay.
+    Empty,
     /// It is read where it was there, and else made.
     ReadOrMake,
     Remove,
@@ -44,6 +50,10 @@ pub struct Known {
     pub folder: bool,
     /// It was run before the command changed it.
     pub ran: bool,
+    /// Bytes from before the command may stay in it, though the command changed it.
+    pub kept: bool,
+    /// The command made it, as a directory in which nothing was.
+    pub fresh: bool,
     pub change: Change,
 }
 
@@ -58,6 +68,8 @@ pub fn not_known() -> Known
         listed: false,
         folder: false,
         ran: false,
+        kept: false,
+        fresh: false,
         change: Change::Untouched,
     }
 }
@@ -89,10 +101,22 @@ fn is_old(known: Known) -> bool
     is_outer(known) && !known.missed
 }
 
+fn holds_old(known: Known) -> bool
+    ensures { result ≡ spec.holds_old known }
+{
+    is_outer(known) || known.kept
+}
+
+fn may_hold(known: Known) -> bool
+    ensures { result ≡ spec.may_hold known }
+{
+    is_old(known) || known.kept
+}
+
 fn read_or_made(known: Known) -> Known
     ensures { result ≡ spec.read_or_made known }
 {
-    if is_old(known) {
+    if may_hold(known) {
         return Known {
             found: true,
             ..known
@@ -108,7 +132,18 @@ fn updated(known: Known) -> Known
     ensures { result ≡ spec.updated known }
 {
     Known {
-        found: known.found || is_old(known),
+        found: known.found || may_hold(known),
+        fresh: false,
+        change: Change::Made,
+        ..known
+    }
+}
+
+fn overwritten(known: Known) -> Known
+    ensures { result ≡ spec.overwritten known }
+{
+    Known {
+        kept: known.kept || is_old(known),
         change: Change::Made,
         ..known
     }
@@ -118,7 +153,9 @@ fn removed(known: Known) -> Known
     ensures { result ≡ spec.removed known }
 {
     Known {
-        seen: known.seen || is_outer(known),
+        seen: known.seen || holds_old(known),
+        kept: false,
+        fresh: false,
         change: Change::Gone,
         ..known
     }
@@ -128,7 +165,7 @@ fn ran(known: Known) -> Known
     ensures { result ≡ spec.run known }
 {
     Known {
-        found: known.found || is_outer(known),
+        found: known.found || holds_old(known),
         ran: known.ran || is_outer(known),
         ..known
     }
@@ -150,7 +187,7 @@ pub fn after(known: Known, touch: Touch) -> Known
 {
     match touch {
         Touch::Read => Known {
-            found: known.found || is_outer(known),
+            found: known.found || holds_old(known),
             ..known
         },
         Touch::Run => ran(known),
@@ -163,10 +200,23 @@ pub fn after(known: Known, touch: Touch) -> Known
             ..known
         },
         Touch::Make => Known {
+            fresh: false,
+            change: Change::Made,
+            ..known
+        },
+        Touch::NewFolder => Known {
+            folder: true,
+            fresh: true,
             change: Change::Made,
             ..known
         },
         Touch::Update => updated(known),
+        Touch::Overwrite => overwritten(known),
+        Touch::Empty => Known {
+            kept: false,
+            change: Change::Made,
+            ..known
+        },
         Touch::ReadOrMake => read_or_made(known),
         Touch::Remove => removed(known),
         Touch::Folder => Known {

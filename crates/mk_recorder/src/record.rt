@@ -33,7 +33,7 @@ fn is_read(known: Known) -> bool
     if known.folder {
         return known.listed;
     }
-    known.found || known.seen && is_outer(known)
+    known.found || known.kept || known.seen && is_outer(known)
 }
 
 fn is_deleted(known: Known) -> bool

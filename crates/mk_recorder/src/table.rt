@@ -1,5 +1,6 @@
 //! What is known of paths, in one table.
-ghost use Rattle.std.specs.Prelude.{◌≡◌, [], ◌++◌, OnOk, IfOk, map, filter};
+ghost use Rattle.std.specs.Prelude.{◌≡◌, ◌≤◌, [], ◌++◌, OnOk, IfOk, map, filter, length, reverse};
+ghost use Rattle.std.specs.Prelude.{take_while};
 ghost use Rattle.mk_recorder.specs.Records.{records_of};
 ghost use Rattle.mk_recorder.specs.Tables as spec;
 
@@ -45,6 +46,40 @@ pub fn is_below(directory: &[u8], path: &[u8]) -> bool
     path.starts_with(directory) && skip(path, directory.len()).starts_with(b"/")
 }
 
+fn is_in_name(byte: u8) -> bool
+    ensures { result ≡ spec.is_in_name byte }
+{
+    byte != b'/'
+}
+
+// How long the last name of a path is.
+fn name_length(path: &[u8]) -> usize
+    ensures len { result ≡ length (take_while spec.is_in_name (reverse path.now)) }
+    ensures within { result ≤ length path.now }
+{
+    path.iter()
+        .rev()
+        .take_while(|byte| is_in_name(**byte))
+        .count()
+}
+
+/// The directory of a path: what stands before its last slash. Takes no memory.
+pub fn folder_of<'t>(path: &'t [u8]) -> &'t [u8]
+    ensures { result.now ≡ spec.folder_of path.now }
+{
+    let name = name_length(path);
+    if name == path.len() {
+        return b"";
+    }
+    &path[..path.len() - name - 1]
+}
+
+fn may_make(touch: Touch) -> bool
+    ensures { result ≡ spec.may_make touch }
+{
+    matches!(touch, Touch::Update | Touch::Overwrite | Touch::ReadOrMake)
+}
+
 impl Table {
     /// A table in which nothing is known.
     pub fn new(alloc: Global) -> Table
@@ -66,12 +101,24 @@ impl Table {
         Ok(())
     }
 
-    /// Notes what is done to paths, in order.
+    // What is done to a path, in its directory.
+    fn touch_in(&self, path: &[u8], touch: Touch) -> Touch
+        ensures { result ≡ spec.touch_in self.now path.now touch }
+    {
+        if may_make(touch) && self.of(folder_of(path)).fresh {
+            return Touch::Make;
+        }
+        touch
+    }
+
+    /// Notes what is done to paths, in order. What is opened to be written in a directory that the command
+    /// made is made.
     pub fn note_all(&mut self, touches: &[Touched]) -> Result<(), NoMemory>
         ensures { OnOk result (self.new ≡ spec.all_noted self.old touches.now) }
     {
         for touched in touches {
-            self.note(touched.path.bytes(), touched.touch)?;
+            let touch = self.touch_in(touched.path.bytes(), touched.touch);
+            self.note(touched.path.bytes(), touch)?;
         }
         Ok(())
     }

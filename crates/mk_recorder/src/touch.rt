@@ -57,6 +57,7 @@ fn touch_by(how: How) -> Option<Touch>
         How::Folder => Some(Touch::Folder),
         How::Makes => Some(Touch::Make),
         How::Updates => Some(Touch::Update),
+        How::Overwrites => Some(Touch::Overwrite),
         How::ReadsOrMakes => Some(Touch::ReadOrMake),
         How::Reads => Some(Touch::Read),
     }
@@ -292,15 +293,7 @@ fn push_act(alloc: Global, out: &mut Touches, directory: &[u8], act: &Act) -> Re
         Act::Looks { name, sort } => push_look(alloc, out, directory, name, *sort),
         Act::Makes(name) => push(alloc, out, directory, name, Touch::Make),
         Act::Updates(name) => push(alloc, out, directory, name, Touch::Update),
-        Act::MakesFolder(name) => push_two(
-            alloc,
-            out,
-            directory,
-            name,
-            Touch::Folder,
-            name,
-            Touch::Make,
-        ),
+        Act::MakesFolder(name) => push(alloc, out, directory, name, Touch::NewFolder),
         Act::Removes { name, is_folder } => {
             push_removal(alloc, out, directory, name, *is_folder)
         }
@@ -330,6 +323,7 @@ fn push_rest(
     match act {
         Act::Enters(name) => push(alloc, out, directory, name, Touch::Folder),
         Act::Lists(name) => push(alloc, out, directory, name, Touch::List),
+        Act::Empties(name) => push(alloc, out, directory, name, Touch::Empty),
         Act::Hides(call) => push_hidden(alloc, out, call.bytes()).and(Ok(true)),
         _ => Ok(true),
     }
