@@ -26,8 +26,8 @@ command read, missed, wrote and deleted. Where BMAKE_FILEMON is not set or
 empty, and where it is traced already, the command is run as it is.
 
 The second form prints the records of a trace that was written by
-'strace -f -y -s 0 -e signal=none -o TRACE COMMAND', begun in an absolute
-directory. It looks at no other file.
+'strace -f -y -s 0 -o TRACE COMMAND', begun in an absolute directory. It looks
+at no other file.
 
   --help      prints this text, where it is the only word
   --version   prints the version, where it is the only word

@@ -4,10 +4,10 @@ use crate::log::Log;
 use crate::refusal::Refusal;
 use crate::search::found;
 use crate::stream::push_streams;
-use crate::trace::{UNREAD, push_all, records_in};
+use crate::trace::{Scratch, UNREAD, push_all, records_in};
 use mk_bytes::{Items, Text};
-use mk_filemon::{cut_at, push_decimal};
-use mk_recorder::{Records, Touches};
+use mk_filemon::{directory_from, push_decimal};
+use mk_recorder::{Records, Touches, is_of_make};
 use mk_strace::behind;
 use std::io::ErrorKind;
 use std::os::unix::process::ExitStatusExt;
@@ -19,11 +19,13 @@ use std::{env, process, str, thread};
 const CALLS: &str = "trace=?open,?openat,?openat2,?creat,?execve,?execveat,?stat,?stat64,?lstat,\
 ?lstat64,?newfstatat,?fstatat64,?statx,?access,?faccessat,?faccessat2,?truncate,?truncate64,?mknod,\
 ?mknodat,?mkdir,?mkdirat,?unlink,?unlinkat,?rmdir,?rename,?renameat,?renameat2,?link,?linkat,\
-?symlink,?symlinkat,?utime,?utimes,?utimensat,?futimesat,?chdir,?fchdir,?getdents,?getdents64,?fork,\
+?symlink,?symlinkat,?utime,?utimes,?utimensat,?futimesat,?ftruncate,?ftruncate64,?chdir,?fchdir,\
+?getdents,?getdents64,?fork,\
 ?vfork,?clone,?clone3,?unshare,?chroot,?pivot_root,?mount,?setns,?open_by_handle_at,?io_uring_setup,\
 ?move_mount";
 
-// The options of strace; the name of the trace follows.
+// The options of strace; the name of the trace follows. Signals that can end a process are shown, since
+// strace says only of these that they ended one.
 const OPTIONS: [&str; 12] = [
     "-D",
     "-f",
@@ -33,7 +35,7 @@ const OPTIONS: [&str; 12] = [
     "-s",
     "0",
     "-e",
-    "signal=none",
+    "signal=!chld,cont,urg,winch",
     "-e",
     CALLS,
     "-o",
@@ -153,12 +155,12 @@ fn log_of(
     rt: &HostRuntime,
     process: u32,
     status: u8,
-    own: &[u8],
+    scratch: &Scratch,
     records: Option<Records>,
 ) -> Result<Log, Refusal> {
     let mut log = Log::new(rt.alloc(), process)?;
     match &records {
-        Some(records) => push_all(rt, &mut log, own, records.as_slice())?,
+        Some(records) => push_all(rt, &mut log, scratch, records.as_slice())?,
         None => log.push(b"R", UNREAD)?,
     }
     log.end(status)?;
@@ -179,6 +181,23 @@ fn current(rt: &HostRuntime) -> Result<Text, Refusal> {
         Ok(path) => Ok(Text::from_bytes(rt.alloc(), path.as_str().as_bytes())?),
         Err(_) => Err(Refusal::of(rt.alloc(), b"the working directory is not known", 127)),
     }
+}
+
+// What is no record of a command that begins in a directory. Where that is a make's own, none is passed
+// over but those of this log.
+fn scratch_of(rt: &HostRuntime, log: &[u8], directory: &[u8]) -> Result<Scratch, Refusal> {
+    let alloc = rt.alloc();
+    let mut temporary = match env::var(rt, "TMPDIR") {
+        Ok(path) if !path.is_empty() => directory_from(alloc, directory, path.as_bytes())?,
+        _ => Text::from_bytes(alloc, b"/tmp")?,
+    };
+    if is_of_make(temporary.bytes(), directory) {
+        temporary = Text::from_bytes(alloc, b"/")?;
+    }
+    Ok(Scratch {
+        own: Text::from_bytes(alloc, folder_of(log))?,
+        temporary,
+    })
 }
 
 /// Runs a command under strace, and appends its records to a log.
@@ -215,7 +234,8 @@ fn written(
         return Ok(status);
     }
     let records = whole_records(rt, directory, before, trace)?;
-    let part = log_of(rt, process, status, folder_of(log), records)?;
+    let scratch = scratch_of(rt, log, directory)?;
+    let part = log_of(rt, process, status, &scratch, records)?;
     append(rt, log, part.bytes())?;
     Ok(status)
 }

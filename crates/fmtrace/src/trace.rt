@@ -3,9 +3,9 @@ use crate::file::{Stand, stands_at};
 use crate::interpreter::push_interpreters;
 use crate::log::{Log, NO_FORM, has_newline, keeps_deleted, keeps_read, keeps_written};
 use crate::refusal::Refusal;
-use mk_bytes::{Items, NoMemory, Text, Texts, begins};
+use mk_bytes::{Items, NoMemory, Text, Texts};
 use mk_filemon::push_decimal;
-use mk_recorder::{Record, Records, Touches, judge};
+use mk_recorder::{Record, Records, Touches, is_left_out, judge, runs_make};
 use mk_strace::read_trace;
 use std::alloc::Global;
 use std::io::{Print, Read};
@@ -64,18 +64,27 @@ fn push_programs(rt: &HostRuntime, log: &mut Log, records: &[Record]) -> Result<
     Ok(())
 }
 
-/// Adds the records of a command to a log, as far as what stands at their paths agrees, but for paths that
-/// begin with `own`: the files of make for its children.
+/// Where makes have the files for their children: that of the log, and below which directory for temporary
+/// files others may have theirs.
+#[derive(Drop)]
+pub struct Scratch {
+    pub own: Text,
+    pub temporary: Text,
+}
+
+/// Adds the records of a command to a log, as far as what stands at their paths agrees, but for those of
+/// the files of makes for their children.
 pub fn push_all(
     rt: &HostRuntime,
     log: &mut Log,
-    own: &[u8],
+    scratch: &Scratch,
     records: &[Record],
 ) -> Result<(), NoMemory> {
+    let (own, temporary) = (scratch.own.bytes(), scratch.temporary.bytes());
+    let has_make = runs_make(temporary, records);
     for record in records {
-        let path = record.path.bytes();
-        if !begins(own, path) {
-            push_record(log, record, stands_at(rt, path))?;
+        if !is_left_out(own, temporary, has_make, record) {
+            push_record(log, record, stands_at(rt, record.path.bytes()))?;
         }
     }
     push_programs(rt, log, records)

@@ -3,6 +3,7 @@ pub mod Judgement
 pub mod Known
 pub mod Places
 pub mod Records
+pub mod Scratch
 pub mod States
 pub mod Soundness
 pub mod Tables
