@@ -1,6 +1,6 @@
 -- What is found stays found.
 use Rattle.std.proofs.Common.{◌≡◌, ℕ, Bool, true, false, ◌||◌, List, [], ◌∷◌, ◌++◌, Option, Some, None}
-use Rattle.std.proofs.Common.{if◌then◌else◌, option_and_then, refl, sym, ◌∙◌, ap, ◌==◌, nat_le}
+use Rattle.std.proofs.Common.{if◌then◌else◌, option_and_then, refl, ap, ◌==◌}
 use Rattle.std.specs.Option.{option_map}
 use Rattle.std.specs.Str.{bytes_eq}
 use Rattle.mk_filemon.proofs.EscapeLemmas.{cases}
@@ -8,15 +8,13 @@ use Rattle.mk_filemon.proofs.PathLemmas.{bytes_eq-same, same_bytes}
 use Rattle.mk_strace.specs.Kept.{with_text}
 use Rattle.mk_strace.specs.declared.act.Act.{Act}
 use Rattle.mk_strace.specs.declared.act.Act.TheVariants as act
-use Rattle.mk_strace.specs.declared.name.Name.{Name}
 use Rattle.mk_strace.specs.declared.trace.Event.{Event}
-use Rattle.mk_recorder.specs.Known.{not_known, after, holds_old, may_hold}
+use Rattle.mk_recorder.specs.Known.{after, holds_old, may_hold}
 use Rattle.mk_recorder.specs.Places.{place_of}
-use Rattle.mk_recorder.specs.Records.{is_read}
 use Rattle.mk_recorder.specs.Soundness.{IsFound, ReadsAreFound, FoundIn, RunsKeepReads}
 use Rattle.mk_recorder.specs.Soundness.{FoundIsRecorded}
 use Rattle.mk_recorder.specs.States.{State, may_begin, begun, born, early_born, appeared, forked}
-use Rattle.mk_recorder.specs.States.{ended, noted_in, touched, entered_at, entered, acted, acted_known}
+use Rattle.mk_recorder.specs.States.{ended, noted_in, entered_at, acted, acted_known}
 use Rattle.mk_recorder.specs.States.{step, run, birth_of}
 use Rattle.mk_recorder.specs.Tables.{Entry, known_in, noted, all_noted, touch_in}
 use Rattle.mk_recorder.specs.Touches.{with_touches}

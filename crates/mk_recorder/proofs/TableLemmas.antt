@@ -1,13 +1,13 @@
 -- The table of what is known, against the touches that left it.
-use Rattle.std.proofs.Common.{◌≡◌, ℕ, Bool, true, false, cond, List, [], ◌∷◌, map, Vec, Global}
-use Rattle.std.proofs.Common.{if◌then◌else◌, Option, Some, refl, ◌∙◌, ap}
+use Rattle.std.proofs.Common.{◌≡◌, ℕ, Bool, true, false, cond, List, [], ◌∷◌, Vec, Global}
+use Rattle.std.proofs.Common.{Option, Some, refl, ◌∙◌, ap}
 use Rattle.indexmap.specs.IndexMap.{insert_entry}
 use Rattle.std.specs.Map.{lookup}
 use Rattle.std.specs.Option.{unwrap_or}
 use Rattle.std.specs.Str.{bytes_eq}
 use Rattle.mk_filemon.proofs.EscapeLemmas.{cases}
 use Rattle.mk_recorder.specs.Known.{not_known, after}
-use Rattle.mk_recorder.specs.Tables.{Entry, entries_of, known_in, noted}
+use Rattle.mk_recorder.specs.Tables.{entries_of, known_in, noted}
 use Rattle.mk_recorder.specs.declared.known.Touch.{Touch}
 use Rattle.mk_recorder.specs.declared.known.Known.{Known}
 

@@ -1,5 +1,5 @@
 -- What is known of a path, touch by touch.
-use Rattle.std.specs.Prelude.{ℕ, Bool, true, false, not, ◌||◌, ◌&&◌, List, if◌then◌else◌}
+use Rattle.std.specs.Prelude.{Bool, true, false, not, ◌||◌, ◌&&◌, if◌then◌else◌}
 use Rattle.mk_recorder.specs.declared.known.Touch.{Touch}
 use Rattle.mk_recorder.specs.declared.known.Touch.TheVariants as touch
 use Rattle.mk_recorder.specs.declared.known.Change.{Change}

@@ -1,5 +1,5 @@
 -- What the records of a command say of what it read.
-use Rattle.std.specs.Prelude.{◌≡◌, ℕ, Bool, true, false, List, [], ◌∷◌, ◌++◌, Option, Some, None}
+use Rattle.std.specs.Prelude.{◌≡◌, ℕ, true, false, List, ◌++◌, Option, Some, None}
 use Rattle.mk_strace.specs.declared.trace.Event.{Event}
 use Rattle.mk_recorder.specs.Known.{holds_old}
 use Rattle.mk_recorder.specs.Records.{is_read}
