@@ -80,7 +80,7 @@ abbrev pub moved : List ℕ → List ℕ → List ℕ → List ℕ
 moved from to path = to ++ drop (length from) path
 
 abbrev pub moved_below : List ℕ → List ℕ → List ℕ → List Touched
-moved_below from to path = touched path touch.Remove ++ touched (moved from to path) touch.Make
+moved_below from to path = file_move path (moved from to path)
 
 abbrev pub all_moved : List ℕ → List ℕ → List (List ℕ) → List Touched
 all_moved from to paths = flat_map (moved_below from to) paths

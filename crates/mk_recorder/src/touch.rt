@@ -176,12 +176,8 @@ fn push_moved(
 ) -> Result<(), NoMemory>
     ensures { OnOk result (out.new ≡ out.old ++ spec.moved_below from.now to.now path.now) }
 {
-    push_path(alloc, out, path, Touch::Remove)?;
-    let path = moved(alloc, from, to, path)?;
-    out.push(Touched {
-        path,
-        touch: Touch::Make,
-    })
+    let place = moved(alloc, from, to, path)?;
+    push_file_move(alloc, out, path, place.bytes())
 }
 
 fn push_all_moved(
