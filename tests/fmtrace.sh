@@ -10,7 +10,7 @@ stored=$PWD/tests/fmtrace
 room=$(mktemp -d) || exit 1
 room=$(cd "$room" && pwd -P)
 trap 'rm -rf "$room"' EXIT
-unset BMAKE_FILEMON MAKEFLAGS
+unset BMAKE_FILEMON BMAKE_RECORDER MAKEFLAGS
 export LC_ALL=C
 passed=0
 failed=0
@@ -141,7 +141,11 @@ row shows='a symbolic link to a directory' command='cat l/c' records='R d/c R l/
 row shows='without the right to' before='chmod 444 a' command='(echo x >none/a); cat a' records='R a N none/a'
 row shows='a name space of its own' command='unshare -m true; true' records='X'
 row shows='a process that runs on' command='(sleep 1; echo late >t) >/dev/null 2>&1 & echo 1 >u' records='X'
-row shows='a command that ends itself by a signal' command='kill -9 $$' status=137 records=X
+row shows='a command that ends itself by a signal' command='cat a; kill -9 $$' status=137 records='R a'
+row shows='one whose part is ended by a signal' command='yes | head -n 1 >t' records='W t'
+row shows='a file that is cut when it is open' before='cp a t' command='sort -o t a' records='R a W t'
+row shows='what is made in a directory that is made' command='mkdir e; echo 1 >>e/x' records='W e/x'
+row shows='and in one that stood there' command='mkdir -p d; echo 1 >>d/x' records='R d/x W d/x'
 row shows='a recorder in a recorder' command='"'"$fmtrace"'" cat a' records='R a'
 
 if command -v cc >/dev/null; then
@@ -204,17 +208,23 @@ go() {
     "$program" 2>err | grep -c '^made$'
 }
 
-# A command for t, an edit behind which t is made again, and one behind which it is not.
+# A command for t, an edit behind which t is made again, and one behind which it is not. The recorder
+# stands before the command, or is named in the environment.
 build() {
-    local shows before=: makes seen unseen='echo 2 >other'
+    local shows before=: makes seen unseen='echo 2 >other' by=makefile words
     local "$@"
     local here=$room/build$((passed + failed))
     mkdir -p "$here/d" "$here/early"
     (
         cd "$here" || exit 1
         echo a >a && echo b >b && echo c >d/c && echo 1 >other && eval "$before"
-        printf '%s\n\n%s\n\t@%s %s\n' '.MAKE.MODE = meta curdirOk=yes missing-meta=yes missing-filemon=yes' \
-            't:' "$fmtrace" "/bin/sh -c '$makes; echo made'" >makefile
+        words="$fmtrace /bin/sh -c '$makes; echo made'"
+        if [ "$by" = environment ]; then
+            export BMAKE_RECORDER=$fmtrace
+            words="$makes; echo made"
+        fi
+        printf '%s\n\n%s\n\t@%s\n' '.MAKE.MODE = meta curdirOk=yes missing-meta=yes missing-filemon=yes' \
+            't:' "$words" >makefile
         [ "$(go)" = 1 ] || echo 'not made first'
         [ "$(go)" = 0 ] || echo 'made again'
         sleep 0.02
@@ -231,7 +241,7 @@ build() {
 build shows='sed of standard input' makes='sed s/a/x/ <a >t' seen='echo aa >a'
 build shows='a test' makes='if [ -e d/o ]; then echo y >t; else echo n >t; fi' seen='echo 1 >d/o' unseen='echo 1 >d/p'
 build shows='a pattern' before='echo 1 >d/1.c' makes='cat d/*.c >t' seen='echo 2 >d/2.c' unseen='echo 1 >early/1.c'
-build shows='sort -o' makes='rm -f t; sort -o t a' seen='echo z >a'
+build shows='sort -o' makes='sort -o t a' seen='echo z >a'
 build shows='a shell script' before='printf "#!/bin/sh\ncat a >t\n" >s; chmod +x s' makes=./s \
     seen='printf "#!/bin/sh\ncat b >t\n" >s'
 build shows='a Perl script' before='echo "print 1;" >p.pl' makes='perl p.pl >t' seen='echo "print 2;" >p.pl'
@@ -243,6 +253,10 @@ if command -v cc >/dev/null; then
         makes='cc -Iearly -Id -c y.c -o t' seen='echo "#define A 2" >early/a.h' unseen='echo 1 >early/b.h'
     build shows='ar' before='echo 1 >m.o' makes='rm -f t; ar rcs t m.o' seen='echo 2 >m.o'
 fi
+
+# A make in a make, where the recorder is named in the environment.
+build shows='a make in a make' before='mkdir sub; printf "out: src\n\tcat src >out\n" >sub/makefile; echo 1 >sub/src' \
+    makes="cd sub && $program >/dev/null && cp out ../t" by=environment seen='echo 22 >sub/src'
 
 echo "$passed passed, $failed failed"
 [ "$failed" = 0 ]
