@@ -407,7 +407,7 @@ row shows='a source of the future makes its target anew in each run, and is not 
     run='timeout 20 "$program"; timeout 20 "$program"; touch a; "$program"; sleep 0.1; "$program"' out=$'made\nmade\nmade\n'
 
 row shows='a time that is a little ahead is waited for' \
-    before='touch -d "+1500 milliseconds" a' makefile="$meta$nl"$'t: a\n\t@echo made; : >t\n' \
+    before='touch -d "@$(($(date +%s) + 1)).9" a' makefile="$meta$nl"$'t: a\n\t@echo made; : >t\n' \
     run='timeout 20 "$program"; sleep 0.1; timeout 20 "$program"' out=$'made\n'
 
 row shows='a pipe with a name as meta file gives way' \
