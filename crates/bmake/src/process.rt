@@ -127,7 +127,9 @@ fn program<R: Env + AllocGlobal>(rt: &R, cwd: &[u8]) -> Result<Text, NoMemory> {
 
 /// The environment, entry by entry, with the current directory and the program's name; `None` where the
 /// system gives no directory.
-pub fn environment<R: Env + Files + AllocGlobal>(rt: &R) -> Result<Option<mk_scopes::Env>, NoMemory> {
+pub fn environment<R: Env + Files + AllocGlobal>(
+    rt: &R,
+) -> Result<Option<mk_scopes::Env>, NoMemory> {
     let vars = variables(rt)?;
     let mut buffer = [0u8; MAX_PATH];
     let Ok(count) = rt.current_dir(&mut buffer) else {
