@@ -1,10 +1,13 @@
 //! The program `bmake`: it makes the real world and its sinks, and hands all else to `run`.
 #![tactic(auto)]
 
+ghost use Rattle.std.specs.Prelude.{IsTrue};
+ghost use Rattle.mk_bytes.specs.Paths.{is_clean_directory as is_clean};
+
 mod above;
 mod process;
 
-use mk_bytes::{Items, NoMemory, Texts, is_clean_directory};
+use mk_bytes::{Items, NoMemory, Text, Texts, is_clean_directory};
 use mk_realworld::{RealSink, RealWorld};
 use mk_scopes::Env;
 use mk_top::run;
@@ -79,18 +82,31 @@ fn run_in(rt: &HostRuntime, words: &Texts, env: &Env) -> u8 {
     if !is_clean_directory(env.cwd.bytes()) {
         return outside_failed(rt);
     }
-    let Ok(all) = words_of_all(rt, words, env) else {
-        return out_of_memory(rt);
-    };
-    for word in all.as_slice() {
-        if str::from_utf8(word.bytes()).is_err() {
-            return bad_word(rt, word.bytes());
-        }
-    }
-    match run_all(rt, &all, env) {
+    match run_words(rt, words, env) {
         Ok(status) => status,
         Err(NoMemory) => out_of_memory(rt),
     }
+}
+
+// The first word that is not UTF-8.
+fn first_bad(words: &Texts) -> Option<&Text> {
+    for word in words.as_slice() {
+        if str::from_utf8(word.bytes()).is_err() {
+            return Some(word);
+        }
+    }
+    None
+}
+
+// Runs what the words ask for, behind those of the make above.
+fn run_words(rt: &HostRuntime, words: &Texts, env: &Env) -> Result<u8, NoMemory>
+    requires { IsTrue (is_clean env.now.cwd) }
+{
+    let all = words_of_all(rt, words, env)?;
+    if let Some(word) = first_bad(&all) {
+        return Ok(bad_word(rt, word.bytes()));
+    }
+    run_all(rt, &all, env)
 }
 
 // The words of the make above, where it hands on some, and those of the command line. Behind others
@@ -116,7 +132,9 @@ fn words_of_all(rt: &HostRuntime, words: &Texts, env: &Env) -> Result<Texts, NoM
 }
 
 // Runs what all words ask for in the real world.
-fn run_all(rt: &HostRuntime, all: &Texts, env: &Env) -> Result<u8, NoMemory> {
+fn run_all(rt: &HostRuntime, all: &Texts, env: &Env) -> Result<u8, NoMemory>
+    requires { IsTrue (is_clean env.now.cwd) }
+{
     let place = process::place_of_children(rt, env)?;
     let setting = above::setting(rt.alloc(), env, all)?;
     let mut world = RealWorld::new(rt, setting, place, rt.stderr())?;
