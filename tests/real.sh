@@ -408,7 +408,7 @@ row shows='a source of the future makes its target anew in each run, and is not 
 
 row shows='a time that is a little ahead is waited for' \
     before='touch -d "@$(($(date +%s) + 1)).9" a' makefile="$meta$nl"$'t: a\n\t@echo made; : >t\n' \
-    run='timeout 20 "$program"; sleep 0.1; timeout 20 "$program"' out=$'made\n'
+    run='timeout 20 "$program"; timeout 20 "$program"; sleep 0.1; timeout 20 "$program"' out=$'made\nmade\n'
 
 row shows='a pipe with a name as meta file gives way' \
     before='mkfifo t.meta; touch t' makefile="$meta$nl"$'t:\n\t@echo made; : >t\n' \
