@@ -4,11 +4,7 @@ use mk_bytes::{Items, NoMemory, Pair, Pairs, Text, Texts, clean_path};
 use mk_realworld::Place;
 use std::alloc::Global;
 use std::env::{Env, FillError};
-use std::fs::Files;
-use std::{fs, process};
-
-// Where the system has the environment of the process.
-const ENVIRONMENT: &str = "/proc/self/environ";
+use std::process;
 
 // The system gives no directory longer than this.
 const MAX_PATH: usize = 4096;
@@ -66,19 +62,8 @@ fn variable(alloc: Global, entry: &[u8]) -> Result<Option<Pair>, NoMemory> {
     Ok(Some(Pair { name, value }))
 }
 
-// The variables of the entries of an environment, each of which ends with a byte 0.
-fn variables_in(alloc: Global, entries: &[u8]) -> Result<Pairs, NoMemory> {
-    let mut vars = Items::new(alloc, 0)?;
-    for entry in entries.split(|byte| *byte == 0) {
-        if let Some(pair) = variable(alloc, entry)? {
-            vars.push(pair)?;
-        }
-    }
-    Ok(vars)
-}
-
-// The same, asked for one by one.
-fn variables_one_by_one<R: Env + AllocGlobal>(rt: &R) -> Result<Pairs, NoMemory> {
+// The variables of the environment, entry by entry.
+fn variables<R: Env + AllocGlobal>(rt: &R) -> Result<Pairs, NoMemory> {
     let mut vars = Items::new(rt.alloc(), 0)?;
     for i in 0..usize::MAX {
         let Some(entry) = bytes_of(rt, Query::Entry(i))? else {
@@ -89,15 +74,6 @@ fn variables_one_by_one<R: Env + AllocGlobal>(rt: &R) -> Result<Pairs, NoMemory>
         }
     }
     Ok(vars)
-}
-
-// The variables of the environment, entry by entry. The system has them in one file too, since to ask for each
-// by its number takes a walk from the first.
-fn variables<R: Env + Files + AllocGlobal>(rt: &R) -> Result<Pairs, NoMemory> {
-    match fs::read(rt, ENVIRONMENT) {
-        Ok(entries) if !entries.is_empty() => variables_in(rt.alloc(), entries.as_slice()),
-        _ => variables_one_by_one(rt),
-    }
 }
 
 /// A path made absolute from a directory, without `.`, `..` and empty names.
@@ -127,9 +103,7 @@ fn program<R: Env + AllocGlobal>(rt: &R, cwd: &[u8]) -> Result<Text, NoMemory> {
 
 /// The environment, entry by entry, with the current directory and the program's name; `None` where the
 /// system gives no directory.
-pub fn environment<R: Env + Files + AllocGlobal>(
-    rt: &R,
-) -> Result<Option<mk_scopes::Env>, NoMemory> {
+pub fn environment<R: Env + AllocGlobal>(rt: &R) -> Result<Option<mk_scopes::Env>, NoMemory> {
     let vars = variables(rt)?;
     let mut buffer = [0u8; MAX_PATH];
     let Ok(count) = rt.current_dir(&mut buffer) else {
