@@ -5,7 +5,7 @@ ghost use Rattle.mk_realworld.specs.Commands.{words_of};
 
 use crate::refusal::Refusal;
 use crate::setting::Setting;
-use mk_bytes::{Pairs, Text, Texts};
+use mk_bytes::{Pair, Text, Texts};
 use mk_world::Cmd;
 use std::alloc::Global;
 use std::io::PipeWriter;
@@ -84,18 +84,18 @@ fn equip(shell: &mut Command, setting: &Setting, log: &Text, cmd: &Cmd) -> Resul
         ≡ Some (Some log.now)) }
 {
     shell.arg("-c")?.arg(str::from_utf8(cmd.text.bytes())?)?;
-    export(shell, &setting.variables)?;
-    export(shell, &cmd.exports)?;
+    export(shell, setting.variables.as_slice())?;
+    export(shell, cmd.exports.as_slice())?;
     pass_on(shell, setting)?;
     shell.env(LOG, str::from_utf8(log.bytes())?)?;
     Ok(())
 }
 
 // Gives a shell variables.
-fn export(shell: &mut Command, variables: &Pairs) -> Result<(), Refusal>
+fn export(shell: &mut Command, variables: &[Pair]) -> Result<(), Refusal>
     ensures { OnOk result (SameProgramAndArgs shell.old shell.new) }
 {
-    for pair in variables.as_slice() {
+    for pair in variables {
         shell.env(
             str::from_utf8(pair.name.bytes())?,
             str::from_utf8(pair.value.bytes())?,

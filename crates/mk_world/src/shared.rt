@@ -10,25 +10,31 @@ use std::rc::Rc;
 /// copy. Contracts see the list of pairs.
 #[derive(Drop)]
 pub struct SharedPairs {
-    pairs: Rc<Pairs, Global>,
+    // none where the list is empty
+    pairs: Option<Rc<Pairs, Global>>,
 }
 
 impl Model for SharedPairs {
-    ghost use Rattle.std.specs.Prelude.{List};
+    ghost use Rattle.std.specs.Prelude.{List, []};
+    ghost use Rattle.std.specs.Option.{option_map, unwrap_or};
+    ghost use Rattle.std.specs.Rc.{rc_value};
     ghost use Rattle.mk_bytes.specs.declared.pair.Pair.{Pair};
 
     ghost Value = { List Pair };
 
-    ghost view = { λ shared. shared.pairs.value };
+    ghost view = { λ shared. unwrap_or (option_map rc_value shared.pairs) [] };
 }
 
 impl SharedPairs {
-    /// These pairs.
+    /// These pairs. Where there are none, this takes no memory.
     pub fn new(alloc: Global, pairs: Pairs) -> Result<SharedPairs, NoMemory>
         ensures { IfOk result (λ shared. shared ≡ pairs) }
     {
+        if pairs.is_empty() {
+            return Ok(SharedPairs { pairs: None });
+        }
         match Rc::new(alloc, pairs) {
-            Ok(pairs) => Ok(SharedPairs { pairs }),
+            Ok(pairs) => Ok(SharedPairs { pairs: Some(pairs) }),
             Err(_refused) => Err(NoMemory),
         }
     }
@@ -37,15 +43,20 @@ impl SharedPairs {
     pub fn share(&self) -> Result<SharedPairs, NoMemory>
         ensures { IfOk result (λ shared. shared ≡ self.now) }
     {
-        Ok(SharedPairs {
-            pairs: self.pairs.clone()?,
-        })
+        let pairs = match &self.pairs {
+            None => None,
+            Some(pairs) => Some(pairs.clone()?),
+        };
+        Ok(SharedPairs { pairs })
     }
 
     /// The pairs, in order.
     pub fn as_slice(&self) -> &[Pair]
         ensures { result.now ≡ self.now }
     {
-        self.pairs.as_ref().as_slice()
+        match &self.pairs {
+            None => &[],
+            Some(pairs) => pairs.as_ref().as_slice(),
+        }
     }
 }
