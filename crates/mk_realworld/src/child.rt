@@ -10,7 +10,7 @@ use crate::child_files::log_file;
 use crate::file::{plain_text, remove_file};
 use crate::output::Output;
 use crate::refusal::Refusal;
-use crate::shell::{Streams, connect, shell};
+use crate::shell::{Streams, check_exports, connect, shell};
 use crate::system::System;
 use mk_bytes::{NoMemory, Text};
 use mk_filemon::read_log;
@@ -101,6 +101,7 @@ impl<P: OpenProcess + Drop> RealKid<P> {
         ensures times { system.new.times ≡ system.old.times }
         ensures ticket { IfOk result (λ kid. kid ≡ ticket.0) }
     {
+        check_exports(&mut system.named, cmd.exports.as_slice())?;
         let rt = &system.rt;
         let directory = system.room.enter(rt, &mut system.named)?;
         let log = log_file(rt.alloc(), directory.bytes(), ticket.0)?;
