@@ -17,15 +17,16 @@ is_of family (Some parts) = not (bytes_eq (family parts.0) [])
 abbrev pub is_theirs : Texts → List ℕ → Bool
 is_theirs family one = is_of family (parts_of one)
 
-abbrev pub line_if : Bool → List ℕ → List ℕ
-line_if theirs one = if theirs then one ++ newline ∷ [] else []
+-- a line with its newline, where it is theirs
+abbrev pub their_line : Texts → List ℕ → List ℕ
+their_line family one = if is_theirs family one then one ++ newline ∷ [] else []
 
 -- their lines, each with its newline; what follows the last newline is left out
 abbrev pub theirs : Texts → List (List ℕ) → List ℕ
 theirs family [] = []
 theirs family (last ∷ []) = []
 theirs family (one ∷ next ∷ lines) =
-    line_if (is_theirs family one) one ++ theirs family (next ∷ lines)
+    their_line family one ++ theirs family (next ∷ lines)
 
 abbrev pub lines_of : Texts → List ℕ → List ℕ
 lines_of family trace = theirs family (slice_split is_newline trace)

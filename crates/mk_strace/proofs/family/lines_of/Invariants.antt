@@ -4,9 +4,9 @@ use Rattle.mk_strace.specs.Held.{texts_in}
 use Rattle.mk_strace.proofs.family.lines_of.Given as goal
 
 -- the lines so far, and those that are left
-abbrev pub invariant-lines : goal.invariant-lines
-invariant-lines l =
+abbrev pub invariant-each : goal.invariant-each
+invariant-each l =
     l.lines ++ lines_of (texts_in l.family) l.rest ≡ lines_of (texts_in l.family) l.trace
 
-abbrev pub decreases-lines : goal.decreases-lines
-decreases-lines l = length l.rest
+abbrev pub decreases-each : goal.decreases-each
+decreases-each l = length l.rest
