@@ -93,8 +93,8 @@ impl Table {
         self.assign(name, text.bytes())
     }
 
-    /// Takes a name and its value away, if it has one. The last name takes its place, so that it costs
-    /// the same however many there are. Takes no memory.
+    /// Takes a name and its value away, if it has one. The last name takes its place, so that it
+    /// costs the same however many there are. Takes no memory.
     pub fn remove(&mut self, name: &[u8])
         ensures { self.new ≡ spec.without self.old name.now }
     {
