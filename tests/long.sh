@@ -98,6 +98,29 @@ row 'a local name is defined where its value would be too long' $'y y\n' '' 0 t 
 row 'the value itself is too long' '' $'bmake: target t command 1: value too long\n' 2 t \
     < <(long_sources 'echo ${>F:[1]}')
 
+# A text of 4 MiB, to be looked for in short words.
+long_text() {
+    printf 'A='
+    times 1048000 x
+    printf '\nB=$A$A$A$A\n'
+}
+
+row 'a text of 4 MiB is looked for in 600000 words' $'600000\n' '' 0 \
+    -V '${:U:range=600000:S/${B}/y/:[#]}' < <(long_text)
+row 'an end of 4 MiB is looked for in 600000 words' $'600000\n' '' 0 \
+    -V '${:U:range=600000:${B}=y:[#]}' < <(long_text)
+
+# So many names that are set, and taken away in this order by one line.
+names_taken_away() {
+    seq -f 'V%.0f=' "$1"
+    printf '.undef'
+    seq -f ' V%.0f' "$1" | tr -d '\n'
+    printf '\nA=${V%s:Unone}\n' "$1"
+}
+
+row '120000 names are taken away, in their order and four times' $'none\n' '' 0 -v A \
+    < <(for time in 1 2 3 4; do names_taken_away 120000; done)
+
 row '200000 suffixes on a line' $'1\n' '' 0 -v A \
     <<<$'.SUFFIXES: ${:U:range=200000:S/^/./}\nA=1'
 
