@@ -109,6 +109,20 @@ seconds=3 row '16000 lines of one suffix' $'1\n' '' 0 -v A <<'MAKEFILE'
 A=1
 MAKEFILE
 
+# 200 sources that stand, and a chain of rules to their suffix from 799 others.
+suffix_chain() {
+    echo '.SUFFIXES: ${:U:range=800:S/^/./}'
+    local i
+    for ((i = 1; i < 800; i++)); do
+        echo ".$((i + 1)).$i: ; @: x"
+    done
+    echo 'all: ${:U:range=200:S/^/f/:S/$/.1/}'
+    echo 'all: .PHONY'
+}
+(cd "$room" && touch f{1..200}.1)
+seconds=3 row '200 files and a chain of 800 suffixes' '' '' 0 -n < <(suffix_chain)
+rm "$room"/f*.1
+
 seconds=2 row 'make() for 40000 targets that are no main ones' $'\n' '' 0 -V X <<'MAKEFILE'
 ${:U:range=40000:S/^/t/}: .NOTMAIN
 .for i in ${:U:range=40000}
