@@ -26,7 +26,7 @@ returns-then-branch-clause-told g c =
     ≡ Own)
     told found
     (λ files none is. means-found files c.args.rules.now.nodes c.args.rules.now.suffixes c.args.name.now
-    c.args.n (sym c.has_commands.ensures ∙ c.if-has_commands.false) none (sym is))
+    c.args.n (rw c.graph.ensures at (sym c.has_commands.ensures ∙ c.if-has_commands.false)) none (sym is))
 
 pub returns-clause-told : goal.returns-clause-told
 returns-clause-told g c =
@@ -40,4 +40,4 @@ returns-clause-told g c =
     ≡ Missing)
     told found
     (λ files none is. means-missing files c.args.rules.now.nodes c.args.rules.now.suffixes c.args.name.now
-    c.args.n (sym c.has_commands.ensures ∙ c.if-has_commands.false) none (sym is))
+    c.args.n (rw c.graph.ensures at (sym c.has_commands.ensures ∙ c.if-has_commands.false)) none (sym is))
