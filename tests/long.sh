@@ -20,12 +20,13 @@ times() {
 }
 
 # One case: what it shows, the standard output, standard error and exit status that are wanted, and the
-# words of the run. The makefile comes from standard input.
+# words of the run. The makefile comes from standard input. The run may take as many seconds of a
+# processor as the variable says.
 row() {
     local shows=$1 out=$2 err=$3 status=$4 is wrong=''
     shift 4
     cat >"$room/makefile"
-    (cd "$room" && exec timeout 100 "$program" "$@") >"$room/out" 2>"$room/err" </dev/null
+    (cd "$room" && ulimit -t "${seconds:-100}" && exec timeout 100 "$program" "$@") >"$room/out" 2>"$room/err" </dev/null
     is=$?
     [ "$is" = "$status" ] || wrong="status $is and not $status"
     printf '%s' "$out" | cmp -s - "$room/out" || wrong="$wrong; standard output"
@@ -123,6 +124,35 @@ row '120000 names are taken away, in their order and four times' $'none\n' '' 0 
 
 row '200000 suffixes on a line' $'1\n' '' 0 -v A \
     <<<$'.SUFFIXES: ${:U:range=200000:S/^/./}\nA=1'
+
+seconds=3 row '16000 lines of one suffix' $'1\n' '' 0 -v A <<'MAKEFILE'
+.for i in ${:U:range=16000}
+.SUFFIXES: .$i
+.endfor
+A=1
+MAKEFILE
+
+# 200 sources that stand, and a chain of rules to their suffix from 799 others.
+suffix_chain() {
+    echo '.SUFFIXES: ${:U:range=800:S/^/./}'
+    local i
+    for ((i = 1; i < 800; i++)); do
+        echo ".$((i + 1)).$i: ; @: x"
+    done
+    echo 'all: ${:U:range=200:S/^/f/:S/$/.1/}'
+    echo 'all: .PHONY'
+}
+(cd "$room" && touch f{1..200}.1)
+seconds=3 row '200 files and a chain of 800 suffixes' '' '' 0 -n < <(suffix_chain)
+rm "$room"/f*.1
+
+seconds=2 row 'make() for 40000 targets that are no main ones' $'\n' '' 0 -V X <<'MAKEFILE'
+${:U:range=40000:S/^/t/}: .NOTMAIN
+.for i in ${:U:range=40000}
+.if make(x)
+.endif
+.endfor
+MAKEFILE
 
 row 'a chain of 20000 targets' '' '' 0 t20000 <<'MAKEFILE'
 P=
