@@ -154,6 +154,24 @@ ${:U:range=40000:S/^/t/}: .NOTMAIN
 .endfor
 MAKEFILE
 
+# A recorder's log, which lies in the file `log`, and what the next run tells of its target.
+log_row() {
+    printf '%s\n' '.MAKE.MODE=meta curdirOk=yes missing-meta=yes missing-filemon=yes' \
+        't:' $'\t@cp log "$$BMAKE_FILEMON"; echo >t' >"$room/log.mk"
+    row "$1" '' '' 0 <"$room/log.mk"
+    row "$1, and the next run" "$2" '' 0 --explain <"$room/log.mk"
+    rm -f "$room/t" "$room/t.meta"
+}
+yes 'C 1 d' | head -n 2000 >"$room/log"
+log_row 'a log of 2000 lines that go down' ''
+yes 'C 1 d' | head -n 200000 >"$room/log"
+log_row 'a log of 200000 lines that go down is none' $'t no records\n'
+yes $'C 1 d\nR 1 x' | head -n 200000 >"$room/log"
+log_row 'and one with reads between them' $'t no records\n'
+yes $'R 1 /d/a' | head -c 67108872 >"$room/log"
+log_row 'a log above 67108864 bytes is none' $'t no records\n'
+rm -f "$room/log"
+
 row 'a chain of 20000 targets' '' '' 0 t20000 <<'MAKEFILE'
 P=
 .for i in ${:U:range=20000}
