@@ -9,6 +9,7 @@
 #   holds FILE TEXT        says where a file holds another text, or nothing
 #   pause                  waits for more than a step of a file system's clock
 #   finish                 prints the last line, 'N passed, M failed', and ends the script
+nl=$'\n'
 passed=0
 failed=0
 room=$(mktemp -d) || exit 1
