@@ -40,4 +40,6 @@ for script in tests/*.sh; do
 done
 count 'docs/TESTING.md has a row for each script' "$wrong"
 
+# What is proved is proved from the kit's logic alone.
+count 'no crate has an axiom or a postulate' "$(grep -rlwE 'axiom|postulate' crates --include=*.antt --include=*.rt | tr '\n' ' ')"
 finish
