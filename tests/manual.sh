@@ -117,6 +117,51 @@ while IFS= read -r text; do
 done <"$room/messages"
 count 'each message stands in bmake(1)' "$wrong"
 
+# What DIFFERENCES says is refused is refused, and so told.
+mkdir "$room/refused" && cd "$room/refused" || exit 1
+: >makefile
+refused() {
+    "$program" "$@" 2>&1 </dev/null | grep -qF "$wanted" || wrong="$wrong $*;"
+}
+wrong=''
+wanted='unknown modifier'
+for modifier in $(sed -n 's/^\.It Ic \\&:C //p' "$top/man/bmake.1" | tr -d '\\&') :C :Ca/b/; do
+    refused -V "\${A$modifier}"
+done
+for modifier in ::=x ::+=x ::?=x ::!=x; do refused -V "\${A$modifier}"; done
+count 'modifiers that are refused' "$wrong"
+wrong=''
+wanted='bad word'
+for option in $(sed -n 's/^\.It Fl \(C [A-Za-z ]*\) ,.*/\1/p' "$top/man/bmake.1"); do refused "-$option" x; done
+refused -f -
+refused -j 4k
+count 'options that are refused' "$wrong"
+wrong=''
+wanted='no operator'
+for directive in export-env export-literal unexport-env endfi foo; do
+    printf '.%s A\n' "$directive" >makefile
+    refused
+done
+wanted=':: is not supported'
+echo 'a:: b' >makefile
+refused
+wanted="don't know how to make"
+for source in '*.none' .MAKE .RECURSIVE .NOPATH 'lib.a(x.o)'; do
+    printf 'all: %s\n' "$source" >makefile
+    refused
+done
+count 'lines that are refused' "$wrong"
+wrong=''
+wanted=made
+for name in .PATH .OBJDIR .SHELL .MAKEFLAGS .POSIX .INTERRUPT .ERROR .STALE .Phony; do
+    printf '%s: x\nx:\nall:\n\t@echo made\n' "$name" >makefile
+    refused all
+    printf '%s:\nall:\n\t@echo made\n' "$name" >makefile
+    refused
+done
+count 'names that are plain names, and never the main target' "$wrong"
+cd "$top" || exit 1
+
 # The example that README.md begins with, in a copy of it.
 if is_there cc && is_there strace && may_trace; then
     mkdir "$room/readme"
