@@ -139,6 +139,27 @@ project name=version edit='echo 1.5 >VERSION' \
     wanted='echo '\''#define VERSION "1.5"'\'' >version.h
 { echo '\''Version 1.5 (unknown)'\''; cat notes; } >version.txt'
 
+# What install puts below DESTDIR, and that clean leaves what was there before, in the tree of makes.
+installs() {
+    local folder=$room/installed.$1 wrong
+    shift
+    cp -R "$projects/tree" "$folder"
+    wrong=$(build "$folder" 0 "$@" -s install "DESTDIR=$folder.to" PREFIX=/usr)
+    wrong="$wrong$(same './usr/bin/hello
+./usr/include/greet.h
+./usr/lib/libgreet.a
+./usr/share/doc/hello.txt' "$(cd "$folder.to" && find . -type f | LC_ALL=C sort)")"
+    wrong="$wrong$(same hello "$("$folder.to/usr/bin/hello")")"
+    wrong="$wrong$(build "$folder" 0 "$@" -s clean)"
+    wrong="$wrong$(same "$(files "$projects/tree")" "$(files "$folder")")"
+    count "tree: install and clean with ${*##*/bin/}" "$wrong"
+}
+if is_there cc && is_there ar; then
+    installs one "$program" -m "$share"
+    installs eight "$program" -j8 -m "$share"
+    [ ! -x "$other" ] || installs other "$other" -r -m "$share"
+fi
+
 if is_there strace && is_there cc && strace -f -o "$room/trace" true 2>/dev/null && [ -s "$room/trace" ] && [ -x "$recorder" ]; then
     export BMAKE_RECORDER=$recorder
     project name=recorded both=no edit='echo "#define LIMIT 20" >limit.h' \
