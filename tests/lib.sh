@@ -1,3 +1,4 @@
+# shellcheck shell=bash
 # What scripts of tests have in common. It is read by `. tests/lib.sh` at the top of the repository, and is no test.
 # It counts rows, and makes a room for files, which is removed at the end.
 #
@@ -9,6 +10,7 @@
 #   holds FILE TEXT        says where a file holds another text, or nothing
 #   pause                  waits for more than a step of a file system's clock
 #   finish                 prints the last line, 'N passed, M failed', and ends the script
+# shellcheck disable=SC2034
 nl=$'\n'
 passed=0
 failed=0

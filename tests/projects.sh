@@ -1,7 +1,7 @@
 #!/usr/bin/env bash
 # The projects of examples/projects: each is built, built again, and built once more after an edit, with one job and with
 # eight. The commands that run are those that are wanted, a second build runs none, and what stands at the end is what
-# a clean build makes. Debian's bmake, where it is there and can read the project, runs the same commands. Run it at the
+# a clean build makes. Another bmake, as Debian's, where it is there and can read the project, runs the same commands. Run it at the
 # top of the repository, where the programs stand at crates/{bmake,fmtrace}/out. Its last line is 'N passed, M failed'.
 set -u
 . tests/lib.sh
@@ -10,7 +10,9 @@ recorder=${FMTRACE:-$PWD/crates/fmtrace/out/fmtrace}
 needs_built "$program"
 share=$PWD/share/mk
 projects=$PWD/examples/projects
-other=${DEBIAN_BMAKE:-/usr/bin/bmake}
+# Another bmake: one that knows its version, as this one does not.
+other=${OTHER_BMAKE:-$(command -v bmake)}
+[ -n "$other" ] && [ -n "$("$other" -V MAKE_VERSION 2>/dev/null)" ] || other=''
 
 # The commands of a run that was printed, in order of their bytes: without the names of targets before the output of
 # several jobs.
@@ -39,9 +41,9 @@ age() {
 }
 
 # One project: its name, the status of its builds, an edit, the commands that it makes run, words for make, and whether
-# Debian's bmake reads it.
+# another bmake reads it.
 project() {
-    local name status=0 edit wanted words='' both=yes needs='' jobs wrong folder
+    local name status=0 edit wanted words='' both=yes jobs wrong folder
     local "$@"
     for jobs in 1 8; do
         folder=$room/$name.$jobs
@@ -70,8 +72,8 @@ project() {
     count "$name: one job and eight run the same commands" \
         "$(same "$(cat "$room/$name.first.1")" "$(cat "$room/$name.first.8")")"
     [ "$both" = yes ] || return
-    if [ ! -x "$other" ]; then
-        skip "$name beside Debian's bmake" "there is no $other"
+    if [ -z "$other" ]; then
+        skip "$name beside another bmake" 'there is none'
         return
     fi
     folder=$room/$name.other
@@ -88,7 +90,7 @@ project() {
     wrong="$wrong$(cd "$folder" && "$other" -r $words </dev/null >"$room/out" 2>"$room/err" || [ "$status" != 0 ] || head -c 300 "$room/err")"
     grep -vE "^(${other##*/}|make)(\[[0-9]+\])?: |^\*\*\* |^Stop\.|\(continuing\)|not remade because of errors|^\$" "$room/out" >"$room/plain"
     wrong="$wrong$(same "$(printf '%s\n' "$wanted" | LC_ALL=C sort)" "$(commands "$room/plain")")"
-    count "$name: Debian's bmake runs the same commands" "$wrong"
+    count "$name: another bmake runs the same commands" "$wrong"
 }
 
 if is_there cc && is_there ar; then
@@ -157,7 +159,7 @@ installs() {
 if is_there cc && is_there ar; then
     installs one "$program" -m "$share"
     installs eight "$program" -j8 -m "$share"
-    [ ! -x "$other" ] || installs other "$other" -r -m "$share"
+    [ -z "$other" ] || installs other "$other" -r -m "$share"
 fi
 
 if is_there strace && is_there cc && strace -f -o "$room/trace" true 2>/dev/null && [ -s "$room/trace" ] && [ -x "$recorder" ]; then
