@@ -162,6 +162,43 @@ if is_there cc && is_there ar; then
     [ -z "$other" ] || installs other "$other" -r -m "$share"
 fi
 
+# The rules of sys.mk that no project has: another language, an assembler, and pages of a manual.
+rule() {
+    local what=$1 from=$2 text=$3 to=$4 needs=$5 wrong
+    if ! is_there "$needs"; then
+        skip "$what" "there is no $needs"
+        return
+    fi
+    rm -rf "$room/rule"
+    mkdir "$room/rule"
+    printf '%s\n' "$text" >"$room/rule/$from"
+    printf '.include <sys.mk>\nall: %s\n' "$to" >"$room/rule/makefile"
+    wrong=$(build "$room/rule" 0 "$program" -m "$share")
+    [ -s "$room/rule/$to" ] || wrong="$wrong $to is empty;"
+    wrong="$wrong$(build "$room/rule" 0 "$program" -m "$share" -q)"
+    count "$what" "$wrong"
+}
+rule 'sys.mk: C++, .cc' a.cc 'int main() { return 0; }' a.o c++
+rule 'sys.mk: C++, .cpp' a.cpp 'int main() { return 0; }' a.o c++
+rule 'sys.mk: an assembler, .s' a.s '.globl a' a.o cc
+rule 'sys.mk: an assembler, .S' a.S '#define A a' a.o cc
+rule 'sys.mk: yacc' a.y '%%
+all: ;
+%%' a.c yacc
+rule 'sys.mk: lex' a.l '%%' a.c lex
+rule 'sys.mk: a page as text' a.1 '.Dd January 1, 2026
+.Dt A 1
+.Os
+.Sh NAME
+.Nm a
+.Nd one' a.txt mandoc
+rule 'sys.mk: a page as HTML' a.8 '.Dd January 1, 2026
+.Dt A 8
+.Os
+.Sh NAME
+.Nm a
+.Nd one' a.html mandoc
+
 if is_there strace && is_there cc && strace -f -o "$room/trace" true 2>/dev/null && [ -s "$room/trace" ] && [ -x "$recorder" ]; then
     export BMAKE_RECORDER=$recorder
     project name=recorded both=no edit='echo "#define LIMIT 20" >limit.h' \

@@ -61,7 +61,7 @@ FILEMODE?=	644
 	${YACC} -o ${.TARGET} ${.IMPSRC}
 
 .l.c:
-	${LEX} -o ${.TARGET} ${.IMPSRC}
+	${LEX} -t ${.IMPSRC} >${.TARGET}
 
 # A rule is one target, so each pair of suffixes has its own.
 .for section in 1 5 8
