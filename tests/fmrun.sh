@@ -5,32 +5,11 @@
 set -u
 program=${BMAKE:-$PWD/crates/bmake/out/bmake}
 fmrun=${FMRUN:-$PWD/crates/fmrun/out/fmrun}
-room=$(mktemp -d) || exit 1
+. tests/lib.sh
 room=$(cd "$room" && pwd -P) || exit 1
-trap 'rm -rf "$room"' EXIT
-unset MAKEFLAGS BMAKE_FILEMON
 export TMPDIR=$room/outputs
 mkdir "$TMPDIR"
-passed=0
-failed=0
-
-for needed in "$program" "$fmrun"; do
-    if [ ! -x "$needed" ]; then
-        echo "there is no program $needed"
-        echo "0 passed, 1 failed"
-        exit 1
-    fi
-done
-
-# Counts one row: what it shows, and what was wrong, or nothing.
-count() {
-    if [ -z "$2" ]; then
-        passed=$((passed + 1))
-    else
-        failed=$((failed + 1))
-        printf 'failed: %s: %s\n' "$1" "$2"
-    fi
-}
+needs_built "$program" "$fmrun"
 
 # Whether a file holds a text, in which \n is a newline.
 holds() {
@@ -47,9 +26,6 @@ gone() {
 # The clock of a file system goes in steps, of four milliseconds on many machines, and a file that was
 # changed in the step in which a job began counts as changed behind it. So there is more than a step
 # between a change and the run behind it.
-pause() {
-    sleep 0.02
-}
 
 # One command line of fmrun, in a folder of its own in which the file a holds the lines 1, 2 and 3, and b
 # the word b without a newline: what it shows, the shell lines before it, its words, and then the exit
@@ -398,5 +374,4 @@ done
 count 'a clean build leaves the same files' "$wrong"
 
 cd "$room" || exit 1
-echo "$passed passed, $failed failed"
-[ "$failed" = 0 ]
+finish

@@ -4,47 +4,20 @@
 # crates/bmake/out/bmake. Its last line is 'N passed, M failed'.
 set -u
 program=${BMAKE:-$PWD/crates/bmake/out/bmake}
-room=$(mktemp -d) || exit 1
-trap 'rm -rf "$room"' EXIT
-unset MAKEFLAGS BMAKE_FILEMON
+. tests/lib.sh
 export TMPDIR=$room/outputs
 mkdir "$TMPDIR"
-passed=0
-failed=0
-
-if [ ! -x "$program" ]; then
-    echo "there is no program $program"
-    echo "0 passed, 1 failed"
-    exit 1
-fi
-
-# Counts one row: what it shows, and what was wrong, or nothing.
-count() {
-    if [ -z "$2" ]; then
-        passed=$((passed + 1))
-    else
-        failed=$((failed + 1))
-        printf 'failed: %s: %s\n' "$1" "$2"
-    fi
-}
+needs_built "$program"
 
 # The clock of a file system goes in steps, of four milliseconds on many machines, and a file that was
 # changed in the step in which a job began counts as changed behind it. So a row that wants the run after
 # it to do nothing waits for more than a step between its change and its run.
-pause() {
-    sleep 0.02
-}
 
 # A run with these words, behind a pause: its exit status has to be 0, and what stands on standard output
 # and standard error is kept in the files out and err of the room. What is wrong is said.
 build() {
     pause
     "$program" "$@" >"$room/out" 2>"$room/err" </dev/null || printf 'status %s: %s; ' $? "$(cat "$room/err")"
-}
-
-# Whether a file holds a line.
-holds() {
-    [ "$(cat "$1" 2>&1)" = "$2" ] || printf '%s holds %s; ' "$1" "$(head -c 200 "$1" 2>&1)"
 }
 
 # Whether the last run has printed this.
@@ -224,5 +197,4 @@ for round in $(seq 200); do
 done
 count 'nothing is left to do behind killed runs' "$(build)$(printed '')"
 
-echo "$passed passed, $failed failed"
-[ "$failed" = 0 ]
+finish

@@ -5,32 +5,20 @@
 set -u
 program=${BMAKE:-$PWD/crates/bmake/out/bmake}
 recorder=${FMTRACE:-$PWD/crates/fmtrace/out/fmtrace}
-room=$(mktemp -d) || exit 1
-trap 'rm -rf "$room"' EXIT
-unset MAKEFLAGS BMAKE_FILEMON BMAKE_FLAGS
+. tests/lib.sh
 export BMAKE_RECORDER=$recorder
-passed=0
-failed=0
 
 for needed in cc strace; do
-    if ! command -v "$needed" >/dev/null; then
-        echo "skipped: the tour of meta mode (there is no $needed)"
-        echo "0 passed, 0 failed"
-        exit 0
+    if ! is_there "$needed"; then
+        skip 'the tour of meta mode' "there is no $needed"
+        finish
     fi
 done
 if ! strace -f -D -o "$room/trace" true 2>/dev/null || [ ! -s "$room/trace" ]; then
-    echo 'skipped: the tour of meta mode (strace may not trace here)'
-    echo "0 passed, 0 failed"
-    exit 0
+    skip 'the tour of meta mode' 'strace may not trace here'
+    finish
 fi
-for needed in "$program" "$recorder"; do
-    if [ ! -x "$needed" ]; then
-        echo "there is no program $needed"
-        echo "0 passed, 1 failed"
-        exit 1
-    fi
-done
+needs_built "$program" "$recorder"
 
 # A copy of the example.
 copy() {
@@ -91,12 +79,7 @@ step() {
     [ ! -s "$room/err" ] || wrong="$wrong; standard error: $(cat "$room/err")"
     is=$(echo 'the cat and the dog' | ./tool)
     [ "$is" = "$says" ] || wrong="$wrong; the program says: $is"
-    if [ -z "$wrong" ]; then
-        passed=$((passed + 1))
-    else
-        failed=$((failed + 1))
-        printf 'failed: %s: %s\n' "$shows" "$wrong"
-    fi
+    count "$shows" "$wrong"
 }
 
 step shows='all is built' wanted='objects main table words; link' \
@@ -173,13 +156,9 @@ step shows='nothing is left to do'
 step shows='a clean build leaves the same' before='cp include/* ../../../clean/examples/tool/include/
         cd ../../../clean/examples/tool' wanted='objects main table words; link'
 for file in main.o table.o words.o tool; do
-    if cmp "$room/tour/examples/tool/$file" "$room/clean/examples/tool/$file"; then
-        passed=$((passed + 1))
-    else
-        failed=$((failed + 1))
-    fi
+    count "$file is that of a clean build" \
+        "$(cmp "$room/tour/examples/tool/$file" "$room/clean/examples/tool/$file" 2>&1)"
 done
 
 cd "$top" || exit 1
-echo "$passed passed, $failed failed"
-[ "$failed" = 0 ]
+finish
