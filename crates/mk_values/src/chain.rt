@@ -1,12 +1,13 @@
 //! What a reference has found, and the modifiers whose texts are evaluated.
-ghost use Rattle.std.specs.Prelude.{◌≡◌, ◌≤◌, length, take, IfOk};
+ghost use Rattle.std.specs.Prelude.{◌≡◌, ◌≤◌, ◌+◌, max, length, take, IfOk, OnOk};
 ghost use Rattle.mk_ast.specs.View.{mod_view, part_view};
 ghost use Rattle.mk_bytes.specs.Agrees.{Agrees};
 ghost use Rattle.mk_values.specs.Chains as spec;
-ghost use Rattle.mk_values.specs.Limits.{appended};
+ghost use Rattle.mk_values.specs.Limits.{appended, max_text};
 ghost use Rattle.mk_values.specs.Parts.{shown};
 ghost use Rattle.mk_values.specs.Plain.{plain_found};
 ghost use Rattle.mk_values.specs.View.{chain_view};
+ghost use Rattle.mk_pieces.specs.Limits.{total};
 ghost use Rattle.mk_pieces.specs.Pieces.{Begins};
 ghost use Rattle.mk_mods.specs.Pieces.{end_of};
 ghost use Rattle.mk_mods.specs.State.{items_of};
@@ -67,7 +68,8 @@ pub fn given(
 
 /// A chain, whose items are placed anew behind the first `len` bytes of the region where the modifiers
 /// so far have placed more bytes behind those than a text may have. So a long chain does not keep the
-/// texts of all its modifiers.
+/// texts of all its modifiers: behind those bytes stand no more than a text may have, or than the items
+/// have.
 pub fn compacted(
     alloc: Global,
     region: &mut Region,
@@ -81,6 +83,8 @@ pub fn compacted(
         ≡ chain_view region.old.bytes chain) }
     ensures within { IfOk result (λ new. end_of new.val ≤ length region.new.bytes) }
     ensures begins { Begins (take len region.old.bytes) region.new.bytes }
+    ensures small { OnOk result (length region.new.bytes
+        ≤ len + max max_text (total (chain_view region.old.bytes chain).state.items)) }
 {
     if region.len() - len <= MAX_TEXT {
         return Ok(chain);
