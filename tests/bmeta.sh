@@ -51,7 +51,7 @@ meta() {
     local target=$1 start=$2 end=$3 commands=$4 records=$5 cwd=${6-$PWD} file=${7-$1.meta}
     {
         printf '# Meta data file %s.meta\nSTAMP %s00000000\n' "$target" "$start"
-        printf '%b' "$commands" | sed 's/^/CMD /'
+        printf '%b\n' "$commands" | sed 's/^/CMD /'
         printf 'CWD %s\nTARGET %s\nOUTPUT 0\n-- command output --\n\n' "$cwd" "$target"
         [ "$records" = none ] || printf -- '-- filemon acquired metadata --\n%b' "$records"
         echo '# end 3'

@@ -24,12 +24,7 @@ fn edge(alloc: Global, target: &Text, path: &Text) -> Result<Text, NoMemory>
     Ok(text)
 }
 
-fn add_edge(
-    alloc: Global,
-    edges: &mut Distinct,
-    target: &Text,
-    op: &Op,
-) -> Result<(), NoMemory>
+fn add_edge(alloc: Global, edges: &mut Distinct, target: &Text, op: &Op) -> Result<(), NoMemory>
     ensures { OnOk result (edges.new
         ≡ all_noted edges.old (map (spec.edge target.now) (reads_in op.now))) }
 {

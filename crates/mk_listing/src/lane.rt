@@ -15,12 +15,7 @@ fn is_free(ends: &[u64], lane: usize, start: u64) -> bool
 }
 
 // The lane of the job that is over next, where it is free.
-fn freed(
-    over: Option<&(u64, usize)>,
-    lanes: &[usize],
-    ends: &[u64],
-    start: u64,
-) -> Option<usize>
+fn freed(over: Option<&(u64, usize)>, lanes: &[usize], ends: &[u64], start: u64) -> Option<usize>
     ensures { IfSome result (λ lane.
         (lane < length ends.now) × (spec.end_in ends.now lane ≤ start)) }
 {
@@ -81,7 +76,12 @@ pub fn lanes(alloc: Global, jobs: &[Job]) -> Result<Vec<usize>, NoMemory>
     let mut ends = Vec::new(alloc);
     let mut over = 0;
     for job in jobs {
-        let freed = freed(order.get(over), lanes.as_slice(), ends.as_slice(), job.start);
+        let freed = freed(
+            order.get(over),
+            lanes.as_slice(),
+            ends.as_slice(),
+            job.start,
+        );
         if freed.is_some() {
             over = over.saturating_add(1);
         }

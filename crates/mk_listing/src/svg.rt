@@ -9,8 +9,11 @@ use std::alloc::Global;
 
 // In pixels: how wide the picture is between its margins, how high a lane is, and how wide a letter is.
 const WIDTH: u64 = 1180;
+
 const MARGIN: u64 = 10;
+
 const LANE: u64 = 20;
+
 const LETTER: u64 = 6;
 
 // Which span of time a picture shows, and how many nanoseconds a pixel is.
