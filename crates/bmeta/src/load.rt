@@ -121,9 +121,9 @@ fn take(
     Ok(())
 }
 
-/// What the meta files below the current directory hold, in the order of their paths. Where a directory is
-/// given, their paths are named from there. What cannot be read is told of, and what is no meta file is
-/// told of and passed over.
+/// What the meta files below the current directory hold, in the order of their paths. Where a
+/// directory is given, their paths are named from there. What cannot be read is told of, and what
+/// is no meta file is told of and passed over.
 pub fn load_all(rt: &HostRuntime, here: Option<&[u8]>) -> Result<Loaded, Refusal> {
     let walk = meta_files(rt)?;
     let mut loaded = Loaded {

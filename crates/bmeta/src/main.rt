@@ -1,5 +1,5 @@
-//! The program `bmeta`: what the meta files below the current directory tell of the project that was built
-//! there.
+//! The program `bmeta`: what the meta files below the current directory tell of the project that
+//! was built there.
 #![tactic(auto)]
 
 mod answer;

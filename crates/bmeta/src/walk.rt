@@ -21,7 +21,8 @@ fn path_in(rt: &HostRuntime, directory: &[u8], name: &[u8]) -> Result<Vec<u8>, R
     Ok(path)
 }
 
-// Takes in what stands in a directory: a directory is gone through later, but for one behind a link.
+// Takes in what stands in a directory: a directory is gone through later, but for one behind a
+// link.
 fn take(
     rt: &HostRuntime,
     directory: &[u8],

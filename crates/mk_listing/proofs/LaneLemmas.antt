@@ -1,12 +1,14 @@
 -- Lanes for more jobs.
-use Rattle.std.proofs.Common.{◌≡◌, ℕ, ◌≤◌, ◌&&◌, true, List, [], ◌∷◌, ◌++◌, sym, ap, ◌∙◌, append_assoc}
+use Rattle.std.proofs.Common.{◌≡◌, ℕ, ◌≤◌, ◌&&◌, true, List, [], ◌∷◌, ◌++◌, sym, ap, ◌∙◌}
+use Rattle.std.proofs.Common.{append_assoc}
 use Rattle.std.proofs.lemmas.Bool.{le-leb}
 use Rattle.std.proofs.lemmas.List.{append-nil}
 use Rattle.mk_listing.specs.Timelines.{are_apart, end_in, ended_in}
 use Rattle.mk_listing.specs.declared.timeline.Job.{Job}
 
 -- a job in a lane that is free
-pub apart-next : (all left rest : List Job) (job : Job) (lanes ends more-lanes new : List ℕ) (lane : ℕ)
+pub apart-next : (all left rest : List Job) (job : Job) (lanes ends more-lanes new : List ℕ)
+    (lane : ℕ)
     → ((more : List ℕ) → are_apart [] all (lanes ++ more) ≡ are_apart ends left more)
     → left ≡ job ∷ rest → end_in ends lane ≤ job.start → more-lanes ≡ lanes ++ lane ∷ []
     → new ≡ ended_in ends lane job.end

@@ -1,5 +1,7 @@
 -- The keys of sets, and the texts that they stand for.
-use Rattle.std.proofs.Common.{◌≡◌, ℕ, Bool, true, false, ◌||◌, cond, List, [], ◌∷◌, ◌++◌, refl, sym, ap, ◌∙◌, ◌<◌, ◌+◌, suc, length, get_or, drop, flat_map, add-one, drop-cons, Vec, Global, Ordering, Less, Equal, Greater}
+use Rattle.std.proofs.Common.{◌≡◌, ℕ, Bool, true, false, ◌||◌, cond, List, [], ◌∷◌, ◌++◌, refl, sym}
+use Rattle.std.proofs.Common.{ap, ◌∙◌, ◌<◌, ◌+◌, suc, length, get_or, drop, flat_map, add-one}
+use Rattle.std.proofs.Common.{drop-cons, Vec, Global, Ordering, Less, Equal, Greater}
 use Rattle.indexmap.specs.IndexSet as once
 use Rattle.std.specs.BTreeSet as ordered
 use Rattle.std.specs.Cmp.Lexicographic.{slice_cmp}

@@ -1,5 +1,6 @@
 -- How texts are written for others to read.
-use Rattle.std.specs.Prelude.{ℕ, ◌==◌, ◌&&◌, ◌+◌, ◌/◌, ◌%◌, Bool, false, not, nat_le, nat_lt, List, [], ◌∷◌, ◌++◌}
+use Rattle.std.specs.Prelude.{ℕ, ◌==◌, ◌&&◌, ◌+◌, ◌/◌, ◌%◌, Bool, false, not, nat_le, nat_lt, List}
+use Rattle.std.specs.Prelude.{[], ◌∷◌, ◌++◌}
 use Rattle.std.specs.Prelude.{codes, flat_map, if◌then◌else◌}
 use Rattle.std.specs.Str.{is_utf8}
 use Rattle.mk_bytes.specs.Bytes.{newline, backslash, quote_mark}

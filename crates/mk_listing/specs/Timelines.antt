@@ -1,5 +1,6 @@
 -- When jobs ran, in the trace event format of Chrome.
-use Rattle.std.specs.Prelude.{ℕ, ◌-◌, ◌/◌, ◌&&◌, Bool, true, false, nat_le, nat_lt, List, [], ◌∷◌, ◌++◌}
+use Rattle.std.specs.Prelude.{ℕ, ◌-◌, ◌/◌, ◌&&◌, Bool, true, false, nat_le, nat_lt, List, [], ◌∷◌}
+use Rattle.std.specs.Prelude.{◌++◌}
 use Rattle.std.specs.Prelude.{codes, decimal, length, get_or, set, if◌then◌else◌}
 use Rattle.mk_listing.specs.Texts.{json_string, array}
 use Rattle.mk_listing.specs.declared.timeline.Job.{Job}

@@ -1,6 +1,6 @@
 //! The compilations among commands.
-ghost use Rattle.std.specs.Prelude.{◌≡◌, ◌≤◌, ◌++◌, codes, length, map, flat_map, take_while, reverse};
-ghost use Rattle.std.specs.Prelude.{IfOk, OnOk};
+ghost use Rattle.std.specs.Prelude.{◌≡◌, ◌≤◌, ◌++◌, codes, length, map, flat_map, take_while};
+ghost use Rattle.std.specs.Prelude.{reverse, IfOk, OnOk};
 ghost use Rattle.mk_listing.specs.Commands as spec;
 
 use crate::text::{array_of, push_json};
@@ -164,9 +164,9 @@ fn push_all(alloc: Global, objects: &mut Texts, metas: &[Meta]) -> Result<(), No
     Ok(())
 }
 
-/// The JSON compilation database of Clang: an object for each source file that a command line compiles,
-/// where its first word is a compiler. A text that is not UTF-8 has the character U+FFFD in place of each
-/// byte from 128 on.
+/// The JSON compilation database of Clang: an object for each source file that a command line
+/// compiles, where its first word is a compiler. A text that is not UTF-8 has the character U+FFFD
+/// in place of each byte from 128 on.
 pub fn database(alloc: Global, metas: &[Meta]) -> Result<Text, NoMemory>
     ensures { IfOk result (λ text. text ≡ spec.database metas.now) }
 {

@@ -66,8 +66,9 @@ fn by_end(alloc: Global, jobs: &[Job]) -> Result<Vec<(u64, usize)>, NoMemory> {
     Ok(order)
 }
 
-/// A lane for each job, such that none begins before the job before it in its lane is over. Where the jobs
-/// stand in the order in which they began, there are about as many lanes as jobs ran at once.
+/// A lane for each job, such that none begins before the job before it in its lane is over. Where
+/// the jobs stand in the order in which they began, there are about as many lanes as jobs ran at
+/// once.
 pub fn lanes(alloc: Global, jobs: &[Job]) -> Result<Vec<usize>, NoMemory>
     ensures { IfOk result (λ lanes. spec.are_apart [] jobs.now lanes.items ≡ true) }
 {

@@ -1,6 +1,6 @@
-//! What meta files tell of a project: who reads a file, what a target's job read, the graph of all that
-//! was read, the compilations among the commands, and when jobs ran. Meta files and times go in as
-//! values, and texts come out.
+//! What meta files tell of a project: who reads a file, what a target's job read, the graph of all
+//! that was read, the compilations among the commands, and when jobs ran. Meta files and times go
+//! in as values, and texts come out.
 #![tactic(auto)]
 
 mod command;

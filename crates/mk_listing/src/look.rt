@@ -54,8 +54,8 @@ fn add_readers(targets: &mut Ordered, metas: &[Meta], path: &[u8]) -> Result<(),
     Ok(())
 }
 
-/// The targets whose jobs read a path, or looked for it and missed it, in the order of their bytes, each
-/// once. A file that is moved away is read.
+/// The targets whose jobs read a path, or looked for it and missed it, in the order of their bytes,
+/// each once. A file that is moved away is read.
 pub fn readers(alloc: Global, metas: &[Meta], path: &[u8]) -> Result<Texts, NoMemory>
     ensures { IfOk result (λ targets. targets ≡ spec.readers metas.now path.now) }
 {

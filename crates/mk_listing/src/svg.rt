@@ -7,7 +7,8 @@ use mk_bytes::{NoMemory, Text};
 use mk_filemon::push_decimal;
 use std::alloc::Global;
 
-// In pixels: how wide the picture is between its margins, how high a lane is, and how wide a letter is.
+// In pixels: how wide the picture is between its margins, how high a lane is, and how wide a
+// letter is.
 const WIDTH: u64 = 1180;
 
 const MARGIN: u64 = 10;
@@ -60,8 +61,8 @@ fn push_xml_byte(out: &mut Text, is_text: bool, byte: u8) -> Result<(), NoMemory
     }
 }
 
-// A text as characters of XML; U+FFFD stands for a control byte, and where the text is not UTF-8 for each
-// byte from 128 on.
+// A text as characters of XML; U+FFFD stands for a control byte, and where the text is not UTF-8
+// for each byte from 128 on.
 fn push_xml(out: &mut Text, text: &[u8]) -> Result<(), NoMemory> {
     let is_text = is_text(text);
     for byte in text {
@@ -141,8 +142,8 @@ fn push_span(out: &mut Text, scale: Scale, height: u64) -> Result<(), NoMemory> 
     out.push(b"</text>\n</svg>\n")
 }
 
-/// A picture of when jobs ran, as SVG: a bar for each job in its lane, and below them how long it all
-/// took.
+/// A picture of when jobs ran, as SVG: a bar for each job in its lane, and below them how long it
+/// all took.
 pub fn picture(alloc: Global, jobs: &[Job], lanes: &[usize]) -> Result<Text, NoMemory> {
     let scale = scale_of(jobs);
     let height = height_of(lanes);

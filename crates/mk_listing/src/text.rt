@@ -105,8 +105,8 @@ pub fn is_text(bytes: &[u8]) -> bool
     }
 }
 
-/// Appends a string of JSON, in double quotes. In a text that is not UTF-8, each byte from 128 on is
-/// written as the character U+FFFD.
+/// Appends a string of JSON, in double quotes. In a text that is not UTF-8, each byte from 128 on
+/// is written as the character U+FFFD.
 pub fn push_json(out: &mut Text, text: &[u8]) -> Result<(), NoMemory>
     ensures { OnOk result (out.new ≡ out.old ++ spec.json_string text.now) }
 {
