@@ -147,6 +147,15 @@ row shows='a file that is cut when it is open' before='cp a t' command='sort -o 
 row shows='what is made in a directory that is made' command='mkdir e; echo 1 >>e/x' records='W e/x'
 row shows='and in one that stood there' command='mkdir -p d; echo 1 >>d/x' records='R d/x W d/x'
 row shows='a recorder in a recorder' command='"'"$fmtrace"'" cat a' records='R a'
+# The inner log stands where the outer one would; both tell of what the inner command did.
+row shows='the outer log of a recorder in a recorder' \
+    command='BMAKE_FILEMON=$BMAKE_FILEMON.inner "'"$fmtrace"'" cat a; cat b' records='R a R b'
+row shows='the inner log of a recorder in a recorder' \
+    run='"$fmtrace" /bin/sh -c "cat b; BMAKE_FILEMON=$BMAKE_FILEMON.inner \"$fmtrace\" /bin/sh -c \"(cat a; [ -e none ]); cat d/c\""; mv "$BMAKE_FILEMON.inner" "$BMAKE_FILEMON"' \
+    records='R a N none R d/c'
+row shows='an inner process that runs on' \
+    run='"$fmtrace" /bin/sh -c "BMAKE_FILEMON=$BMAKE_FILEMON.inner \"$fmtrace\" /bin/sh -c \"(sleep 1) >/dev/null 2>&1 & cat a\""; mv "$BMAKE_FILEMON.inner" "$BMAKE_FILEMON"' \
+    records='X'
 
 if command -v cc >/dev/null; then
     row shows='a compiler' before='mkdir early; echo "#define A 1" >d/a.h; echo "#include <a.h>" >y.c' \
@@ -257,6 +266,38 @@ fi
 # A make in a make, where the recorder is named in the environment.
 build shows='a make in a make' before='mkdir sub; printf "out: src\n\tcat src >out\n" >sub/makefile; echo 1 >sub/src' \
     makes="cd sub && $program >/dev/null && cp out ../t" by=environment seen='echo 22 >sub/src'
+
+# A make in meta mode below a recorded command has records of its own: it makes again what has changed, and
+# nothing else.
+inner() {
+    local here=$room/inner
+    mkdir -p "$here/sub"
+    (
+        cd "$here" || exit 1
+        export BMAKE_RECORDER=$fmtrace
+        local meta='.MAKE.MODE = meta curdirOk=yes missing-meta=yes missing-filemon=yes'
+        printf '%s\n\nt: other\n\t@cd sub && %s -j4\n\t@cat sub/x sub/y >t\n' "$meta" "$program" >makefile
+        printf '%s\n\nall: x y\nx:\n\t@cat a >x; echo made x\ny:\n\t@cat b >y; echo made y\n' "$meta" >sub/makefile
+        echo a >sub/a && echo b >sub/b && echo 1 >other
+        made() {
+            "$program" 2>err | grep '^made' | sort | tr '\n' ' '
+        }
+        [ "$(made)" = 'made x made y ' ] || echo 'not made first'
+        [ "$(made)" = '' ] || echo 'made again'
+        sleep 0.02
+        echo 2 >other
+        is=$(made)
+        [ "$is" = '' ] || echo "made below for an edit above: $is"
+        sleep 0.02
+        echo aa >sub/a
+        is=$(made)
+        [ "$is" = 'made x ' ] || echo "made for an edit of one source below: $is"
+        cat err
+    ) >"$here.wrong" 2>&1
+    count 'a make in meta mode below a recorded command' "$(tr '\n' ';' <"$here.wrong")"
+}
+
+inner
 
 echo "$passed passed, $failed failed"
 [ "$failed" = 0 ]

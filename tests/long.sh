@@ -20,12 +20,13 @@ times() {
 }
 
 # One case: what it shows, the standard output, standard error and exit status that are wanted, and the
-# words of the run. The makefile comes from standard input.
+# words of the run. The makefile comes from standard input. The run may take as many seconds of a
+# processor as the variable says.
 row() {
     local shows=$1 out=$2 err=$3 status=$4 is wrong=''
     shift 4
     cat >"$room/makefile"
-    (cd "$room" && exec timeout 100 "$program" "$@") >"$room/out" 2>"$room/err" </dev/null
+    (cd "$room" && ulimit -t "${seconds:-100}" && exec timeout 100 "$program" "$@") >"$room/out" 2>"$room/err" </dev/null
     is=$?
     [ "$is" = "$status" ] || wrong="status $is and not $status"
     printf '%s' "$out" | cmp -s - "$room/out" || wrong="$wrong; standard output"
@@ -98,8 +99,78 @@ row 'a local name is defined where its value would be too long' $'y y\n' '' 0 t 
 row 'the value itself is too long' '' $'bmake: target t command 1: value too long\n' 2 t \
     < <(long_sources 'echo ${>F:[1]}')
 
+# A text of 4 MiB, to be looked for in short words.
+long_text() {
+    printf 'A='
+    times 1048000 x
+    printf '\nB=$A$A$A$A\n'
+}
+
+row 'a text of 4 MiB is looked for in 600000 words' $'600000\n' '' 0 \
+    -V '${:U:range=600000:S/${B}/y/:[#]}' < <(long_text)
+row 'an end of 4 MiB is looked for in 600000 words' $'600000\n' '' 0 \
+    -V '${:U:range=600000:${B}=y:[#]}' < <(long_text)
+
+# So many names that are set, and taken away in this order by one line.
+names_taken_away() {
+    seq -f 'V%.0f=' "$1"
+    printf '.undef'
+    seq -f ' V%.0f' "$1" | tr -d '\n'
+    printf '\nA=${V%s:Unone}\n' "$1"
+}
+
+row '120000 names are taken away, in their order and four times' $'none\n' '' 0 -v A \
+    < <(for time in 1 2 3 4; do names_taken_away 120000; done)
+
 row '200000 suffixes on a line' $'1\n' '' 0 -v A \
     <<<$'.SUFFIXES: ${:U:range=200000:S/^/./}\nA=1'
+
+seconds=3 row '16000 lines of one suffix' $'1\n' '' 0 -v A <<'MAKEFILE'
+.for i in ${:U:range=16000}
+.SUFFIXES: .$i
+.endfor
+A=1
+MAKEFILE
+
+# 200 sources that stand, and a chain of rules to their suffix from 799 others.
+suffix_chain() {
+    echo '.SUFFIXES: ${:U:range=800:S/^/./}'
+    local i
+    for ((i = 1; i < 800; i++)); do
+        echo ".$((i + 1)).$i: ; @: x"
+    done
+    echo 'all: ${:U:range=200:S/^/f/:S/$/.1/}'
+    echo 'all: .PHONY'
+}
+(cd "$room" && touch f{1..200}.1)
+seconds=3 row '200 files and a chain of 800 suffixes' '' '' 0 -n < <(suffix_chain)
+rm "$room"/f*.1
+
+seconds=2 row 'make() for 40000 targets that are no main ones' $'\n' '' 0 -V X <<'MAKEFILE'
+${:U:range=40000:S/^/t/}: .NOTMAIN
+.for i in ${:U:range=40000}
+.if make(x)
+.endif
+.endfor
+MAKEFILE
+
+# A recorder's log, which lies in the file `log`, and what the next run tells of its target.
+log_row() {
+    printf '%s\n' '.MAKE.MODE=meta curdirOk=yes missing-meta=yes missing-filemon=yes' \
+        't:' $'\t@cp log "$$BMAKE_FILEMON"; echo >t' >"$room/log.mk"
+    row "$1" '' '' 0 <"$room/log.mk"
+    row "$1, and the next run" "$2" '' 0 --explain <"$room/log.mk"
+    rm -f "$room/t" "$room/t.meta"
+}
+yes 'C 1 d' | head -n 2000 >"$room/log"
+log_row 'a log of 2000 lines that go down' ''
+yes 'C 1 d' | head -n 200000 >"$room/log"
+log_row 'a log of 200000 lines that go down is none' $'t no records\n'
+yes $'C 1 d\nR 1 x' | head -n 200000 >"$room/log"
+log_row 'and one with reads between them' $'t no records\n'
+yes $'R 1 /d/a' | head -c 67108872 >"$room/log"
+log_row 'a log above 67108864 bytes is none' $'t no records\n'
+rm -f "$room/log"
 
 row 'a chain of 20000 targets' '' '' 0 t20000 <<'MAKEFILE'
 P=

@@ -398,6 +398,10 @@ row shows='a recorded path that is not UTF-8 makes its target again, and ends no
     makefile="$meta$nl"$'t:\n\t@printf "R 1 caf\\351\\n" >"$$BMAKE_FILEMON"; echo made; : >t\n' \
     run='"$program"; sleep 0.1; "$program"; "$program" --explain | cut -d " " -f 1,2' out=$'made\nmade\nt read\n'
 
+row shows='a variable that cannot be exported is named' \
+    makefile=$'V=caf\xe9\n.export V\nt:\n\t@echo made\n' \
+    status=3 err="bmake: export V: not UTF-8$nl$outside"
+
 row shows='so does one whose name is too long' \
     makefile="$meta$nl"$'t:\n\t@printf "R 1 %05000d\\n" 1 >"$$BMAKE_FILEMON"; echo made; : >t\n' \
     run='"$program"; sleep 0.1; "$program"' out=$'made\nmade\n'

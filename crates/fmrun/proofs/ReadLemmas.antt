@@ -194,5 +194,5 @@ log-read (byte ∷ directory) ops cwd form are =
 
 -- A log is read as the operations that were recorded.
 pub log-again : (directory : List ℕ) (ops : List Op) → IsReadAs directory ops (log directory ops)
-log-again directory ops cwd form are =
-    rw (log-whole directory ops form are) (ap Some (log-read directory ops cwd form are))
+log-again directory ops cwd form are fits =
+    rw (log-whole directory ops form are, fits) (ap Some (log-read directory ops cwd form are))

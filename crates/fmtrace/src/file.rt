@@ -2,7 +2,7 @@
 use crate::refusal::Refusal;
 use mk_bytes::Text;
 use std::fs::{Files, OpenOptions};
-use std::io::{ErrorKind, Read, Write};
+use std::io::{ErrorKind, Read, Seek, SeekFrom, Write};
 use std::{fs, str};
 
 /// What stands at a path.
@@ -43,6 +43,29 @@ pub fn bytes_of<R: Files + AllocGlobal>(rt: &R, path: &[u8]) -> Result<Option<Te
     };
     match fs::read(rt, path) {
         Ok(bytes) => Ok(Some(Text::from_bytes(rt.alloc(), bytes.as_slice())?)),
+        Err(error) if error.kind() == ErrorKind::OutOfMemory => Err(Refusal::NoMemory),
+        Err(_) => Ok(None),
+    }
+}
+
+/// The bytes of a file behind its first ones; none where it cannot be read.
+pub fn bytes_from<R: Files + AllocGlobal>(
+    rt: &R,
+    path: &[u8],
+    first: u64,
+) -> Result<Option<Text>, Refusal> {
+    let Ok(path) = str::from_utf8(path) else {
+        return Ok(None);
+    };
+    let Ok(mut file) = fs::open(rt, path) else {
+        return Ok(None);
+    };
+    if file.seek(SeekFrom::Start(first)).is_err() {
+        return Ok(None);
+    }
+    let mut bytes = Vec::new(rt.alloc());
+    match file.read_to_end(&mut bytes) {
+        Ok(_) => Ok(Some(Text::from_bytes(rt.alloc(), bytes.as_slice())?)),
         Err(error) if error.kind() == ErrorKind::OutOfMemory => Err(Refusal::NoMemory),
         Err(_) => Ok(None),
     }

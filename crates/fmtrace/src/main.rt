@@ -2,12 +2,14 @@
 //! deleted to the log of a recorder, as NetBSD filemon(4) does.
 #![tactic(auto)]
 
+mod family;
 mod file;
 mod interpreter;
 mod log;
 mod refusal;
 mod run;
 mod search;
+mod source;
 mod stream;
 mod trace;
 
@@ -23,7 +25,9 @@ const HELP: &[u8] = b"usage: fmtrace COMMAND [WORD]..
 
 Runs a command, and appends to the file that BMAKE_FILEMON names what the
 command read, missed, wrote and deleted. Where BMAKE_FILEMON is not set or
-empty, and where it is traced already, the command is run as it is.
+empty the command is run as it is. Where it is recorded already, by another
+fmtrace around it, its records are those that the other one's trace tells of;
+where something else traces it, it has none.
 
 The second form prints the records of a trace that was written by
 'strace -f -y -s 0 -o TRACE COMMAND', begun in an absolute directory. It looks
@@ -92,7 +96,7 @@ fn obey(rt: &HostRuntime, words: &[Text]) -> Result<u8, Refusal> {
     }
     match log_path(rt)? {
         Some(log) => {
-            let status = run::recorded(rt, log.bytes(), words);
+            let status = recorded(rt, log.bytes(), words);
             drop(log);
             status
         }
@@ -100,11 +104,31 @@ fn obey(rt: &HostRuntime, words: &[Text]) -> Result<u8, Refusal> {
     }
 }
 
+// Runs a command that has this log.
+fn recorded(rt: &HostRuntime, log: &[u8], words: &[Text]) -> Result<u8, Refusal> {
+    if !run::is_traced(rt)? {
+        return run::recorded(rt, log, words);
+    }
+    match outer_trace(rt)? {
+        Some(trace) => run::recorded_within(rt, log, trace, words),
+        None => run::plain(rt, words),
+    }
+}
+
+// The trace of a recorder around this one, if there is one.
+fn outer_trace(rt: &HostRuntime) -> Result<Option<Text>, Refusal> {
+    match env::var(rt, run::TRACE) {
+        Ok(path) if path.is_empty() => Ok(None),
+        Ok(path) => Ok(Some(Text::from_bytes(rt.alloc(), path.as_bytes())?)),
+        Err(VarError::OutOfMemory) => Err(Refusal::NoMemory),
+        Err(_) => Ok(None),
+    }
+}
+
 // Where a command is recorded, if it is.
 fn log_path(rt: &HostRuntime) -> Result<Option<Text>, Refusal> {
     match env::var(rt, LOG) {
         Ok(path) if path.is_empty() => Ok(None),
-        Ok(path) if run::is_traced(rt)? => Ok(None),
         Ok(path) => Ok(Some(Text::from_bytes(rt.alloc(), path.as_bytes())?)),
         Err(VarError::NotPresent) => Ok(None),
         Err(VarError::NotUnicode) => Err(Refusal::of(rt.alloc(), LOG.as_bytes(), 127)),

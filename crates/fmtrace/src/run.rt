@@ -3,6 +3,7 @@ use crate::file::{append, bytes_of, length_of, remove};
 use crate::log::Log;
 use crate::refusal::Refusal;
 use crate::search::found;
+use crate::source::Source;
 use crate::stream::push_streams;
 use crate::trace::{Scratch, UNREAD, push_all, records_in};
 use mk_bytes::{Items, Text};
@@ -41,11 +42,8 @@ const OPTIONS: [&str; 12] = [
     "-o",
 ];
 
-// How often the end of a trace is waited for, and how long each time in microseconds: strace writes it
-// when the command is gone already.
-const TRIES: u32 = 1000;
-
-const PAUSE: u64 = 200;
+/// The variable that names the trace of a recorder to those that it records.
+pub const TRACE: &str = "FMTRACE_TRACE";
 
 // The status of a shell for what ended so.
 fn status_of(status: ExitStatus) -> u8 {
@@ -57,9 +55,17 @@ fn status_of(status: ExitStatus) -> u8 {
     u8::try_from(code).unwrap_or(255)
 }
 
-// Runs words, and gives the number and the status of their process.
-fn run(rt: &HostRuntime, program: &str, words: &[Text]) -> Result<(u32, u8), Refusal> {
+// Runs words, which may be told of a trace, and gives the number and the status of their process.
+fn run(
+    rt: &HostRuntime,
+    program: &str,
+    words: &[Text],
+    trace: Option<&str>,
+) -> Result<(u32, u8), Refusal> {
     let mut command = Command::new(rt.alloc(), program)?;
+    if let Some(trace) = trace {
+        command.env(TRACE, trace)?;
+    }
     for word in words {
         let Ok(word) = str::from_utf8(word.bytes()) else {
             return Err(Refusal::of(rt.alloc(), b"a word is not UTF-8", 2));
@@ -81,15 +87,20 @@ fn run(rt: &HostRuntime, program: &str, words: &[Text]) -> Result<(u32, u8), Ref
     }
 }
 
-/// Runs a command as it is.
-pub fn plain(rt: &HostRuntime, words: &[Text]) -> Result<u8, Refusal> {
+// Runs a command as it is, and gives the number and the status of its process.
+fn run_plainly(rt: &HostRuntime, words: &[Text]) -> Result<(u32, u8), Refusal> {
     let [program, rest @ ..] = words else {
-        return Ok(2);
+        return Ok((0, 2));
     };
     let Ok(program) = str::from_utf8(program.bytes()) else {
         return Err(Refusal::of(rt.alloc(), b"a word is not UTF-8", 2));
     };
-    let (_, status) = run(rt, program, rest)?;
+    run(rt, program, rest, None)
+}
+
+/// Runs a command as it is.
+pub fn plain(rt: &HostRuntime, words: &[Text]) -> Result<u8, Refusal> {
+    let (_, status) = run_plainly(rt, words)?;
     Ok(status)
 }
 
@@ -119,9 +130,13 @@ fn strace_words(rt: &HostRuntime, trace: &Text, words: &[Text]) -> Result<Items<
     Ok(all)
 }
 
-// The file of a trace, beside the log.
-fn trace_path(rt: &HostRuntime, log: &[u8]) -> Result<Text, Refusal> {
-    let mut path = Text::from_bytes(rt.alloc(), log)?;
+// The file of a trace, beside the log, by a path from the root.
+fn trace_path(rt: &HostRuntime, directory: &[u8], log: &[u8]) -> Result<Text, Refusal> {
+    let mut path = Text::new(rt.alloc());
+    if !log.starts_with(b"/") {
+        path.push_both(directory, b"/")?;
+    }
+    path.push(log)?;
     path.push(b".trace.")?;
     push_decimal(&mut path, u64::from(process::id(rt.process())))?;
     Ok(path)
@@ -132,20 +147,21 @@ fn whole_records(
     rt: &HostRuntime,
     directory: &[u8],
     before: &Touches,
-    trace: &[u8],
+    source: &Source,
 ) -> Result<Option<Records>, Refusal> {
     let mut seen = 0;
-    for _ in 0..TRIES {
-        let length = length_of(rt, trace);
+    let (tries, pause) = source.patience();
+    for _ in 0..tries {
+        let length = source.length(rt);
         if length != seen {
             seen = length;
-            if let Some(text) = bytes_of(rt, trace)? {
+            if let Some(text) = source.text(rt)? {
                 if let Some(records) = records_in(rt.alloc(), directory, before, text.bytes())? {
                     return Ok(Some(records));
                 }
             }
         }
-        thread::sleep(rt, Duration::from_micros(PAUSE));
+        thread::sleep(rt, Duration::from_micros(pause));
     }
     Ok(None)
 }
@@ -200,22 +216,34 @@ fn scratch_of(rt: &HostRuntime, log: &[u8], directory: &[u8]) -> Result<Scratch,
     })
 }
 
-/// Runs a command under strace, and appends its records to a log.
-pub fn recorded(rt: &HostRuntime, log: &[u8], words: &[Text]) -> Result<u8, Refusal> {
-    let alloc = rt.alloc();
-    let directory = current(rt)?;
-    let mut before = Items::new(alloc, 0)?;
+// What a command has from its beginning: its streams, and the programs that were sought for it. A command
+// that is not found is refused.
+fn beginning(
+    rt: &HostRuntime,
+    log: &[u8],
+    directory: &[u8],
+    program: &Text,
+) -> Result<Touches, Refusal> {
+    let mut before = Items::new(rt.alloc(), 0)?;
     push_streams(rt, folder_of(log), &mut before)?;
+    if !found(rt, directory, program.bytes(), &mut before)? {
+        return Err(Refusal::at(rt.alloc(), program.bytes(), b"not found", 127));
+    }
+    Ok(before)
+}
+
+/// Runs a command under strace, and appends its records to a log. Recorders below are told of its trace.
+pub fn recorded(rt: &HostRuntime, log: &[u8], words: &[Text]) -> Result<u8, Refusal> {
     let [program, ..] = words else {
         return Ok(2);
     };
-    if !found(rt, directory.bytes(), program.bytes(), &mut before)? {
-        return Err(Refusal::at(alloc, program.bytes(), b"not found", 127));
-    }
-    let trace = trace_path(rt, log)?;
+    let directory = current(rt)?;
+    let before = beginning(rt, log, directory.bytes(), program)?;
+    let trace = trace_path(rt, directory.bytes(), log)?;
     let all = strace_words(rt, &trace, words)?;
-    let ran = run(rt, "strace", all.as_slice());
-    let written = written(rt, log, trace.bytes(), directory.bytes(), &before, ran);
+    let name = str::from_utf8(trace.bytes()).ok();
+    let ran = run(rt, "strace", all.as_slice(), name);
+    let written = written(rt, log, &trace, directory.bytes(), &before, ran);
     remove(rt, trace.bytes());
     written
 }
@@ -224,16 +252,49 @@ pub fn recorded(rt: &HostRuntime, log: &[u8], words: &[Text]) -> Result<u8, Refu
 fn written(
     rt: &HostRuntime,
     log: &[u8],
-    trace: &[u8],
+    trace: &Text,
     directory: &[u8],
     before: &Touches,
     ran: Result<(u32, u8), Refusal>,
 ) -> Result<u8, Refusal> {
-    let (process, status) = ran?;
-    if length_of(rt, trace) == 0 {
-        return Ok(status);
+    let ended = ran?;
+    if length_of(rt, trace.bytes()) == 0 {
+        return Ok(ended.1);
     }
-    let records = whole_records(rt, directory, before, trace)?;
+    let source = Source::whole(trace.copy(rt.alloc())?);
+    told(rt, log, &source, directory, before, ended)
+}
+
+/// Runs a command as it is, below a recorder that records it too, and appends its records to a log of its
+/// own, by the lines of its processes in the trace of that recorder.
+pub fn recorded_within(
+    rt: &HostRuntime,
+    log: &[u8],
+    trace: Text,
+    words: &[Text],
+) -> Result<u8, Refusal> {
+    let [program, ..] = words else {
+        return Ok(2);
+    };
+    let directory = current(rt)?;
+    let before = beginning(rt, log, directory.bytes(), program)?;
+    let from = length_of(rt, trace.bytes());
+    let ended = run_plainly(rt, words)?;
+    let source = Source::part(trace, from, ended.0);
+    told(rt, log, &source, directory.bytes(), &before, ended)
+}
+
+// Appends the records of a command of which a trace tells, by the number and the status of its process.
+fn told(
+    rt: &HostRuntime,
+    log: &[u8],
+    source: &Source,
+    directory: &[u8],
+    before: &Touches,
+    ended: (u32, u8),
+) -> Result<u8, Refusal> {
+    let (process, status) = ended;
+    let records = whole_records(rt, directory, before, source)?;
     let scratch = scratch_of(rt, log, directory)?;
     let part = log_of(rt, process, status, &scratch, records)?;
     append(rt, log, part.bytes())?;

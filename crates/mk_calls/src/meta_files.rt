@@ -5,7 +5,7 @@ use crate::rows::{Row, check};
 use mk_bytes::{Items, NoMemory, Text};
 use mk_filemon::Recs;
 use mk_meta::{Meta, head, read_meta, write_meta};
-use mk_world::{Lines, TaskLine, Time};
+use mk_world::{Lines, SharedPairs, TaskLine, Time};
 use std::alloc::Global;
 
 const SAMPLE: &[u8] =
@@ -213,7 +213,7 @@ fn one_line(alloc: Global, text: &[u8]) -> Result<Lines, NoMemory> {
 // What the sample tells, where it stood in this directory.
 fn job_in(alloc: Global, cwd: Text) -> Result<Meta, NoMemory> {
     let target = Text::from_bytes(alloc, b"t")?;
-    let exports = Items::new(alloc, 0)?;
+    let exports = SharedPairs::new(alloc, Items::new(alloc, 0)?)?;
     let lines = one_line(alloc, b"cat t a b")?;
     let records = records_of(alloc, &[b"R 1 a", b"R 1 b", b"W 1 t"])?;
     Ok(Meta {
@@ -250,7 +250,7 @@ fn has_three(records: &Option<Recs>) -> bool {
 
 fn is_that_job(meta: &Meta) -> bool {
     meta.stamp == Time(4)
-        && meta.exports.is_empty()
+        && meta.exports.as_slice().is_empty()
         && meta.lines.len() == 1
         && meta.cwd.bytes() == b"/w".as_slice()
         && meta.target.bytes() == b"t".as_slice()

@@ -42,7 +42,7 @@ pub fn command(
     Ok(Cmd {
         text: line.text.copy(alloc)?,
         cwd: Text::from_bytes(alloc, cwd)?,
-        exports: exports.copy(alloc)?,
+        exports: exports.share()?,
     })
 }
 

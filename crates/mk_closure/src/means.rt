@@ -10,9 +10,8 @@ ghost use Rattle.mk_suffix.specs.declared.fault.SuffixFault.TheVariants.{Failed 
 ghost use Rattle.mk_world.specs.Causes.{HasCause};
 
 use crate::fault::CloseFault;
-use mk_bytes::Texts;
 use mk_graph::{Attr, Graph};
-use mk_suffix::{Chain, SuffixFault, is_found, resolve};
+use mk_suffix::{Chain, SuffixFault, SuffixRules, is_found, resolve};
 use mk_world::World;
 use std::alloc::Global;
 
@@ -42,51 +41,49 @@ fn is_phony(graph: &Graph, n: u32) -> bool
 
 fn chain_for<W: World>(
     alloc: Global,
-    graph: &Graph,
-    suffixes: &Texts,
+    rules: &SuffixRules<'_>,
     name: &[u8],
     n: u32,
     world: &mut W,
 ) -> Result<Option<Chain>, SuffixFault>
     requires idle { W.runs world.old [] }
     ensures told { IfOk result (λ chain. OnLooks (W.history world.old) (W.history world.new)
-        (λ files. spec.chain_for files graph.now suffixes.now name.now n ≡ chain)) }
-    ensures made { IfOk result (λ chain. IfSome chain (IsFor graph.now)) }
+        (λ files. spec.chain_for files rules.now.nodes rules.now.suffixes name.now n ≡ chain)) }
+    ensures made { IfOk result (λ chain. IfSome chain (IsFor rules.now.nodes)) }
     ensures refused { OnErr result (OnlyLooked (W.history world.old) (W.history world.new)) }
     ensures cause { HasCause suffix_failed (W.faults world.old) (W.faults world.new) result }
     ensures idle { W.runs world.new [] }
 {
-    if is_phony(graph, n) {
+    if is_phony(rules.graph(), n) {
         return Ok(None);
     }
-    resolve(alloc, graph, suffixes, name, world)
+    resolve(alloc, rules, name, world)
 }
 
 /// What there is to make a node of this name with.
 pub fn means_of<W: World>(
     alloc: Global,
-    graph: &Graph,
-    suffixes: &Texts,
+    rules: &SuffixRules<'_>,
     name: &[u8],
     n: u32,
     world: &mut W,
 ) -> Result<Means, CloseFault>
     requires idle { W.runs world.old [] }
     ensures told { IfOk result (λ means. OnLooks (W.history world.old) (W.history world.new)
-        (λ files. spec.means_of files graph.now suffixes.now name.now n ≡ means)) }
-    ensures made { IfOk result (HasChain graph.now) }
+        (λ files. spec.means_of files rules.now.nodes rules.now.suffixes name.now n ≡ means)) }
+    ensures made { IfOk result (HasChain rules.now.nodes) }
     ensures refused { OnErr result (OnlyLooked (W.history world.old) (W.history world.new)) }
     ensures outside { IfErr result IsOutside }
     ensures cause { HasCause failed (W.faults world.old) (W.faults world.new) result }
     ensures idle { W.runs world.new [] }
 {
-    if has_commands(graph, n) {
+    if has_commands(rules.graph(), n) {
         return Ok(Means::Own);
     }
-    if let Some(chain) = chain_for(alloc, graph, suffixes, name, n, world)? {
+    if let Some(chain) = chain_for(alloc, rules, name, n, world)? {
         return Ok(Means::Chained(chain));
     }
-    if is_found(alloc, graph, name, world)? {
+    if is_found(alloc, rules.graph(), name, world)? {
         return Ok(Means::Own);
     }
     Ok(Means::Missing)

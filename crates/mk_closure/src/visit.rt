@@ -18,6 +18,7 @@ use crate::members::Sources;
 use mk_bytes::{NoMemory, Text, Texts};
 use mk_graph::Graph;
 use mk_pool::MAX_NAMES;
+use mk_suffix::SuffixRules;
 use mk_world::World;
 use std::alloc::Global;
 
@@ -62,17 +63,18 @@ impl<'g> Closure<'g> {
     fn enter<W: World>(
         &mut self,
         alloc: Global,
-        suffixes: &Texts,
+        rules: &SuffixRules<'_>,
         n: u32,
         world: &mut W,
     ) -> Result<(), CloseFault>
+        requires same { rules.now.nodes ≡ self.old.nodes }
         requires within { n < length self.old.parts }
         requires new { (part_at self.old n).met ≡ false }
         requires idle { W.runs world.old [] }
         ensures entered { IfOk result (λ _. OnLooks (W.history world.old) (W.history world.new)
-            (λ files. spec.entered files suffixes.now self.old n ≡ Ok self.new)) }
+            (λ files. spec.entered files rules.now.suffixes self.old n ≡ Ok self.new)) }
         ensures refused { IfErr result (λ fault. OnLooks (W.history world.old) (W.history world.new)
-            (λ files. IsRefusedBy fault (spec.entered files suffixes.now self.old n))) }
+            (λ files. IsRefusedBy fault (spec.entered files rules.now.suffixes self.old n))) }
         ensures met { OnOk result (steps.IsMet self.old self.new) }
         ensures cause { HasCause failed (W.faults world.old) (W.faults world.new) result }
         ensures idle { W.runs world.new [] }
@@ -81,7 +83,7 @@ impl<'g> Closure<'g> {
             self.meet(n);
             return Ok(());
         }
-        let means = means_of(alloc, self.graph(), suffixes, self.name(n), n, world)?;
+        let means = means_of(alloc, rules, self.name(n), n, world)?;
         self.meet_by(alloc, n, means)?;
         Ok(())
     }
@@ -98,19 +100,20 @@ impl<'g> Closure<'g> {
     fn visit<W: World>(
         &mut self,
         alloc: Global,
-        suffixes: &Texts,
+        rules: &SuffixRules<'_>,
         n: u32,
         todo: &mut Vec<u32>,
         world: &mut W,
     ) -> Result<(), CloseFault>
+        requires same { rules.now.nodes ≡ self.old.nodes }
         requires within { n < length self.old.parts }
         requires below { AreBelow (length self.old.parts) todo.old.items }
         requires idle { W.runs world.old [] }
         ensures leads { IfOk result (λ _. OnLooks (W.history world.old) (W.history world.new)
-            (λ files. steps.Leads (spec.entered files suffixes.now)
+            (λ files. steps.Leads (spec.entered files rules.now.suffixes)
             self.old (n ∷ reverse todo.old.items) self.new (reverse todo.new.items))) }
         ensures refused { IfErr result (λ fault. OnLooks (W.history world.old) (W.history world.new)
-            (λ files. IsRefusedBy fault (spec.walk (spec.entered files suffixes.now)
+            (λ files. IsRefusedBy fault (spec.walk (spec.entered files rules.now.suffixes)
             self.old (n ∷ reverse todo.old.items)))) }
         ensures nodes { OnOk result (self.new.nodes ≡ self.old.nodes) }
         ensures below { OnOk result (AreBelow (length self.new.parts) todo.new.items) }
@@ -122,7 +125,7 @@ impl<'g> Closure<'g> {
         if self.is_over(n) {
             return Ok(());
         }
-        self.enter(alloc, suffixes, n, world)?;
+        self.enter(alloc, rules, n, world)?;
         push_sources(todo, self.sources(n))?;
         Ok(())
     }
@@ -131,24 +134,26 @@ impl<'g> Closure<'g> {
     fn walk<W: World>(
         &mut self,
         alloc: Global,
-        suffixes: &Texts,
+        rules: &SuffixRules<'_>,
         from: u32,
         world: &mut W,
     ) -> Result<(), CloseFault>
+        requires same { rules.now.nodes ≡ self.old.nodes }
         requires within { from < length self.old.parts }
         requires idle { W.runs world.old [] }
         ensures walked { IfOk result (λ _. OnLooks (W.history world.old) (W.history world.new)
-            (λ files. spec.walk (spec.entered files suffixes.now) self.old (from ∷ [])
+            (λ files. spec.walk (spec.entered files rules.now.suffixes) self.old (from ∷ [])
             ≡ Ok self.new)) }
         ensures refused { IfErr result (λ fault. OnLooks (W.history world.old) (W.history world.new)
             (λ files. IsRefusedBy fault
-            (spec.walk (spec.entered files suffixes.now) self.old (from ∷ [])))) }
+            (spec.walk (spec.entered files rules.now.suffixes) self.old (from ∷ [])))) }
+        ensures nodes { OnOk result (self.new.nodes ≡ self.old.nodes) }
         ensures cause { HasCause failed (W.faults world.old) (W.faults world.new) result }
         ensures idle { W.runs world.new [] }
     {
         let mut todo = one(alloc, from)?;
         'nodes: while let Some(n) = todo.pop() {
-            self.visit(alloc, suffixes, n, &mut todo, world)?;
+            self.visit(alloc, rules, n, &mut todo, world)?;
         }
         Ok(())
     }
@@ -157,17 +162,19 @@ impl<'g> Closure<'g> {
     fn want<W: World>(
         &mut self,
         alloc: Global,
-        suffixes: &Texts,
+        rules: &SuffixRules<'_>,
         name: &[u8],
         world: &mut W,
     ) -> Result<(), CloseFault>
+        requires same { rules.now.nodes ≡ self.old.nodes }
         requires idle { W.runs world.old [] }
         ensures met { IfOk result (λ _. OnLooks (W.history world.old) (W.history world.new)
-            (λ files. spec.wanted_met (spec.entered files suffixes.now) self.old name.now
+            (λ files. spec.wanted_met (spec.entered files rules.now.suffixes) self.old name.now
             ≡ Ok self.new)) }
         ensures refused { IfErr result (λ fault. OnLooks (W.history world.old) (W.history world.new)
             (λ files. IsRefusedBy fault
-            (spec.wanted_met (spec.entered files suffixes.now) self.old name.now))) }
+            (spec.wanted_met (spec.entered files rules.now.suffixes) self.old name.now))) }
+        ensures nodes { OnOk result (self.new.nodes ≡ self.old.nodes) }
         ensures cause { HasCause failed (W.faults world.old) (W.faults world.new) result }
         ensures idle { W.runs world.new [] }
     {
@@ -175,29 +182,30 @@ impl<'g> Closure<'g> {
             return Ok(());
         }
         let n = self.number(name)?;
-        self.walk(alloc, suffixes, n, world)
+        self.walk(alloc, rules, n, world)
     }
 
     // Meets wanted names, one after the other.
     fn want_all<W: World>(
         &mut self,
         alloc: Global,
-        suffixes: &Texts,
+        rules: &SuffixRules<'_>,
         wanted: &[Text],
         world: &mut W,
     ) -> Result<(), CloseFault>
+        requires same { rules.now.nodes ≡ self.old.nodes }
         requires idle { W.runs world.old [] }
         ensures met { IfOk result (λ _. OnLooks (W.history world.old) (W.history world.new)
-            (λ files. spec.all_met (spec.entered files suffixes.now) self.old wanted.now
+            (λ files. spec.all_met (spec.entered files rules.now.suffixes) self.old wanted.now
             ≡ Ok self.new)) }
         ensures refused { IfErr result (λ fault. OnLooks (W.history world.old) (W.history world.new)
             (λ files. IsRefusedBy fault
-            (spec.all_met (spec.entered files suffixes.now) self.old wanted.now))) }
+            (spec.all_met (spec.entered files rules.now.suffixes) self.old wanted.now))) }
         ensures cause { HasCause failed (W.faults world.old) (W.faults world.new) result }
         ensures idle { W.runs world.new [] }
     {
         for name in wanted {
-            self.want(alloc, suffixes, name.bytes(), world)?;
+            self.want(alloc, rules, name.bytes(), world)?;
         }
         Ok(())
     }
@@ -230,7 +238,8 @@ pub fn close<'g, W: World>(
     ensures cause { HasCause failed (W.faults world.old) (W.faults world.new) result }
     ensures idle { W.runs world.new [] }
 {
+    let rules = SuffixRules::new(alloc, graph, suffixes)?;
     let mut closure = Closure::new(alloc, graph)?;
-    closure.want_all(alloc, suffixes, wanted, world)?;
+    closure.want_all(alloc, &rules, wanted, world)?;
     Ok(closure)
 }

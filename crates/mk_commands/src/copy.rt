@@ -3,7 +3,7 @@ ghost use Rattle.std.specs.Prelude.{◌≡◌, IfOk};
 ghost use Rattle.std.specs.Option.{option_copied};
 ghost use Rattle.mk_world.specs.declared.step.Deed.TheVariants.{Move};
 
-use mk_bytes::{NoMemory, Text, copy_pairs};
+use mk_bytes::{NoMemory, Text};
 use mk_world::{Cmd, Deed};
 use std::alloc::Global;
 
@@ -24,7 +24,7 @@ pub fn copy_cmd(alloc: Global, cmd: &Cmd) -> Result<Cmd, NoMemory>
     Ok(Cmd {
         text: cmd.text.copy(alloc)?,
         cwd: cmd.cwd.copy(alloc)?,
-        exports: copy_pairs(alloc, cmd.exports.as_slice())?,
+        exports: cmd.exports.share()?,
     })
 }
 

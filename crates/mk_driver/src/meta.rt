@@ -104,7 +104,7 @@ fn frame_of(maker: &Maker, job: &Job) -> Result<Meta, NoMemory>
 {
     Ok(Meta {
         stamp: Time(job.collected.owner),
-        exports: maker.made.mode.exports.copy(maker.alloc)?,
+        exports: maker.made.mode.exports.share()?,
         lines: kept_lines(maker.alloc, job.task.lines.as_slice())?,
         cwd: Text::from_bytes(maker.alloc, maker.made.scopes.cwd())?,
         target: Text::from_bytes(maker.alloc, maker.plan.name(job.node))?,

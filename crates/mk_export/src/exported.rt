@@ -1,7 +1,8 @@
-ghost use Rattle.std.specs.Prelude.{◌≡◌, [], IfOk};
+ghost use Rattle.std.specs.Prelude.{◌≡◌, IfOk};
 ghost use Rattle.mk_export.specs.Lists.{AreExports};
 
-use mk_bytes::{Items, NoMemory, Pair, Pairs, copy_pairs};
+use mk_bytes::{NoMemory, Pair, Pairs};
+use mk_world::SharedPairs;
 use std::alloc::Global;
 use std::marker::Model;
 
@@ -9,7 +10,7 @@ use std::marker::Model;
 /// list of pairs.
 #[derive(Drop)]
 pub struct Exported {
-    pairs: Pairs,
+    pairs: SharedPairs,
 }
 
 impl Model for Exported {
@@ -26,11 +27,13 @@ impl Model for Exported {
 
 impl Exported {
     /// These variables.
-    pub fn new(pairs: Pairs) -> Exported
+    pub fn new(alloc: Global, pairs: Pairs) -> Result<Exported, NoMemory>
         requires { AreExports pairs }
-        ensures { result ≡ pairs }
+        ensures { IfOk result (λ exported. exported ≡ pairs) }
     {
-        Exported { pairs }
+        Ok(Exported {
+            pairs: SharedPairs::new(alloc, pairs)?,
+        })
     }
 
     /// The variables, in order.
@@ -41,10 +44,10 @@ impl Exported {
         self.pairs.as_slice()
     }
 
-    /// Copies of them. Where there are none, this takes no memory.
-    pub fn copy(&self, alloc: Global) -> Result<Pairs, NoMemory>
-        ensures { IfOk result (λ copies. copies ≡ self.now) }
+    /// The same variables for one more holder: a task, a command or a meta file. Takes no memory.
+    pub fn share(&self) -> Result<SharedPairs, NoMemory>
+        ensures { IfOk result (λ shared. shared ≡ self.now) }
     {
-        copy_pairs(alloc, self.as_slice())
+        self.pairs.share()
     }
 }

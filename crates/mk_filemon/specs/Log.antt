@@ -1,6 +1,6 @@
 -- The log of a recorder (filemon(4)): lines of a letter, a process and what it did.
 use Rattle.std.specs.Prelude.{ℕ, Bool, not, ◌==◌, ◌&&◌, ◌||◌, nat_eq, List, [], ◌∷◌, ◌++◌}
-use Rattle.std.specs.Prelude.{◌-◌, take, drop, length, unwrap_or, codes, slice_index}
+use Rattle.std.specs.Prelude.{◌+◌, ◌-◌, nat_le, take, drop, length, unwrap_or, codes, slice_index}
 use Rattle.std.specs.Prelude.{Option, Some, None, option_and_then, option_to_list, if◌then◌else◌}
 use Rattle.std.specs.List.{slice_split, starts_with, list_all}
 use Rattle.std.specs.Option.{option_map}
@@ -184,6 +184,46 @@ lines_logged cwd dirs (line ∷ lines) =
 abbrev pub all_logged : List ℕ → List ℕ → List Op
 all_logged cwd log = lines_logged cwd no_directories (slice_split is_newline log)
 
--- The records of a log, which is none where a recorder's part of it is not whole.
+-- What a path takes: its bytes, those of its directory where it is relative, and what stands around a
+-- path in the records of a meta file.
+abbrev pub path_size : List ℕ → List ℕ → ℕ
+path_size dir path = length (against dir path) + 16
+
+-- What a line takes, by its text: that of a move or a link holds two paths.
+abbrev pub size_by : Kind → List ℕ → List ℕ → ℕ
+size_by Reads dir text = path_size dir text
+size_by Misses dir text = path_size dir text
+size_by Writes dir text = path_size dir text
+size_by Deletes dir text = path_size dir text
+size_by Moves dir text = path_size dir text + path_size dir text
+size_by Links dir text = path_size dir text + path_size dir text
+size_by Enters dir text = path_size dir text
+size_by Forks dir text = path_size dir text
+
+abbrev pub size_on : List ℕ → Directories → Option Line → ℕ
+size_on cwd dirs None = 0
+size_on cwd dirs (Some (kind, process, text)) = size_by kind (directory_of cwd dirs process) text
+
+abbrev pub size_of_lines : List ℕ → Directories → List (List ℕ) → ℕ
+size_of_lines cwd dirs [] = 0
+size_of_lines cwd dirs (line ∷ lines) =
+    size_on cwd dirs (line_of line)
+    + size_of_lines cwd (directories_after cwd dirs (line_of line)) lines
+
+-- What the lines of a log take.
+abbrev pub size_of : List ℕ → List ℕ → ℕ
+size_of cwd log = size_of_lines cwd no_directories (slice_split is_newline log)
+
+-- They may take half of what a file may have.
+abbrev pub max_size : ℕ
+max_size = 33554432
+
+-- the records of a log whose lines do not take too much
+abbrev pub records_within : List ℕ → List ℕ → Option (List Op)
+records_within cwd log =
+    if nat_le (size_of cwd log) max_size then Some (all_logged cwd log) else None
+
+-- The records of a log, which is none where a recorder's part of it is not whole, or where its lines
+-- take too much.
 abbrev pub logged : List ℕ → List ℕ → Option (List Op)
-logged cwd log = if is_whole log then Some (all_logged cwd log) else None
+logged cwd log = if is_whole log then records_within cwd log else None

@@ -24,6 +24,8 @@
 //! | `# recorder NAME` | a part begins, and NAME wrote it |
 //! | `# Bye bye PROCESS STATUS COUNT` | it ends; COUNT lines stand between these two |
 //!
+//! What the paths of a log take has a limit, half of what a file may have; a log above it is none.
+//!
 //! ## The records
 //!
 //! A record is `R`, `N` (a miss), `W` or `D`, a space, the number of a command line, a space and a
@@ -40,6 +42,7 @@ mod number;
 mod outer;
 mod part;
 mod record;
+mod room;
 mod trace;
 
 pub use directory::directory_from;

@@ -1,6 +1,6 @@
-use mk_bytes::{Pairs, Text};
+use mk_bytes::Text;
 use mk_filemon::Recs;
-use mk_world::{Lines, Time};
+use mk_world::{Lines, SharedPairs, Time};
 
 /// What a target was made with. It has a meta file where its commands begin with none of the bytes
 /// that are taken off a command line, only `text` and `ignore` of them are set, the names of the
@@ -11,7 +11,7 @@ pub struct Meta {
     /// The time at which the job began.
     pub stamp: Time,
     /// The variables of the commands' environment.
-    pub exports: Pairs,
+    pub exports: SharedPairs,
     pub lines: Lines,
     /// The directory of the commands.
     pub cwd: Text,

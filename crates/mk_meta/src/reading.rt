@@ -14,9 +14,9 @@ use crate::line::stripped;
 use crate::lines::{command_lines, export_lines, number_line, record_lines, text_line};
 use crate::meta::Meta;
 use crate::writing::head_line;
-use mk_bytes::{NoMemory, Pair, Pairs, Text};
+use mk_bytes::{NoMemory, Pair, Text};
 use mk_filemon::{Recs, cut_at};
-use mk_world::{Lines, Time};
+use mk_world::{Lines, SharedPairs, Time};
 use std::alloc::Global;
 
 // The stamp, the commands and their directory.
@@ -30,7 +30,7 @@ struct Front {
 // The exported variables, the target and the output.
 #[derive(Drop)]
 struct Middle {
-    exports: Pairs,
+    exports: SharedPairs,
     target: Text,
     output: Text,
 }
@@ -123,7 +123,7 @@ fn are_sorted(exports: &[Pair]) -> bool
 // Reads the target and the output behind exported variables.
 fn read_target<'t>(
     alloc: Global,
-    exports: Pairs,
+    exports: SharedPairs,
     text: &'t [u8],
 ) -> Result<Option<(Middle, &'t [u8])>, NoMemory>
     ensures { IfOk result (λ found. option_map (λ read. (middle_view read.0, read.1.now)) found
@@ -154,7 +154,7 @@ fn read_middle<'t>(alloc: Global, text: &'t [u8]) -> Result<Option<(Middle, &'t 
     if !are_sorted(exports.as_slice()) {
         return Ok(None);
     }
-    read_target(alloc, exports, rest)
+    read_target(alloc, SharedPairs::new(alloc, exports)?, rest)
 }
 
 // Reads the records, where there are any, and the last line.

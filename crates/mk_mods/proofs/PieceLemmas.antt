@@ -3,6 +3,7 @@ use Rattle.std.proofs.Common.{◌≡◌, ℕ, ◌+◌, ◌-◌, ◌≤◌, ◌<�
 use Rattle.std.proofs.lemmas.Grind.{common_steps}
 use Rattle.std.proofs.lemmas.List.{drop-take, take-take, drop-drop}
 use Rattle.mk_pool.specs.declared.region.Piece.{Piece}
+use Rattle.mk_pieces.specs.Limits.{total}
 use Rattle.mk_pieces.specs.Pieces.{bytes_of, Shows, Begins}
 use Rattle.mk_pieces.proofs.PieceLemmas.{length-begins, texts_of-begins, furthest-append, texts_of-append}
 
@@ -74,3 +75,9 @@ bytes_of-behind region start end at within =
     sym (ap (λ n. drop (at + 1) (take n (drop start region))) (sym whole)
     ∙ drop-take (at + 1) left (drop start region)
     ∙ ap (take left) (drop-drop (at + 1) start region ∙ ap (λ n. drop n region) same))
+
+-- one more text
+pub total-push : (texts : List (List ℕ)) (text : List ℕ)
+    → total (texts ++ text ∷ []) ≡ total texts + length text
+total-push [] text = omega arith
+total-push (first ∷ texts) text = let rest = total-push texts text in omega (arith, rest)

@@ -1,8 +1,9 @@
-ghost use Rattle.std.specs.Prelude.{◌≡◌, ◌≤◌, ◌-◌, ◌++◌, length, take, option_to_list, SomeIff};
+ghost use Rattle.std.specs.Prelude.{◌≡◌, ◌≤◌, ◌+◌, ◌-◌, ◌++◌, length, take, option_to_list, SomeIff};
 ghost use Rattle.std.specs.Prelude.{IfOk, OnOk};
 ghost use Rattle.mk_mods.specs.State as spec;
 ghost use Rattle.mk_mods.specs.Limits.{fits};
-ghost use Rattle.mk_pieces.specs.Pieces.{Begins};
+ghost use Rattle.mk_pieces.specs.Limits.{total};
+ghost use Rattle.mk_pieces.specs.Pieces.{texts_of, Shows, Begins};
 ghost use Rattle.mk_mods.specs.Pieces.{seen, end_of};
 
 use crate::piece::{cut_words, place_all, texts};
@@ -181,6 +182,32 @@ pub fn with_items(
     })
 }
 
+// The texts of pieces one behind the other, and where each of them lies once these stand behind the
+// first `len` bytes of the region.
+fn lined_up(
+    alloc: Global,
+    region: &Region,
+    pieces: &[Piece],
+    len: usize,
+) -> Result<(Text, Vec<Piece>), NoMemory>
+    requires { len ≤ length region.now.bytes }
+    ensures shown { IfOk result (λ new. Shows (take len region.now.bytes ++ new.0) new.1.items
+        (texts_of region.now.bytes pieces.now)) }
+    ensures small { IfOk result
+        (λ new. length new.0 ≡ total (texts_of region.now.bytes pieces.now)) }
+{
+    let mut bytes = Text::new(alloc);
+    let mut moved = Vec::with_capacity(alloc, pieces.len())?;
+    for piece in pieces {
+        let text = shown(region, *piece);
+        let start = len + bytes.len();
+        bytes.push(text)?;
+        let end = len + bytes.len();
+        moved.push(Piece { start, end })?;
+    }
+    Ok((bytes, moved))
+}
+
 /// The same state, with its items placed anew behind the first `len` bytes of the region. What lies
 /// behind those is given up, and so is the state on a refusal.
 pub fn placed_anew(
@@ -194,8 +221,13 @@ pub fn placed_anew(
     ensures state { IfOk result (λ new. seen region.new.bytes new ≡ seen region.old.bytes val) }
     ensures within { IfOk result (λ new. end_of new ≤ length region.new.bytes) }
     ensures begins { Begins (take len region.old.bytes) region.new.bytes }
+
+    // Nothing but the items stands there then.
+    ensures small { OnOk result
+        (length region.new.bytes ≡ len + total (seen region.old.bytes val).items) }
 {
-    let items = texts(alloc, region, val.pieces.as_slice())?;
+    let (bytes, pieces) = lined_up(alloc, region, val.pieces.as_slice(), len)?;
     region.back(len);
-    with_items(alloc, region, val, &items)
+    place(region, bytes.bytes())?;
+    Ok(Val { pieces, ..val })
 }

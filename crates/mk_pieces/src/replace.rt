@@ -1,8 +1,8 @@
 //! Words in which texts are replaced by others, or letters by those of the other case.
 ghost use Rattle.std.specs.Prelude.{◌≡◌, ◌<◌, ◌≤◌, ◌+◌, ◌++◌, ◌&&◌, not, is_some, length, drop};
-ghost use Rattle.std.specs.Prelude.{position, IfOk, IfErr, IfSome, OnOk, Err};
+ghost use Rattle.std.specs.Prelude.{position, false, IfOk, IfErr, IfSome, OnOk, Err};
 ghost use Rattle.mk_bytes.specs.Agrees.{Agrees};
-ghost use Rattle.mk_pieces.specs.Change.{changed_word};
+ghost use Rattle.mk_pieces.specs.Change.{changed_word, IsSearchFor};
 ghost use Rattle.mk_pieces.specs.Limits.{max_text, pushed, pushed_if, IsEarly, AreTooLong};
 ghost use Rattle.mk_pieces.specs.Substitution as spec;
 ghost use Rattle.mk_pieces.specs.Pieces.{bytes_of, texts_of, furthest, Shows, Begins};
@@ -15,7 +15,8 @@ use crate::fault::ModFault;
 use crate::fresh::{push, push_both, push_three};
 use crate::letters::recased;
 use crate::piece::{place, shown};
-use memchr::{memchr, memmem};
+use memchr::memchr;
+use memchr::memmem::Finder;
 use mk_pool::{Piece, Region};
 use std::alloc::Global;
 
@@ -44,13 +45,48 @@ pub enum Change<'m> {
     },
 }
 
-fn first_place(text: &[u8], word: &[u8]) -> Option<usize>
+// What is found out of a change once, for all words. Else each word would cost what its texts do.
+#[derive(Drop)]
+struct Search<'m> {
+    // A search for the text that may stand anywhere in a word.
+    finder: Finder<'m>,
+    // The first `%` of the end of a word.
+    percent: Option<usize>,
+}
+
+fn search_for(change: Change<'_>) -> Search<'_>
+    ensures { IsSearchFor change.entry result.finder result.percent }
+{
+    match change {
+        Change::Subst {
+            from,
+            to: _,
+            at_start: false,
+            at_end: false,
+            all: _,
+        } => Search {
+            finder: Finder::new(from),
+            percent: None,
+        },
+        Change::Suffix { from, to: _ } => Search {
+            finder: Finder::new(b""),
+            percent: first_percent(from),
+        },
+        _ => Search {
+            finder: Finder::new(b""),
+            percent: None,
+        },
+    }
+}
+
+fn first_place(finder: &Finder<'_>, text: &[u8], word: &[u8]) -> Option<usize>
+    requires { finder.now ≡ text.now }
     ensures value { result ≡ spec.first_place text.now word.now }
     ensures fits { IfSome result (λ at. at + length text.now ≤ length word.now) }
 {
     match text {
         [byte] => memchr(*byte, word),
-        _ => memmem::find(word, text),
+        _ => finder.find(word),
     }
 }
 
@@ -62,13 +98,20 @@ fn behind(text: &[u8], at: usize) -> &[u8]
 }
 
 // Puts a word behind other bytes, with each place of `from` replaced, from the left.
-fn push_replaced(out: &mut Vec<u8>, from: &[u8], to: &[u8], word: &[u8]) -> Result<(), ModFault>
-    requires { 0 < length from.now }
+fn push_replaced(
+    out: &mut Vec<u8>,
+    finder: &Finder<'_>,
+    from: &[u8],
+    to: &[u8],
+    word: &[u8],
+) -> Result<(), ModFault>
+    requires finder { finder.now ≡ from.now }
+    requires some { 0 < length from.now }
     ensures { Agrees no_memory (λ _. out.new.items) result
         (pushed out.old.items (spec.replaced (length word.now) from.now to.now word.now)) }
 {
     let mut rest = word;
-    'places: while let Some(at) = first_place(from, rest) {
+    'places: while let Some(at) = first_place(finder, from, rest) {
         push_both(out, &rest[..at], to)?;
         rest = behind(rest, at + from.len());
     }
@@ -77,24 +120,26 @@ fn push_replaced(out: &mut Vec<u8>, from: &[u8], to: &[u8], word: &[u8]) -> Resu
 
 fn replaced_within(
     out: &mut Vec<u8>,
+    finder: &Finder<'_>,
     from: &[u8],
     to: &[u8],
     all: bool,
     word: &[u8],
 ) -> Result<bool, ModFault>
+    requires { finder.now ≡ from.now }
     ensures { Agrees no_memory (λ is. (is, out.new.items)) result
         (pushed_if out.old.items (spec.replaced_within from.now to.now all word.now)) }
 {
     if from.is_empty() {
         return Ok(false);
     }
-    let Some(at) = first_place(from, word) else {
+    let Some(at) = first_place(finder, from, word) else {
         return Ok(false);
     };
     let rest = behind(word, at + from.len());
     if all {
         push_both(out, &word[..at], to)?;
-        push_replaced(out, from, to, rest)?;
+        push_replaced(out, finder, from, to, rest)?;
     } else {
         push_three(out, &word[..at], to, rest)?;
     }
@@ -172,11 +217,18 @@ fn around_replaced(
     Ok(true)
 }
 
-fn suffixed(out: &mut Vec<u8>, from: &[u8], to: &[u8], word: &[u8]) -> Result<bool, ModFault>
+fn suffixed(
+    out: &mut Vec<u8>,
+    search: &Search<'_>,
+    from: &[u8],
+    to: &[u8],
+    word: &[u8],
+) -> Result<bool, ModFault>
+    requires { search.now.percent ≡ position spec.is_percent from.now }
     ensures { Agrees no_memory (λ is. (is, out.new.items)) result
         (pushed_if out.old.items (spec.suffixed from.now to.now word.now)) }
 {
-    match first_percent(from) {
+    match search.percent {
         None => end_replaced(out, from, to, word),
         Some(at) => around_replaced(out, &from[..at], behind(from, at + 1), to, word),
     }
@@ -184,6 +236,7 @@ fn suffixed(out: &mut Vec<u8>, from: &[u8], to: &[u8], word: &[u8]) -> Result<bo
 
 fn substituted(
     out: &mut Vec<u8>,
+    search: &Search<'_>,
     from: &[u8],
     to: &[u8],
     at_start: bool,
@@ -191,6 +244,7 @@ fn substituted(
     all: bool,
     word: &[u8],
 ) -> Result<bool, ModFault>
+    requires { at_start ≡ false → at_end ≡ false → search.now.finder ≡ from.now }
     ensures { Agrees no_memory (λ is. (is, out.new.items)) result (pushed_if out.old.items
         (spec.substituted from.now to.now at_start at_end all word.now)) }
 {
@@ -198,12 +252,18 @@ fn substituted(
         (true, true) => whole_replaced(out, from, to, word),
         (true, false) => start_replaced(out, from, to, word),
         (false, true) => end_replaced(out, from, to, word),
-        (false, false) => replaced_within(out, from, to, all, word),
+        (false, false) => replaced_within(out, &search.finder, from, to, all, word),
     }
 }
 
 // Puts what a word becomes behind other bytes, unless it stays, and tells whether it did.
-fn changed_word(out: &mut Vec<u8>, change: Change<'_>, word: &[u8]) -> Result<bool, ModFault>
+fn changed_word(
+    out: &mut Vec<u8>,
+    change: Change<'_>,
+    search: &Search<'_>,
+    word: &[u8],
+) -> Result<bool, ModFault>
+    requires { IsSearchFor change search.now.finder search.now.percent }
     ensures { Agrees no_memory (λ is. (is, out.new.items)) result
         (pushed_if out.old.items (changed_word change.entry word.now)) }
 {
@@ -214,8 +274,8 @@ fn changed_word(out: &mut Vec<u8>, change: Change<'_>, word: &[u8]) -> Result<bo
             at_start,
             at_end,
             all,
-        } => substituted(out, from, to, at_start, at_end, all, word),
-        Change::Suffix { from, to } => suffixed(out, from, to, word),
+        } => substituted(out, search, from, to, at_start, at_end, all, word),
+        Change::Suffix { from, to } => suffixed(out, search, from, to, word),
         Change::Case { small } => recased(out, small, word),
     }
 }
@@ -226,10 +286,12 @@ fn changed_piece(
     region: &Region,
     out: &mut Vec<u8>,
     change: Change<'_>,
+    search: &Search<'_>,
     ready: bool,
     word: Piece,
 ) -> Result<(Piece, bool), ModFault>
-    requires { word.end ≤ length region.now.bytes }
+    requires word { word.end ≤ length region.now.bytes }
+    requires search { IsSearchFor change search.now.finder search.now.percent }
     ensures shown { IfOk result (λ new. bytes_of (region.now.bytes ++ out.new.items) new.0
         ≡ spec.word_changed ready (changed_word change.entry) (bytes_of region.now.bytes word)) }
     ensures changed { IfOk result (λ new. new.1
@@ -247,7 +309,7 @@ fn changed_piece(
         return Ok((word, false));
     }
     let start = region.len() + out.len();
-    if !changed_word(out, change, shown(region, word))? {
+    if !changed_word(out, change, search, shown(region, word))? {
         return Ok((word, false));
     }
     let end = region.len() + out.len();
@@ -281,11 +343,12 @@ pub fn change_words(
         (texts_of region.old.bytes words.now)) }
     ensures early { IfErr result IsEarly }
 {
+    let search = search_for(change);
     let mut out = Vec::new(alloc);
     let mut pieces = Vec::with_capacity(alloc, words.len())?;
     let mut ready = true;
     for word in words {
-        let (piece, is_changed) = changed_piece(region, &mut out, change, ready, *word)?;
+        let (piece, is_changed) = changed_piece(region, &mut out, change, &search, ready, *word)?;
         pieces.push(piece)?;
         ready = is_ready_for_more(ready, once, is_changed);
     }

@@ -210,6 +210,6 @@ pub fn task<F: Facts>(
         lines: lines?,
         cwd: Text::from_bytes(alloc, made.scopes.cwd())?,
         target: Text::from_bytes(alloc, plan.name(n))?,
-        exports: made.mode.exports.copy(alloc)?,
+        exports: made.mode.exports.share()?,
     })
 }

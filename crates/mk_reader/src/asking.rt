@@ -89,7 +89,7 @@ fn command_to_run(
         cmd ≡ record { text = text; cwd = directory.now; exports = exports.now }) }
 {
     let cwd = Text::from_bytes(alloc, directory)?;
-    let exports = exports.copy(alloc)?;
+    let exports = exports.share()?;
     Ok(Cmd { text, cwd, exports })
 }
 

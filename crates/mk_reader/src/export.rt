@@ -49,7 +49,7 @@ impl<'a, W: World, S: Sink> Reader<'a, W, S> {
     {
         let names = self.state.made.exports.names(alloc)?;
         let pairs = self.all_exported(alloc, &names)?;
-        Ok(Exported::new(pairs))
+        Ok(Exported::new(alloc, pairs)?)
     }
 
     /// Exports the variables that the words of a text's value name.

@@ -5,3 +5,4 @@ pub mod Logs
 pub mod PieceSizes
 pub mod Sights
 pub mod Statuses
+pub mod Stops

@@ -9,8 +9,8 @@ ghost use Rattle.mk_realworld.specs.Statuses as statuses;
 use crate::child_files::log_file;
 use crate::file::{plain_text, remove_file};
 use crate::output::Output;
-use crate::refusal::Refusal;
-use crate::shell::{Streams, connect, shell};
+use crate::refusal::{Reason, Refusal};
+use crate::shell::{Streams, check_exports, connect, shell};
 use crate::system::System;
 use mk_bytes::{NoMemory, Text};
 use mk_filemon::read_log;
@@ -101,6 +101,7 @@ impl<P: OpenProcess + Drop> RealKid<P> {
         ensures times { system.new.times ≡ system.old.times }
         ensures ticket { IfOk result (λ kid. kid ≡ ticket.0) }
     {
+        check_exports(&mut system.named, cmd.exports.as_slice())?;
         let rt = &system.rt;
         let directory = system.room.enter(rt, &mut system.named)?;
         let log = log_file(rt.alloc(), directory.bytes(), ticket.0)?;
@@ -145,16 +146,19 @@ impl<P: OpenProcess + Drop> RealKid<P> {
         Ok(status_of(self.child.wait()?))
     }
 
-    // The text of its log, where a plain file stands there, which is removed.
+    // The text of its log, where a plain file stands there, which is removed. One above 64 MiB is none.
     fn take_log<R: Files + AllocGlobal>(
         &self,
         system: &mut System<R>,
     ) -> Result<Option<Text>, Refusal> {
         let path = self.log.bytes();
-        let log = plain_text(&system.rt, system.buffer.as_mut_slice(), path)?;
-        if log.is_some() {
-            remove_file(&system.rt, path)?;
-        }
+        let log = match plain_text(&system.rt, system.buffer.as_mut_slice(), path) {
+            Ok(None) => return Ok(None),
+            Ok(log) => log,
+            Err(Refusal::Outside(Reason::TooLong)) => None,
+            Err(refusal) => return Err(refusal),
+        };
+        remove_file(&system.rt, path)?;
         Ok(log)
     }
 

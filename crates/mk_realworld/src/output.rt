@@ -70,11 +70,6 @@ impl Output {
         }
     }
 
-    /// Whether nobody can write into it any more.
-    pub fn is_over(&self) -> bool {
-        self.reader.is_none()
-    }
-
     fn add(&mut self, bytes: &[u8]) -> Result<(), Refusal> {
         if bytes.len() > MAX_FILE.saturating_sub(self.text.len()) {
             return Err(Refusal::Outside(Reason::TooLong));

@@ -3,9 +3,10 @@ ghost use Rattle.std.specs.Prelude.{◌≡◌, [], ◌∷◌, ◌++◌, Some, co
 ghost use Rattle.std.specs.Process.{command_program, command_args, command_var, SameProgramAndArgs};
 ghost use Rattle.mk_realworld.specs.Commands.{words_of};
 
-use crate::refusal::Refusal;
+use crate::named::Named;
+use crate::refusal::{Reason, Refusal};
 use crate::setting::Setting;
-use mk_bytes::{Pairs, Text, Texts};
+use mk_bytes::{Pair, Text, Texts};
 use mk_world::Cmd;
 use std::alloc::Global;
 use std::io::PipeWriter;
@@ -84,18 +85,29 @@ fn equip(shell: &mut Command, setting: &Setting, log: &Text, cmd: &Cmd) -> Resul
         ≡ Some (Some log.now)) }
 {
     shell.arg("-c")?.arg(str::from_utf8(cmd.text.bytes())?)?;
-    export(shell, &setting.variables)?;
-    export(shell, &cmd.exports)?;
+    export(shell, setting.variables.as_slice())?;
+    export(shell, cmd.exports.as_slice())?;
     pass_on(shell, setting)?;
     shell.env(LOG, str::from_utf8(log.bytes())?)?;
     Ok(())
 }
 
+/// Whether the values of variables can be said to the system. The first that cannot is named.
+pub fn check_exports(named: &mut Named, variables: &[Pair]) -> Result<(), Refusal> {
+    for pair in variables {
+        if str::from_utf8(pair.value.bytes()).is_err() {
+            named.name(b"export", pair.name.bytes(), Reason::NotText);
+            return Err(Refusal::Outside(Reason::NotText));
+        }
+    }
+    Ok(())
+}
+
 // Gives a shell variables.
-fn export(shell: &mut Command, variables: &Pairs) -> Result<(), Refusal>
+fn export(shell: &mut Command, variables: &[Pair]) -> Result<(), Refusal>
     ensures { OnOk result (SameProgramAndArgs shell.old shell.new) }
 {
-    for pair in variables.as_slice() {
+    for pair in variables {
         shell.env(
             str::from_utf8(pair.name.bytes())?,
             str::from_utf8(pair.value.bytes())?,

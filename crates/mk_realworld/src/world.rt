@@ -1,6 +1,9 @@
-ghost use Rattle.std.specs.Prelude.{◌≡◌, ◌<◌, ◌≤◌, IfOk};
-ghost use Rattle.mk_world.specs.Causes.{Rose};
+ghost use Rattle.std.specs.Prelude.{◌≡◌, ◌++◌, ◌∷◌, ◌<◌, ◌≤◌, [], None, length, nat_eq, false, IsSome, IfOk, OnOk, OnErr};
+ghost use Rattle.std.specs.List.{list_any};
+ghost use Rattle.mk_world.specs.Calls.{TakenOut};
+ghost use Rattle.mk_world.specs.Causes.{HasCause, Rose};
 ghost use Rattle.mk_world.specs.declared.fault.WorldFault.TheVariants.{Failed};
+ghost use Rattle.mk_realworld.specs.Stops.{Stops};
 
 use crate::child::RealKid;
 use crate::file::file_text;
@@ -21,11 +24,14 @@ use std::process::Processes;
 use std::time::Clock;
 
 /// The files and processes of the system. Relative paths are taken from the process's current
-/// directory, and children run in it.
+/// directory, and children run in it. A call that is refused is the last one: behind it each further
+/// call is refused and does nothing, but that `abandon` ends the children that run.
 #[derive(Drop)]
 pub struct RealWorld<R: Files + Processes + Clock + AllocGlobal> {
     system: System<R>,
     faults: u64,
+    // Why a call was refused, behind which no call does anything.
+    stopped: Option<Refusal>,
 }
 
 impl<R: Files + Processes + Clock + AllocGlobal + Drop> RealWorld<R> {
@@ -45,14 +51,32 @@ impl<R: Files + Processes + Clock + AllocGlobal + Drop> RealWorld<R> {
         ensures { IfOk result (λ world. world.faults ≡ 0) }
     {
         let system = System::new(rt, setting, Room::new(place), Named::new(stderr))?;
-        Ok(RealWorld { system, faults: 0 })
+        Ok(RealWorld {
+            system,
+            faults: 0,
+            stopped: None,
+        })
     }
 }
 
 impl<R: Files + Processes + Clock + AllocGlobal> RealWorld<R> {
-    // The answer of a call that is refused: where the outside refused, it is counted, and the first such
-    // call is named.
+    // Whether a call may do something: behind one that was refused none does, and is refused as that was.
+    fn go_on(&mut self) -> Result<(), WorldFault>
+        ensures same { self.new.system ≡ self.old.system }
+        ensures ok { OnOk result (self.old.stopped ≡ None) }
+        ensures err { OnErr result (IsSome self.new.stopped) }
+        ensures cause { HasCause Failed self.old.faults self.new.faults result }
+    {
+        match self.stopped {
+            None => Ok(()),
+            Some(refusal) => Err(counted(refusal, &mut self.faults)),
+        }
+    }
+
+    // The answer of a call that is refused, which is the last: where the outside refused, it is counted,
+    // and the first such call is named.
     fn refused(&mut self, call: &[u8], path: &[u8], refusal: Refusal) -> WorldFault
+        ensures stops { IsSome self.new.stopped }
         ensures kept { self.old.faults ≤ self.new.faults }
         ensures answered { self.old.faults < self.new.faults → result ≡ Failed }
         ensures rose { result ≡ Failed → Rose self.old.faults self.new.faults }
@@ -60,11 +84,13 @@ impl<R: Files + Processes + Clock + AllocGlobal> RealWorld<R> {
         if let Refusal::Outside(reason) = refusal {
             self.system.named.name(call, path, reason);
         }
+        self.stopped = Some(refusal);
         counted(refusal, &mut self.faults)
     }
 
     // The same of a call that is about a child.
     fn refused_child(&mut self, call: &[u8], refusal: Refusal) -> WorldFault
+        ensures stops { IsSome self.new.stopped }
         ensures kept { self.old.faults ≤ self.new.faults }
         ensures answered { self.old.faults < self.new.faults → result ≡ Failed }
         ensures rose { result ≡ Failed → Rose self.old.faults self.new.faults }
@@ -72,6 +98,7 @@ impl<R: Files + Processes + Clock + AllocGlobal> RealWorld<R> {
         if let Refusal::Outside(reason) = refusal {
             self.system.name_child(call, reason);
         }
+        self.stopped = Some(refusal);
         counted(refusal, &mut self.faults)
     }
 }
@@ -97,7 +124,12 @@ impl<R: Files<File = File> + Processes + Clock + AllocGlobal + Clone + Drop> Wor
     /// The bytes of a file. A directory, an unreadable file, one above 64 MiB and a path that is not
     /// UTF-8 are counted faults; a path below a plain file is a missing file, and so is a pipe with a name
     /// that stands at the path of a meta file, which nobody would ever end.
-    fn read(&mut self, _: Global, path: &[u8]) -> Result<Option<Text>, WorldFault> {
+    fn read(&mut self, _: Global, path: &[u8]) -> Result<Option<Text>, WorldFault>
+        ensures cause { HasCause Failed self.old.faults self.new.faults result }
+        ensures stops { Stops self.old.stopped self.new.stopped
+            (self.new.system ≡ self.old.system) result }
+    {
+        self.go_on()?;
         match self.system.read(path) {
             Ok(text) => Ok(text),
             Err(refusal) => Err(self.refused(b"read", path, refusal)),
@@ -107,7 +139,12 @@ impl<R: Files<File = File> + Processes + Clock + AllocGlobal + Clone + Drop> Wor
     /// The time of a file or directory, in nanoseconds. While no child runs, the system is asked once for
     /// a path, until make changes a file or starts a child. A time that is more than two seconds later
     /// than the system's clock is unknown, and so is all that the system does not tell.
-    fn time(&mut self, _: Global, path: &[u8]) -> Result<When, WorldFault> {
+    fn time(&mut self, _: Global, path: &[u8]) -> Result<When, WorldFault>
+        ensures cause { HasCause Failed self.old.faults self.new.faults result }
+        ensures stops { Stops self.old.stopped self.new.stopped
+            (self.new.system ≡ self.old.system) result }
+    {
+        self.go_on()?;
         match self.system.see(path) {
             Ok(sight) => Ok(sight.time),
             Err(refusal) => Err(self.refused(b"stat", path, refusal)),
@@ -116,7 +153,12 @@ impl<R: Files<File = File> + Processes + Clock + AllocGlobal + Clone + Drop> Wor
 
     /// The later of the times of a file's bytes and of its inode, as `time`: an older file that is moved to
     /// its path has a new time then.
-    fn changed(&mut self, _: Global, path: &[u8]) -> Result<When, WorldFault> {
+    fn changed(&mut self, _: Global, path: &[u8]) -> Result<When, WorldFault>
+        ensures cause { HasCause Failed self.old.faults self.new.faults result }
+        ensures stops { Stops self.old.stopped self.new.stopped
+            (self.new.system ≡ self.old.system) result }
+    {
+        self.go_on()?;
         match self.system.see(path) {
             Ok(sight) => Ok(sight.changed),
             Err(refusal) => Err(self.refused(b"stat", path, refusal)),
@@ -133,7 +175,13 @@ impl<R: Files<File = File> + Processes + Clock + AllocGlobal + Clone + Drop> Wor
         path: &[u8],
         head: &[u8],
         after: Time,
-    ) -> Result<Time, WorldFault> {
+    ) -> Result<Time, WorldFault>
+        ensures later { IfOk result (λ time. after.0 < time.0) }
+        ensures cause { HasCause Failed self.old.faults self.new.faults result }
+        ensures stops { Stops self.old.stopped self.new.stopped
+            (self.new.system ≡ self.old.system) result }
+    {
+        self.go_on()?;
         match write_later(&mut self.system, path, head, after) {
             Ok(time) => Ok(time),
             Err(refusal) => Err(self.refused(b"write", path, refusal)),
@@ -141,13 +189,13 @@ impl<R: Files<File = File> + Processes + Clock + AllocGlobal + Clone + Drop> Wor
     }
 
     /// Writes a whole file, as `stamp` does.
-    fn put(
-        &mut self,
-        _: Global,
-        path: &[u8],
-        bytes: &[u8],
-        after: Time,
-    ) -> Result<Time, WorldFault> {
+    fn put(&mut self, _: Global, path: &[u8], bytes: &[u8], after: Time) -> Result<Time, WorldFault>
+        ensures later { IfOk result (λ time. after.0 < time.0) }
+        ensures cause { HasCause Failed self.old.faults self.new.faults result }
+        ensures stops { Stops self.old.stopped self.new.stopped
+            (self.new.system ≡ self.old.system) result }
+    {
+        self.go_on()?;
         match write_later(&mut self.system, path, bytes, after) {
             Ok(time) => Ok(time),
             Err(refusal) => Err(self.refused(b"write", path, refusal)),
@@ -155,7 +203,12 @@ impl<R: Files<File = File> + Processes + Clock + AllocGlobal + Clone + Drop> Wor
     }
 
     /// Removes a file. A directory is a counted fault.
-    fn remove(&mut self, _: Global, path: &[u8]) -> Result<(), WorldFault> {
+    fn remove(&mut self, _: Global, path: &[u8]) -> Result<(), WorldFault>
+        ensures cause { HasCause Failed self.old.faults self.new.faults result }
+        ensures stops { Stops self.old.stopped self.new.stopped
+            (self.new.system ≡ self.old.system) result }
+    {
+        self.go_on()?;
         match remove(&mut self.system, path) {
             Ok(()) => Ok(()),
             Err(refusal) => Err(self.refused(b"remove", path, refusal)),
@@ -165,7 +218,13 @@ impl<R: Files<File = File> + Processes + Clock + AllocGlobal + Clone + Drop> Wor
     /// Runs `/bin/sh -c` with the command to its end, behind the words of a recorder, where there is one.
     /// Standard error is that of make, and what is printed on standard output comes by a pipe, as in
     /// `start`. Where no child runs, the directory of logs is removed behind it.
-    fn ask(&mut self, _: Global, cmd: &Cmd) -> Result<Ended, WorldFault> {
+    fn ask(&mut self, _: Global, cmd: &Cmd) -> Result<Ended, WorldFault>
+        ensures ticket { IfOk result (λ ended. ended.ticket.0 ≡ 0) }
+        ensures cause { HasCause Failed self.old.faults self.new.faults result }
+        ensures stops { Stops self.old.stopped self.new.stopped
+            (self.new.system ≡ self.old.system) result }
+    {
+        self.go_on()?;
         let answer = run(&mut self.system, cmd);
         self.system.leave_if_idle();
         match answer {
@@ -185,7 +244,17 @@ impl<R: Files<File = File> + Processes + Clock + AllocGlobal + Clone + Drop> Wor
         ticket: Ticket,
         _: Time,
         cmd: &Cmd,
-    ) -> Result<(), WorldFault> {
+    ) -> Result<(), WorldFault>
+        requires room { length kids.old.tickets < kids.old.room }
+        requires fresh { list_any (nat_eq ticket.0) kids.old.tickets ≡ false }
+        ensures added { OnOk result (kids.new.tickets ≡ kids.old.tickets ++ ticket.0 ∷ []) }
+        ensures same { OnErr result (kids.new ≡ kids.old) }
+        ensures same_room { kids.new.room ≡ kids.old.room }
+        ensures cause { HasCause Failed self.old.faults self.new.faults result }
+        ensures stops { Stops self.old.stopped self.new.stopped
+            (self.new.system ≡ self.old.system) result }
+    {
+        self.go_on()?;
         match RealKid::start(&mut self.system, Streams::Both, ticket, cmd) {
             Ok(kid) => {
                 kids.add(ticket, kid);
@@ -202,7 +271,17 @@ impl<R: Files<File = File> + Processes + Clock + AllocGlobal + Clone + Drop> Wor
         &mut self,
         _: Global,
         kids: &mut Kids<RealKid<R::Started>>,
-    ) -> Result<Ended, WorldFault> {
+    ) -> Result<Ended, WorldFault>
+        requires some { 0 < length kids.old.tickets }
+        ensures taken { IfOk result
+            (λ ended. TakenOut ended.ticket.0 kids.old.tickets kids.new.tickets) }
+        ensures same { OnErr result (kids.new ≡ kids.old) }
+        ensures same_room { kids.new.room ≡ kids.old.room }
+        ensures cause { HasCause Failed self.old.faults self.new.faults result }
+        ensures stops { Stops self.old.stopped self.new.stopped
+            (self.new.system ≡ self.old.system) result }
+    {
+        self.go_on()?;
         match wait_over(&mut self.system, kids) {
             Ok(over) => {
                 let (ticket, kid) = kids.take(over.place);

@@ -15,6 +15,10 @@ abbrev pub is_run : Act → Bool
 is_run (act.Runs name) = true
 is_run other = false
 
+abbrev pub says_nothing : Act → Bool
+says_nothing act.Nothing = true
+says_nothing other = false
+
 -- a command begins in its directory, behind some touches, with one process
 abbrev pub beginning : List ℕ → List Touched → List ℕ → State
 beginning directory before process = record {
@@ -37,9 +41,12 @@ judged_from directory before first events =
     if is_run first.act then records_behind events (beginning directory before first.process)
     else None
 
--- The records of a command that begins in a directory, behind some touches. Its first event is the
--- program that is run; each process is begun before or by a call that has not ended, it is known where
+-- The records of a command that begins in a directory, behind some touches. Its first event that says
+-- something is the program that is run (its call may go on behind lines of others, and says nothing where
+-- it begins); each process is begun before or by a call that has not ended, it is known where
 -- all names lead, and in the end no process runs.
 abbrev pub judged : List ℕ → List Touched → List Event → Option (List Record)
 judged directory before [] = None
-judged directory before (event ∷ events) = judged_from directory before event (event ∷ events)
+judged directory before (event ∷ events) =
+    if says_nothing event.act then judged directory before events
+    else judged_from directory before event (event ∷ events)

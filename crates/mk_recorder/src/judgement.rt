@@ -32,6 +32,12 @@ fn is_run(act: &Act) -> bool
     matches!(act, Act::Runs(_))
 }
 
+fn says_nothing(act: &Act) -> bool
+    ensures { result ≡ spec.says_nothing act.now }
+{
+    matches!(act, Act::Nothing)
+}
+
 // The state in which a command begins, in its directory, behind these touches.
 fn beginning(
     alloc: Global,
@@ -97,9 +103,29 @@ fn judge_from(
     records
 }
 
+// The records of a command by these events, of which the first may say nothing.
+fn judge_all(
+    alloc: Global,
+    directory: &[u8],
+    before: &Touches,
+    events: &[Event],
+) -> Result<Option<Records>, NoMemory>
+    ensures { IfOk result (λ records. records
+        ≡ spec.judged directory.now before.now events.now) }
+{
+    let mut rest = events;
+    'quiet: while let [event, after @ ..] = rest {
+        if !says_nothing(&event.act) {
+            return judge_from(alloc, directory, before, event, rest);
+        }
+        rest = after;
+    }
+    Ok(None)
+}
+
 /// The records of a command that begins in a directory, behind these touches: each path once, with what
-/// the command read, missed, wrote and took away. `None` where the first event is no program that is
-/// run, a process does something that does not run, it is not known where a name leads, or a process
+/// the command read, missed, wrote and took away. `None` where the first event that says something is no
+/// program that is run, a process does something that does not run, it is not known where a name leads, or a process
 /// runs on. The time is linear in the events but for directories that are moved.
 pub fn judge(
     alloc: Global,
@@ -110,8 +136,5 @@ pub fn judge(
     ensures { IfOk result (λ records. records
         ≡ spec.judged directory.now before.now events.now) }
 {
-    match events.as_slice().first() {
-        Some(first) => judge_from(alloc, directory, before, first, events.as_slice()),
-        None => Ok(None),
-    }
+    judge_all(alloc, directory, before, events.as_slice())
 }

@@ -1,4 +1,5 @@
 pub mod EndLemmas
 pub mod FoldLemmas
+pub mod KeepLemmas
 pub mod ModeLemmas
 pub mod SuffixLemmas

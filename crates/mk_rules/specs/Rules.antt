@@ -1,6 +1,6 @@
 -- What dependency lines leave.
 use denote.Ref.{Bor}
-use Rattle.std.specs.Prelude.{ℕ, ◌==◌, ◌||◌, ◌&&◌, Bool, false, not, List, [], ◌∷◌, length, Option, Some}
+use Rattle.std.specs.Prelude.{◌≡◌, ◌≤◌, take, ℕ, ◌==◌, ◌||◌, ◌&&◌, Bool, false, not, List, [], ◌∷◌, length, Option, Some}
 use Rattle.std.specs.Prelude.{None, if◌then◌else◌, nat_eq, nat_le}
 use Rattle.std.specs.List.{list_any}
 use Rattle.mk_bytes.specs.Bytes.{dot}
@@ -90,6 +90,16 @@ first_main nodes [] = []
 first_main nodes (n ∷ more) =
     if may_be_main (node_at nodes n) then (node_at nodes n).name ∷ []
     else first_main nodes more
+
+-- none of these nodes may be a main target
+abbrev pub ArePassed : List Node → List ℕ → Type 0
+ArePassed nodes [] = Unit {0}
+ArePassed nodes (n ∷ more) = (may_be_main (node_at nodes n) ≡ false) × ArePassed nodes more
+
+-- nor any of the first ones, so many of them
+pub record HavePassed (nodes : List Node) (targets : List ℕ) (count : ℕ) : Type 0 where
+  pub within : count ≤ length targets
+  pub none : ArePassed nodes (take count targets)
 
 -- a name, if there is one
 abbrev pub shown_main : Option (Bor (List ℕ)) → List (List ℕ)

@@ -112,7 +112,7 @@ impl Rules {
             }
             Ok(main) => Ok(Finished {
                 graph,
-                suffixes: self.suffixes,
+                suffixes: self.suffixes.into_known(),
                 main,
                 one_job: self.one_job,
                 delete_on_error: self.delete_on_error,

@@ -11,9 +11,9 @@ use crate::fault::RuleFault;
 use crate::names::{add_all_sources, all_named, mark_all, order_neighbours};
 use crate::rules::Rules;
 use crate::source::{meet_all, take_attributes};
-use crate::suffixes::add_suffixes;
+use crate::suffixes::Suffixes;
 use indexmap::IndexSet;
-use mk_bytes::{Items, NoMemory, Text, Texts};
+use mk_bytes::{NoMemory, Text, Texts};
 use mk_depline::{DepLine, Special};
 use mk_graph::{Attr, Graph, Nodes};
 use std::alloc::Global;
@@ -141,7 +141,7 @@ fn names_at(alloc: Global, graph: &Graph, nodes: &[u32], names: &mut Texts) -> R
 impl Rules {
     // Reads a line of targets, with their sources and attributes. Those that may be main targets are
     // listed.
-    #[tactic(auto, using(crate::proofs::FoldLemmas::below_more, crate::proofs::FoldLemmas::ruled_grown))]
+    #[tactic(auto, using(crate::proofs::FoldLemmas::below_more, crate::proofs::FoldLemmas::ruled_grown, crate::proofs::KeepLemmas::passed_none))]
     fn read_targets(&mut self, listed: bool, line: &DepLine) -> Result<(), RuleFault>
         ensures done { OnOk result (spec.targets_read listed self.old line.now ≡ Ok self.new) }
         ensures refused { IfErr result (λ fault.
@@ -150,6 +150,7 @@ impl Rules {
         if any_otherwise(&self.graph, line.remake, &line.targets) {
             return Err(RuleFault::Operators);
         }
+        self.passed = 0;
         let targets = all_named(self.alloc, &mut self.graph, &line.targets)?;
         let sources = meet_all(self.alloc, &mut self.graph, &line.sources)?;
         let targets = targets.as_slice();
@@ -167,39 +168,42 @@ impl Rules {
         Ok(())
     }
 
-    #[tactic(auto, using(crate::proofs::FoldLemmas::below_more, crate::proofs::FoldLemmas::ruled_grown))]
+    #[tactic(auto, using(crate::proofs::FoldLemmas::below_more, crate::proofs::FoldLemmas::ruled_grown, crate::proofs::KeepLemmas::passed_none))]
     fn read_main(&mut self, line: &DepLine) -> Result<(), RuleFault>
         ensures done { OnOk result
             (spec.sources_read self.old line.now (spec.with_main self.old) ≡ Ok self.new) }
         ensures refused { IfErr result (λ fault. AgreesErr no_memory fault
             (spec.sources_read self.old line.now (spec.with_main self.old))) }
     {
+        self.passed = 0;
         let sources = meet_all(self.alloc, &mut self.graph, &line.sources)?;
         names_at(self.alloc, &self.graph, sources.as_slice(), &mut self.main)?;
         forget(self.alloc, &mut self.group);
         Ok(())
     }
 
-    #[tactic(auto, using(crate::proofs::FoldLemmas::below_more, crate::proofs::FoldLemmas::ruled_grown))]
+    #[tactic(auto, using(crate::proofs::FoldLemmas::below_more, crate::proofs::FoldLemmas::ruled_grown, crate::proofs::KeepLemmas::passed_none))]
     fn read_order(&mut self, line: &DepLine) -> Result<(), RuleFault>
         ensures done { OnOk result
             (spec.sources_read self.old line.now (spec.with_orders self.old) ≡ Ok self.new) }
         ensures refused { IfErr result (λ fault. AgreesErr no_memory fault
             (spec.sources_read self.old line.now (spec.with_orders self.old))) }
     {
+        self.passed = 0;
         let sources = meet_all(self.alloc, &mut self.graph, &line.sources)?;
         order_neighbours(&mut self.graph, sources.as_slice())?;
         forget(self.alloc, &mut self.group);
         Ok(())
     }
 
-    #[tactic(auto, using(crate::proofs::FoldLemmas::below_more, crate::proofs::FoldLemmas::ruled_grown))]
+    #[tactic(auto, using(crate::proofs::FoldLemmas::below_more, crate::proofs::FoldLemmas::ruled_grown, crate::proofs::KeepLemmas::passed_none))]
     fn read_marks(&mut self, attr: Attr, line: &DepLine) -> Result<(), RuleFault>
         ensures done { OnOk result
             (spec.sources_read self.old line.now (spec.with_marks attr self.old) ≡ Ok self.new) }
         ensures refused { IfErr result (λ fault. AgreesErr no_memory fault
             (spec.sources_read self.old line.now (spec.with_marks attr self.old))) }
     {
+        self.passed = 0;
         let sources = meet_all(self.alloc, &mut self.graph, &line.sources)?;
         mark_all(&mut self.graph, attr, sources.as_slice());
         forget(self.alloc, &mut self.group);
@@ -210,9 +214,9 @@ impl Rules {
         ensures { OnOk result (self.new ≡ spec.passed_over (spec.with_suffixes self.old line.now)) }
     {
         if line.sources.is_empty() {
-            self.suffixes = Items::new(self.alloc, 0)?;
+            self.suffixes = Suffixes::new(self.alloc)?;
         }
-        add_suffixes(self.alloc, &mut self.suffixes, &line.sources)?;
+        self.suffixes.add_all(self.alloc, &line.sources)?;
         forget(self.alloc, &mut self.group);
         Ok(())
     }
@@ -266,9 +270,12 @@ impl Rules {
         ensures refused { IfErr result (λ fault.
             AgreesErr no_memory fault (spec.line_read self.old line.now)) }
     {
+        let passed = self.passed;
         match line.special {
-            Some(special) => self.read_special(special, line),
-            None => self.read_targets(true, line),
+            Some(special) => self.read_special(special, line)?,
+            None => self.read_targets(true, line)?,
         }
+        self.pass(passed);
+        Ok(())
     }
 }

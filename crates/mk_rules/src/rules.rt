@@ -8,6 +8,7 @@ ghost use Rattle.mk_graph.specs.Numbers.{AreBelow};
 ghost use Rattle.mk_rules.specs.Ends as ends;
 ghost use Rattle.mk_rules.specs.Rules as spec;
 
+use crate::suffixes::Suffixes;
 use indexmap::IndexSet;
 use mk_bytes::{Items, NoMemory, Text, Texts};
 use mk_graph::{Attr, Graph, Nodes};
@@ -24,22 +25,24 @@ pub struct Everywhere {
 
 /// What the dependency lines so far leave: the graph of nodes, the known suffixes, the sources of
 /// `.MAIN`, the nodes that stood as targets, what holds of every target and of the build, and the
-/// targets that take the command lines behind the last line.
+/// targets that take the command lines behind the last line. Of the targets so many first ones are kept
+/// that can be no main target any more.
 #[derive(Drop)]
 pub struct Rules {
     pub(crate) alloc: Global,
     pub(crate) graph: Graph,
-    pub(crate) suffixes: Texts,
+    pub(crate) suffixes: Suffixes,
     pub(crate) main: Texts,
     pub(crate) targets: Nodes,
     pub(crate) everywhere: Everywhere,
     pub(crate) one_job: bool,
     pub(crate) delete_on_error: bool,
     pub(crate) group: IndexSet<u32>,
+    pub(crate) passed: usize,
 }
 
 impl Model for Rules {
-    ghost use Rattle.mk_rules.specs.Rules.{IsRuled, Ruled};
+    ghost use Rattle.mk_rules.specs.Rules.{HavePassed, IsRuled, Ruled};
     ghost use Rattle.mk_rules.specs.View.{ruled_in};
 
     ghost Value = { Ruled };
@@ -50,7 +53,7 @@ impl Model for Rules {
 
     ghost invariant = { λ rules. IsRuled (ruled_in rules.graph rules.suffixes rules.main rules.targets
         rules.everywhere rules.one_job rules.delete_on_error
-        rules.group.keys) };
+        rules.group.keys) × HavePassed rules.graph rules.targets rules.passed };
 }
 
 impl Rules {
@@ -60,7 +63,7 @@ impl Rules {
     {
         Ok(Rules {
             alloc,
-            suffixes: Items::new(alloc, 0)?,
+            suffixes: Suffixes::new(alloc)?,
             main: Items::new(alloc, 0)?,
             targets: Items::new(alloc, 0)?,
             graph: Graph::new(alloc)?,
@@ -72,6 +75,7 @@ impl Rules {
             one_job: false,
             delete_on_error: false,
             group: IndexSet::new(alloc),
+            passed: 0,
         })
     }
 
@@ -86,7 +90,7 @@ impl Rules {
     pub fn suffixes(&self) -> &Texts
         ensures { result.now ≡ self.now.suffixes }
     {
-        &self.suffixes
+        self.suffixes.known()
     }
 
     /// The sources of `.MAIN` so far. Takes no memory.
@@ -101,7 +105,7 @@ impl Rules {
     pub fn first_main(&self) -> Option<&[u8]>
         ensures { spec.shown_main result ≡ spec.first_main self.now.nodes self.now.targets }
     {
-        first_main(&self.graph, self.targets.as_slice())
+        first_main(&self.graph, &self.targets.as_slice()[self.passed..])
     }
 
     /// Whether one job runs at a time. Takes no memory.
@@ -123,7 +127,19 @@ impl Rules {
     pub fn add_command(&mut self, text: &[u8]) -> Result<(), NoMemory>
         ensures { OnOk result (self.new ≡ spec.commanded self.old text.now) }
     {
-        add_to_all(&mut self.graph, self.group.as_slice(), text)
+        let passed = self.passed;
+        self.passed = 0;
+        add_to_all(&mut self.graph, self.group.as_slice(), text)?;
+        self.passed = passed;
+        Ok(())
+    }
+
+    // Passes over the targets that are no main ones, from one on before which all are such.
+    pub(crate) fn pass(&mut self, from: usize)
+        requires { spec.HavePassed self.old.nodes self.old.targets from }
+        ensures { self.new ≡ self.old }
+    {
+        self.passed = passed_on(&self.graph, self.targets.as_slice(), from);
     }
 }
 
@@ -177,6 +193,22 @@ fn may_be_main(graph: &Graph, n: u32) -> bool
     ensures { result ≡ spec.may_be_main (node_at graph.now n) }
 {
     is_plain(graph, n) && !is_reserved(graph.name(n))
+}
+
+// How many first targets are no main ones, where so many were passed over.
+fn passed_on(graph: &Graph, targets: &[u32], from: usize) -> usize
+    requires targets { AreBelow (length graph.now) targets.now }
+    requires passed { spec.HavePassed graph.now targets.now from }
+    ensures { spec.HavePassed graph.now targets.now result }
+{
+    let mut at = from;
+    'targets: while at < targets.len() {
+        if may_be_main(graph, targets[at]) {
+            return at;
+        }
+        at += 1;
+    }
+    at
 }
 
 /// The first of some nodes that is neither a rule nor a macro nor marked as no main target, and whose

@@ -1,11 +1,14 @@
 -- The entry at a place of a map, against the pair that it stands for.
-use Rattle.std.proofs.Common.{◌≡◌, ℕ, zero, suc, Bool, true, false, List, [], ◌∷◌, ◌++◌, Some, None}
+use Rattle.std.proofs.Common.{◌≡◌, ℕ, zero, suc, ◌+◌, Bool, true, false, not, cond, List, [], ◌∷◌, ◌++◌}
+use Rattle.std.proofs.Common.{Some, None, length, arith}
+use Rattle.std.proofs.lemmas.List.{length-map}
 use Rattle.std.proofs.Common.{Option, Result, Ok, Err, OnOk, OnErr, slice_get, refl, sym, ap, ◌∙◌}
 use Rattle.std.proofs.Common.{Vec, Global}
-use Rattle.indexmap.specs.IndexMap.{set_value_at, shift_remove_entry}
+use Rattle.indexmap.specs.IndexMap.{set_value_at, swap_remove_entry}
 use Rattle.indexmap.proofs.MapLemmas.{Found-position, Missing-position}
-use Rattle.std.proofs.lemmas.Bool.{cond_both}
-use Rattle.std.specs.List.{position}
+use Rattle.indexmap.proofs.SetLemmas.{map-swap_remove}
+use Rattle.std.specs.List.{position, prefix_len, swap_remove}
+use Rattle.std.specs.Option.{option_map_or}
 use Rattle.std.specs.Map.{keys_of, values_of}
 use Rattle.std.specs.Str.{bytes_eq}
 use Rattle.mk_bytes.specs.Bytes.{space}
@@ -81,16 +84,43 @@ pub value_in-missing : (name : List ℕ) (es : Entries)
 value_in-missing name es is =
     sym (lookup-pairs name es) ∙ (Missing-position (is_named name) es is).value
 
+abbrev pair_of : Vec ℕ Global × List ℕ → Pair
+pair_of entry = record { name = entry.0.items; value = entry.1 }
+
+-- how many entries stand before a name, among the keys and among the pairs
+before_name : (name : List ℕ) (es : Entries)
+    → prefix_len (λ pair. not (bytes_eq name pair.name)) (pairs_of es)
+    ≡ prefix_len (λ key. not (is_named name key)) (keys_of es)
+before_name name [] = refl
+before_name name (e ∷ es) =
+    ap (λ n. cond (not (bytes_eq name e.0.items)) (1 + n) 0) (before_name name es)
+
+-- a name stands at the same place among the keys and among the pairs
+place_of_name : (name : List ℕ) (es : Entries)
+    → position (λ pair. bytes_eq name pair.name) (pairs_of es)
+    ≡ position (is_named name) (keys_of es)
+place_of_name name es =
+    let same : length (pairs_of es) ≡ length (keys_of es) =
+    length-map es pair_of ∙ sym (length-map es (λ e. e.0)) in
+    rw (before_name name es, same) refl
+
 -- an entry taken away is its pair taken away
 pub without-removed : (name : List ℕ) (es : Entries)
-    → pairs_of (shift_remove_entry (is_named name) es) ≡ without (pairs_of es) name
+    → pairs_of (swap_remove_entry (is_named name) es) ≡ without (pairs_of es) name
 without-removed name [] = refl
-without-removed name (e ∷ es) =
-    cond_both (bytes_eq name e.0.items) es (e ∷ shift_remove_entry (is_named name) es)
-    (λ r. pairs_of r ≡ without (pairs_of (e ∷ es)) name)
-    (λ is. rw is refl)
-    (λ is. rw is (ap (λ pairs. record { name = e.0.items; value = e.1 } ∷ pairs)
-    (without-removed name es)))
+without-removed name (e ∷ es) = by (position (is_named name) (keys_of (e ∷ es))) refl
+  where
+    by : (place : Option ℕ) → position (is_named name) (keys_of (e ∷ es)) ≡ place
+        → pairs_of (swap_remove_entry (is_named name) (e ∷ es)) ≡ without (pairs_of (e ∷ es)) name
+    by None is =
+        ap (λ place. pairs_of (option_map_or (λ i. swap_remove (e ∷ es) i e) place (e ∷ es))) is
+        ∙ sym (ap (λ place. option_map_or (λ i. swap_remove (pairs_of (e ∷ es)) i (pair_of e)) place
+        (pairs_of (e ∷ es))) (place_of_name name (e ∷ es) ∙ is))
+    by (Some i) is =
+        ap (λ place. pairs_of (option_map_or (λ n. swap_remove (e ∷ es) n e) place (e ∷ es))) is
+        ∙ map-swap_remove pair_of (e ∷ es) i e (omega arith)
+        ∙ sym (ap (λ place. option_map_or (λ n. swap_remove (pairs_of (e ∷ es)) n (pair_of e)) place
+        (pairs_of (e ∷ es))) (place_of_name name (e ∷ es) ∙ is))
 
 -- what a push to the value at a place leaves
 pub pushed_at : (es : Entries) (place : ℕ) (old value new spaced : List ℕ) (pairs : List Pair)

@@ -1,6 +1,7 @@
--- The variables of one class: each name once, in the order of first assignment.
+-- The variables of one class: each name once, a new one at the end.
 use Rattle.std.specs.Prelude.{ℕ, zero, suc, List, [], ◌∷◌, ◌++◌, Option, Some, None, if◌then◌else◌}
 use Rattle.std.specs.Str.{bytes_eq}
+use Rattle.indexmap.specs.IndexMap.{swap_remove_by}
 use Rattle.mk_bytes.specs.Bytes.{space}
 use Rattle.mk_bytes.specs.declared.pair.Pair.{Pair}
 
@@ -45,8 +46,6 @@ appended_at (pair ∷ pairs) zero value =
     record { name = pair.name; value = joined (Some pair.value) value } ∷ pairs
 appended_at (pair ∷ pairs) (suc place) value = pair ∷ appended_at pairs place value
 
--- the others keep their order where a name is taken away
+-- Where a name is taken away, the last one takes its place; no call shows the order of names.
 abbrev pub without : List Pair → List ℕ → List Pair
-without [] name = []
-without (pair ∷ pairs) name =
-    if bytes_eq name pair.name then pairs else pair ∷ without pairs name
+without pairs name = swap_remove_by (λ pair. bytes_eq name pair.name) pairs

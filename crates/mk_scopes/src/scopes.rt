@@ -25,8 +25,8 @@ pub enum Class {
     Command,
 }
 
-/// All variables of a run. Contracts see three tables, each the list of its names and values in the
-/// order of first assignment, whether the environment stands above the globals, and the directory.
+/// All variables of a run. Contracts see three tables, each the list of its names and values, each
+/// name once, whether the environment stands above the globals, and the directory.
 #[derive(Drop)]
 pub struct Scopes {
     env: Table,

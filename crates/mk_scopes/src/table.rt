@@ -7,7 +7,7 @@ use mk_bytes::{NoMemory, Text};
 use std::alloc::Global;
 use std::marker::Model;
 
-/// The variables of one class, in the order of their first assignment.
+/// The variables of one class, each name once. No call shows their order.
 #[derive(Drop)]
 pub struct Table {
     alloc: Global,
@@ -93,12 +93,12 @@ impl Table {
         self.assign(name, text.bytes())
     }
 
-    /// Takes a name and its value away, if it has one. The others keep their order. Takes no
-    /// memory.
+    /// Takes a name and its value away, if it has one. The last name takes its place, so that it
+    /// costs the same however many there are. Takes no memory.
     pub fn remove(&mut self, name: &[u8])
         ensures { self.new ≡ spec.without self.old name.now }
     {
-        self.values.shift_remove(name);
+        self.values.swap_remove(name);
     }
 }
 

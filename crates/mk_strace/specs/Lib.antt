@@ -1,5 +1,6 @@
 pub mod Acts
 pub mod Calls
+pub mod Families
 pub mod Held
 pub mod Kept
 pub mod Lines

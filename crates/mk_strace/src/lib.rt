@@ -3,6 +3,7 @@
 
 mod act;
 mod call;
+mod family;
 mod how;
 mod kept;
 mod line;
@@ -13,6 +14,7 @@ mod trace;
 
 pub use act::{Act, Outcome, act_of, is_number};
 pub use call::{Call, Form, form_of};
+pub use family::lines_of;
 pub use how::{How, Sort, how_of, sort_in};
 pub use kept::Kept;
 pub use line::{Kind, act_in, act_joined, kind_of, parts_of};

@@ -12,6 +12,7 @@ use Rattle.mk_suffix.specs.Extends.{Extends, IsHit}
 use Rattle.mk_suffix.specs.Search.{Way, way_at, way_by, reached, Leads}
 use Rattle.mk_suffix.specs.Search.{own_way}
 use Rattle.mk_suffix.specs.SearchView.{way_of}
+use Rattle.mk_suffix.specs.Table.{Rule, row, froms}
 use Rattle.mk_suffix.specs.declared.step.Step.{Step}
 use Rattle.mk_suffix.proofs.AmongLemmas.{Covers, Covers-then, Covers-cons, among-before}
 use Rattle.mk_suffix.proofs.AmongLemmas.{among-behind}
@@ -19,6 +20,7 @@ use Rattle.mk_suffix.proofs.AmongLemmas.{among-head}
 use Rattle.mk_suffix.proofs.LeftLemmas.{left_over-less}
 use Rattle.mk_suffix.proofs.MadeLemmas.{rule-number, IsMade-by}
 use Rattle.mk_suffix.proofs.SearchLemmas.{Leads-old, Leads-met, Leads-new, reached-append}
+use Rattle.mk_suffix.proofs.TableLemmas.{froms-extend}
 use Rattle.mk_suffix.proofs.WayLemmas.{get_or-behind}
 
 module _ (nodes : List Node) (known : List (List ℕ)) (old now : List Way) (at : ℕ) where
@@ -29,6 +31,24 @@ module _ (nodes : List Node) (known : List (List ℕ)) (old now : List Way) (at 
     longer = omega arith;
     fewer = omega arith;
     leads = λ rest whole leads. leads;
+  }
+
+  -- by the rules that lead to the suffix at the place
+  pub Extends-row : AreWays nodes old → (to : List ℕ) → to ≡ first_of (way_at old at).suffixes
+      → (rules : List Rule) → rules ≡ row nodes known to
+      → Extends nodes known old old at (froms rules)
+  Extends-row ways to is rules are = record {
+    ways = ways;
+    same = refl;
+    longer = omega arith;
+    fewer = omega arith;
+    leads = λ rest whole leads.
+        let chain = (way_at old at).suffixes in
+        let those : rules ≡ row nodes known (first_of chain) = are ∙ ap (row nodes known) is in
+        let same : extended_by nodes known chain (froms rules) ≡ extended nodes known chain =
+        ap (λ l. extended_by nodes known chain (froms l)) those
+        ∙ froms-extend nodes known chain known in
+        subst (λ l. Leads old (l ++ rest) whole) (sym same) leads;
   }
 
   module _ (suffix : List ℕ) (more : List (List ℕ))

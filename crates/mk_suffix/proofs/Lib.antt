@@ -11,4 +11,5 @@ pub mod MadeLemmas
 pub mod NameLemmas
 pub mod Rows
 pub mod SearchLemmas
+pub mod TableLemmas
 pub mod WayLemmas

@@ -7,3 +7,4 @@ pub mod NameView
 pub mod Names
 pub mod Search
 pub mod SearchView
+pub mod Table

@@ -9,9 +9,11 @@ mod name;
 mod rule;
 mod search;
 mod step;
+mod table;
 
 pub use chain::Chain;
 pub use fault::SuffixFault;
 pub use found::is_found;
 pub use name::prefix_of;
 pub use search::resolve;
+pub use table::SuffixRules;

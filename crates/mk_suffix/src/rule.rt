@@ -1,8 +1,10 @@
 //! The rule from one suffix to another.
 ghost use Rattle.std.specs.Prelude.{◌≡◌, ◌<◌, ◌++◌, length, IfOk, IfSome};
+ghost use Rattle.std.specs.Option.{option_map};
 ghost use Rattle.mk_depline.specs.Lines.{rule_named, rule_with, shown_rule};
 ghost use Rattle.mk_suffix.specs.Chains as spec;
 ghost use Rattle.mk_suffix.specs.Found.{is_marked};
+ghost use Rattle.mk_suffix.specs.NameView.{seen};
 
 use mk_bytes::{NoMemory, Text, is_among};
 use mk_graph::{Attr, Graph};
@@ -37,6 +39,18 @@ fn other_suffix<'n>(known: &[Text], suffix: &[u8], name: &'n [u8]) -> Option<&'n
     } else {
         None
     }
+}
+
+/// The second of the two suffixes that a name is, of which the first is the first that fits.
+pub fn second_part<'n>(known: &[Text], name: &'n [u8]) -> Option<&'n [u8]>
+    ensures { seen result ≡ option_map (λ parts. parts.1) (rule_named known.now name.now) }
+{
+    for suffix in known {
+        if let Some(rest) = other_suffix(known, suffix.bytes(), name) {
+            return Some(rest);
+        }
+    }
+    None
 }
 
 // Whether these are the two suffixes that a name is, of which the first is the first that fits.

@@ -1,11 +1,12 @@
 //! The search for a chain of rules: it goes from the suffix of the target to those from which a
 //! rule leads there, and so on, and reaches each suffix once.
-ghost use Rattle.std.specs.Prelude.{◌≡◌, ◌<◌, [], length, IsTrue, IfOk, IfSome, OnErr};
+ghost use Rattle.std.specs.Prelude.{◌≡◌, ◌<◌, [], length, Some, IsTrue, IfOk, IfSome, OnErr};
 ghost use Rattle.std.specs.Option.{option_map};
 ghost use Rattle.mk_depline.specs.Names.{is_among};
 ghost use Rattle.mk_suffix.specs.Chains as spec;
-ghost use Rattle.mk_suffix.specs.Extends.{AreWays, IsStepFrom, GoesOn, Went, Found};
+ghost use Rattle.mk_suffix.specs.Extends.{AreWays, GoesOn, Went, Found};
 ghost use Rattle.mk_suffix.specs.Found.{is_found};
+ghost use Rattle.mk_suffix.specs.Search.{way_at};
 ghost use Rattle.mk_world.specs.Looks.{OnLooks, OnlyLooked};
 ghost use Rattle.mk_suffix.specs.Made.{IsFor};
 ghost use Rattle.mk_suffix.specs.declared.fault.SuffixFault.TheVariants.{Failed as failed};
@@ -15,65 +16,48 @@ use crate::chain::Chain;
 use crate::fault::SuffixFault;
 use crate::found::is_found;
 use crate::name::{suffix_of, without_end};
-use crate::rule::{joined, rule_between};
+use crate::rule::joined;
 use crate::step::{Search, Step};
-use mk_bytes::{NoMemory, Text, Texts};
-use mk_graph::Graph;
+use crate::table::{Source, SuffixRules};
 use mk_world::World;
 use std::alloc::Global;
 
-// The step from a suffix to that at a place, where a rule leads there and the suffix was not reached
-// before.
-fn step_from<'s>(
-    alloc: Global,
-    graph: &Graph,
-    known: &[Text],
-    search: &Search<'s>,
-    suffix: &'s [u8],
-    at: usize,
-) -> Result<Option<Step<'s>>, NoMemory>
-    requires { at < length search.now }
-    ensures { IfOk result (λ step.
-        IsStepFrom graph.now known.now search.now suffix.now at step) }
-{
-    let Some(rule) = rule_between(alloc, graph, known, suffix, search.suffix(at))? else {
-        return Ok(None);
-    };
-    if search.has_reached(suffix) {
-        return Ok(None);
-    }
-    let to = at;
-    Ok(Some(Step { suffix, rule, to }))
-}
-
-// Reaches a suffix, if a rule leads from it to that at a place and it was not reached before. Where
-// its file is found, it is not reached, and the step from it is answered.
+// Reaches the suffix that a rule leads from to that at a place, if it was not reached before. Where its
+// file is found, it is not reached, and the step from it is answered.
 fn reach<'s, W: World>(
     alloc: Global,
-    graph: &Graph,
-    known: &[Text],
+    rules: &SuffixRules<'s>,
     base: &[u8],
     search: &mut Search<'s>,
-    suffix: &'s [u8],
+    source: &Source<'s>,
     at: usize,
     world: &mut W,
 ) -> Result<Option<Step<'s>>, SuffixFault>
     requires place { at < length search.old }
-    requires known { IsTrue (is_among known.now suffix.now) }
+    requires known { IsTrue (is_among rules.now.suffixes source.now.suffix.now) }
+    requires rule { spec.rule_between rules.now.nodes rules.now.suffixes source.now.suffix.now
+        (spec.first_of (way_at search.old at).suffixes) ≡ Some source.now.rule }
+    requires within { source.now.rule < length rules.now.nodes }
     requires idle { W.runs world.old [] }
-    ensures goes_on { IfOk result (λ hit.
-        GoesOn graph.now known.now search.old search.new at suffix.now hit) }
+    ensures goes_on { IfOk result (λ hit. GoesOn rules.now.nodes rules.now.suffixes
+        search.old search.new at source.now.suffix.now hit) }
     ensures told { IfOk result (λ hit. OnLooks (W.history world.old) (W.history world.new)
-        (λ files. Found (is_found files graph.now) base.now search.old search.new hit)) }
+        (λ files. Found (is_found files rules.now.nodes) base.now search.old search.new hit)) }
     ensures refused { OnErr result (OnlyLooked (W.history world.old) (W.history world.new)) }
     ensures cause { HasCause failed (W.faults world.old) (W.faults world.new) result }
     ensures idle { W.runs world.new [] }
 {
-    let Some(step) = step_from(alloc, graph, known, search, suffix, at)? else {
+    if search.has_reached(source.suffix) {
         return Ok(None);
+    }
+    let name = joined(alloc, base, source.suffix)?;
+    let Source { suffix, rule } = *source;
+    let step = Step {
+        suffix,
+        rule,
+        to: at,
     };
-    let name = joined(alloc, base, suffix)?;
-    if is_found(alloc, graph, name.bytes(), world)? {
+    if is_found(alloc, rules.graph(), name.bytes(), world)? {
         return Ok(Some(step));
     }
     search.push(step)?;
@@ -84,27 +68,25 @@ fn reach<'s, W: World>(
 // known, up to the first whose file is found: the step from that one is answered.
 fn extend<'s, W: World>(
     alloc: Global,
-    graph: &Graph,
-    known: &'s [Text],
+    rules: &SuffixRules<'s>,
     base: &[u8],
     search: &mut Search<'s>,
     at: usize,
     world: &mut W,
 ) -> Result<Option<Step<'s>>, SuffixFault>
     requires place { at < length search.old }
-    requires ways { AreWays graph.now search.old }
+    requires ways { AreWays rules.now.nodes search.old }
     requires idle { W.runs world.old [] }
     ensures went { IfOk result (λ hit.
-        Went graph.now known.now search.old search.new at [] hit) }
+        Went rules.now.nodes rules.now.suffixes search.old search.new at [] hit) }
     ensures told { IfOk result (λ hit. OnLooks (W.history world.old) (W.history world.new)
-        (λ files. Found (is_found files graph.now) base.now search.old search.new hit)) }
+        (λ files. Found (is_found files rules.now.nodes) base.now search.old search.new hit)) }
     ensures refused { OnErr result (OnlyLooked (W.history world.old) (W.history world.new)) }
     ensures cause { HasCause failed (W.faults world.old) (W.faults world.new) result }
     ensures idle { W.runs world.new [] }
 {
-    for suffix in known {
-        let suffix = suffix.bytes();
-        if let Some(step) = reach(alloc, graph, known, base, search, suffix, at, world)? {
+    for source in rules.row(search.suffix(at)) {
+        if let Some(step) = reach(alloc, rules, base, search, source, at, world)? {
             return Ok(Some(step));
         }
     }
@@ -114,18 +96,17 @@ fn extend<'s, W: World>(
 // The first chain of rules to the suffix of a name of this base whose source is found.
 fn first_found<'s, W: World>(
     alloc: Global,
-    graph: &Graph,
-    known: &'s [Text],
+    rules: &SuffixRules<'s>,
     base: &[u8],
     own: &'s [u8],
     world: &mut W,
 ) -> Result<Option<Chain>, SuffixFault>
     requires idle { W.runs world.old [] }
     ensures told { IfOk result (λ chain. OnLooks (W.history world.old) (W.history world.new)
-        (λ files. option_map (spec.chain_of graph.now base.now)
-        (spec.first_found (is_found files graph.now) graph.now known.now base.now own.now)
-        ≡ chain)) }
-    ensures made { IfOk result (λ chain. IfSome chain (IsFor graph.now)) }
+        (λ files. option_map (spec.chain_of rules.now.nodes base.now)
+        (spec.first_found (is_found files rules.now.nodes) rules.now.nodes rules.now.suffixes
+        base.now own.now) ≡ chain)) }
+    ensures made { IfOk result (λ chain. IfSome chain (IsFor rules.now.nodes)) }
     ensures refused { OnErr result (OnlyLooked (W.history world.old) (W.history world.new)) }
     ensures cause { HasCause failed (W.faults world.old) (W.faults world.new) result }
     ensures idle { W.runs world.new [] }
@@ -133,7 +114,7 @@ fn first_found<'s, W: World>(
     let mut search = Search::new(alloc, own)?;
     let mut at = 0;
     'suffixes: while at < search.len() {
-        if let Some(step) = extend(alloc, graph, known, base, &mut search, at, world)? {
+        if let Some(step) = extend(alloc, rules, base, &mut search, at, world)? {
             let chain = search.chain(alloc, base, step)?;
             return Ok(Some(chain));
         }
@@ -147,7 +128,7 @@ fn first_found<'s, W: World>(
 /// The suffix of a name is the longest known one that its last component ends with and is longer
 /// than; the base is the name without it. A chain leads from a source, the base with another known
 /// suffix, by a rule from each suffix to the next, to the name; it has each suffix once. Shorter
-/// chains come first, and those of one length by the places of their suffixes in `suffixes`, the
+/// chains come first, and those of one length by the places of their suffixes among the known, the
 /// one nearest to the name first. The first chain is chosen whose source is a target, or is an
 /// existing file and not phony.
 ///
@@ -155,8 +136,7 @@ fn first_found<'s, W: World>(
 /// faults rose or is at its end, and `NoMemory` where memory runs out.
 pub fn resolve<W: World>(
     alloc: Global,
-    graph: &Graph,
-    suffixes: &Texts,
+    rules: &SuffixRules<'_>,
     name: &[u8],
     world: &mut W,
 ) -> Result<Option<Chain>, SuffixFault>
@@ -164,15 +144,14 @@ pub fn resolve<W: World>(
 
     // Where the world tells, the answer is the chosen chain, by the files that it tells of.
     ensures told { IfOk result (λ chain. OnLooks (W.history world.old) (W.history world.new)
-        (λ files. spec.choice files graph.now suffixes.now name.now ≡ chain)) }
-    ensures made { IfOk result (λ chain. IfSome chain (IsFor graph.now)) }
+        (λ files. spec.choice files rules.now.nodes rules.now.suffixes name.now ≡ chain)) }
+    ensures made { IfOk result (λ chain. IfSome chain (IsFor rules.now.nodes)) }
     ensures refused { OnErr result (OnlyLooked (W.history world.old) (W.history world.new)) }
     ensures cause { HasCause failed (W.faults world.old) (W.faults world.new) result }
     ensures idle { W.runs world.new [] }
 {
-    let known = suffixes.as_slice();
-    let Some(own) = suffix_of(known, name) else {
+    let Some(own) = suffix_of(rules.suffixes().as_slice(), name) else {
         return Ok(None);
     };
-    first_found(alloc, graph, known, without_end(name, own), own, world)
+    first_found(alloc, rules, without_end(name, own), own, world)
 }

@@ -1,4 +1,5 @@
-use mk_bytes::{Items, Pairs, Text};
+use crate::shared::SharedPairs;
+use mk_bytes::{Items, Text};
 
 /// A command: its text, the directory that it runs in, and the variables that its environment is
 /// given.
@@ -6,7 +7,7 @@ use mk_bytes::{Items, Pairs, Text};
 pub struct Cmd {
     pub text: Text,
     pub cwd: Text,
-    pub exports: Pairs,
+    pub exports: SharedPairs,
 }
 
 /// One command line of a target, without its prefix bytes.
@@ -32,5 +33,5 @@ pub struct Task {
     pub lines: Lines,
     pub cwd: Text,
     pub target: Text,
-    pub exports: Pairs,
+    pub exports: SharedPairs,
 }

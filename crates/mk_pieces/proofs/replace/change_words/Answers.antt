@@ -15,8 +15,8 @@ use Rattle.mk_bytes.proofs.RefusalLemmas.{refused_if}
 use Rattle.mk_pieces.proofs.RefusalLemmas.{early_as}
 use Rattle.mk_pieces.proofs.replace.change_words.Goals as goal
 
-pub changed_piece-requires : goal.changed_piece-requires
-changed_piece-requires c =
+pub changed_piece-requires-clause-word : goal.changed_piece-requires-clause-word
+changed_piece-requires-clause-word c =
     let inside = furthest-at c.args.words.now c.loop-word.word-index (record { start = 0; end = 0 })
     c.loop-word-test.true
     in

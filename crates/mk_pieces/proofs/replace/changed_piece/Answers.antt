@@ -31,14 +31,14 @@ returns-then-not-branch-clause-shown c =
     let region = c.args.region.now.bytes in
     let new = c.changed_word.new.out.items in
     let word = bytes_of region c.args.word in
-    bytes_of-begins region (region ++ new) c.args.word (Begins-append region new) c.requires
+    bytes_of-begins region (region ++ new) c.args.word (Begins-append region new) c.requires.word
     ∙ sym (word_changed-none c.args.ready (changed_word c.args.change) word (nothing_put c))
 
 pub returns-then-not-branch-clause-changed : goal.returns-then-not-branch-clause-changed
 returns-then-not-branch-clause-changed c = rw (c.if-not-ready.false, nothing_put c) refl
 
 pub returns-then-not-branch-clause-within : goal.returns-then-not-branch-clause-within
-returns-then-not-branch-clause-within c = rw length-append (omega (arith, c.requires))
+returns-then-not-branch-clause-within c = rw length-append (omega (arith, c.requires.word))
 
 pub returns-then-not-branch-clause-begins : goal.returns-then-not-branch-clause-begins
 returns-then-not-branch-clause-begins c =

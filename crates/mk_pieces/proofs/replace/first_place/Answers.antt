@@ -8,4 +8,5 @@ returns-in-len1-clause-value c =
 
 pub returns-in_default-clause-value : goal.returns-in_default-clause-value
 returns-in_default-clause-value c =
-    first_place-is c.args.text.now c.args.word.now c.find.result c.find.ensures
+    first_place-is c.args.text.now c.args.word.now c.find.result
+    (rw c.requires at c.find.ensures)

@@ -12,7 +12,7 @@ returns-in_err-push_both c =
     let rest = l.rest.now in
     let at = c.in-Some.at in
     let more = drop (at + length c.args.from.now) rest in
-    let split = replaced-more c.args.from.now c.args.to.now rest at c.requires
+    let split = replaced-more c.args.from.now c.args.to.now rest at c.requires.some
     (sym c.in-Some.ensures.value) in
     let p = err_from_is_err_and c.from_residual.result c.from_residual.ensures.1 in
     rw (p.1, p.2, ← l.invariant, split)
@@ -26,7 +26,7 @@ places-preserved c =
     let rest = l.rest.now in
     let at = c.in-Some.at in
     let more = drop (at + length c.args.from.now) rest in
-    let split = replaced-more c.args.from.now c.args.to.now rest at c.requires
+    let split = replaced-more c.args.from.now c.args.to.now rest at c.requires.some
     (sym c.in-Some.ensures.value) in
     rw c.behind-rest.ensures
     (pushed-behind l.out.items (take at rest ++ c.args.to.now)

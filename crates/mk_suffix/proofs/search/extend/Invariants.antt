@@ -1,15 +1,17 @@
 use Rattle.std.proofs.Common.{◌≡◌, [], drop}
 use Rattle.mk_suffix.specs.Extends.{Extends, NoneFound}
 use Rattle.mk_suffix.specs.Found.{is_found}
+use Rattle.mk_suffix.specs.Table.{froms, seen_row}
 use Rattle.mk_world.specs.Looks.{OnLooks}
 use Rattle.mk_suffix.proofs.search.extend.Given as goal
 
--- the suffixes so far were gone through, and none that was reached is found
-abbrev pub invariant-loop-suffix : goal.invariant-loop-suffix
-invariant-loop-suffix g l = record {
+-- the rules so far were gone through, and none of the suffixes that were reached is found
+abbrev pub invariant-loop-source : goal.invariant-loop-source
+invariant-loop-source g l = record {
   idle : g.W.World.runs l.world [];
-  extends : Extends l.graph l.known l.fn.search l.search l.at (drop l.suffix-index l.known);
+  extends : Extends l.rules.nodes l.rules.suffixes l.fn.search l.search l.at
+      (drop l.source-index (froms (seen_row l.source-items)));
   told : OnLooks (g.W.World.history l.fn.world) (g.W.World.history l.world) (λ files.
-      NoneFound (is_found files l.graph) l.base l.fn.search l.search);
+      NoneFound (is_found files l.rules.nodes) l.base l.fn.search l.search);
   faults : g.W.World.faults l.world ≡ g.W.World.faults l.fn.world;
 }

@@ -19,20 +19,20 @@ suffixes-init g c =
     let own = c.args.own.now in
     rw c.in_ok-search.ensures (record {
       idle = c.requires.idle;
-      ways = AreWays-first c.args.graph.now own;
+      ways = AreWays-first c.args.rules.now.nodes own;
       place = omega arith;
-      leads = Leads-first c.args.graph.now c.args.known.now own;
+      leads = Leads-first c.args.rules.now.nodes c.args.rules.now.suffixes own;
       told = OnLooks-none _
-          (λ files. list_any (is_source (is_found files c.args.graph.now) base own)
+          (λ files. list_any (is_source (is_found files c.args.rules.now.nodes) base own)
           (reached (own_way own ∷ [])) ≡ false)
-          (λ files. own_none (is_found files c.args.graph.now) base own);
+          (λ files. own_none (is_found files c.args.rules.now.nodes) base own);
       faults = grind (arith, common_steps);
     })
 
 pub returns-in_err-step-clause-refused : goal.returns-in_err-step-clause-refused
 returns-in_err-step-clause-refused g c =
     OnErr-looked _ _ _ (OnLooks-then _ _ _
-    (λ files. list_any (is_source (is_found files c.args.graph.now) c.args.base.now c.args.own.now)
+    (λ files. list_any (is_source (is_found files c.args.rules.now.nodes) c.args.base.now c.args.own.now)
     (reached c.suffixes.search) ≡ false)
     (λ files. Unit {0}) (λ files. Unit {0})
     c.suffixes.invariant.told c.in_err-step.ensures.refused (λ files first second. tt))
@@ -40,17 +40,17 @@ returns-in_err-step-clause-refused g c =
 pub returns-in_err-chain-clause-refused : goal.returns-in_err-chain-clause-refused
 returns-in_err-chain-clause-refused g c =
     OnErr-looked _ _ _ (OnLooks-then _ _ _
-    (λ files. list_any (is_source (is_found files c.args.graph.now) c.args.base.now c.args.own.now)
+    (λ files. list_any (is_source (is_found files c.args.rules.now.nodes) c.args.base.now c.args.own.now)
     (reached c.suffixes.search) ≡ false)
-    (λ files. Found (is_found files c.args.graph.now) c.args.base.now c.suffixes.search
+    (λ files. Found (is_found files c.args.rules.now.nodes) c.args.base.now c.suffixes.search
     c.extend.new.search c.in_ok-step.field-0)
     (λ files. Unit {0})
     c.suffixes.invariant.told c.in_ok-step.ensures.told (λ files first second. tt))
 
 pub returns-in-Some-clause-told : goal.returns-in-Some-clause-told
 returns-in-Some-clause-told g c =
-    let nodes = c.args.graph.now in
-    let known = c.args.known.now in
+    let nodes = c.args.rules.now.nodes in
+    let known = c.args.rules.now.suffixes in
     let base = c.args.base.now in
     let own = c.args.own.now in
     let hit = rw c.in-Some.is at c.in_ok-step.ensures.went in
@@ -70,8 +70,8 @@ returns-in-Some-clause-told g c =
 
 pub suffixes-preserved : goal.suffixes-preserved
 suffixes-preserved g c =
-    let nodes = c.args.graph.now in
-    let known = c.args.known.now in
+    let nodes = c.args.rules.now.nodes in
+    let known = c.args.rules.now.suffixes in
     let base = c.args.base.now in
     let own = c.args.own.now in
     let went = rw c.in_default.is at c.in_ok-step.ensures.went in
@@ -94,8 +94,8 @@ suffixes-preserved g c =
 
 pub returns-clause-told : goal.returns-clause-told
 returns-clause-told g c =
-    let nodes = c.args.graph.now in
-    let known = c.args.known.now in
+    let nodes = c.args.rules.now.nodes in
+    let known = c.args.rules.now.suffixes in
     let base = c.args.base.now in
     let own = c.args.own.now in
     OnLooks-map _ _

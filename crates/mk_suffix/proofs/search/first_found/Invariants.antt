@@ -11,13 +11,13 @@ use Rattle.mk_suffix.proofs.search.first_found.Given as goal
 abbrev pub invariant-suffixes : goal.invariant-suffixes
 invariant-suffixes g l = record {
   idle : g.W.World.runs l.world [];
-  ways : AreWays l.graph l.search;
+  ways : AreWays l.rules.nodes l.search;
   place : l.at ≤ length l.search;
-  leads : Leads l.search (left_at l.graph l.known l.own l.at) (whole l.graph l.known l.own);
+  leads : Leads l.search (left_at l.rules.nodes l.rules.suffixes l.own l.at) (whole l.rules.nodes l.rules.suffixes l.own);
   told : OnLooks (g.W.World.history l.fn.world) (g.W.World.history l.world) (λ files.
-      list_any (is_source (is_found files l.graph) l.base l.own) (reached l.search) ≡ false);
+      list_any (is_source (is_found files l.rules.nodes) l.base l.own) (reached l.search) ≡ false);
   faults : g.W.World.faults l.world ≡ g.W.World.faults l.fn.world;
 }
 
 abbrev pub decreases-suffixes : goal.decreases-suffixes
-decreases-suffixes g l = (left_over l.known (reached l.search) + length l.search) - l.at
+decreases-suffixes g l = (left_over l.rules.suffixes (reached l.search) + length l.search) - l.at

@@ -24,7 +24,7 @@ visit-requires-clause-below g c =
 
 pub nodes-preserved : goal.nodes-preserved
 nodes-preserved g c =
-    let suffixes = c.args.suffixes.now in
+    let suffixes = c.args.rules.now.suffixes in
     let s = c.nodes.self in
     let rest = c.pop.new.self.items in
     let n = c.in-Some.n in
@@ -42,6 +42,7 @@ nodes-preserved g c =
           c.nodes.invariant.told c.in_ok-visit.ensures.leads
           (λ files so_far next. so_far ∙ (ap (spec.walk (spec.entered files suffixes) s) turned
           ∙ next));
+      nodes = c.in_ok-visit.ensures.nodes ∙ c.nodes.invariant.nodes;
       faults = grind (arith, common_steps);
     }
 
@@ -49,7 +50,7 @@ pub returns-in_err-visit-clause-refused : goal.returns-in_err-visit-clause-refus
 returns-in_err-visit-clause-refused g c =
     let p = err_from_is_err_and c.from_residual-in_err-visit.result
     c.from_residual-in_err-visit.ensures.1 in
-    let suffixes = c.args.suffixes.now in
+    let suffixes = c.args.rules.now.suffixes in
     let s = c.nodes.self in
     let rest = c.pop.new.self.items in
     let n = c.in-Some.n in
@@ -67,7 +68,7 @@ returns-in_err-visit-clause-refused g c =
 
 pub returns-clause-walked : goal.returns-clause-walked
 returns-clause-walked g c =
-    let suffixes = c.args.suffixes.now in
+    let suffixes = c.args.rules.now.suffixes in
     let s = c.nodes.self in
     let none : c.nodes.todo.items ≡ [] = grind (arith, common_steps) in
     OnLooks-map _ _

@@ -11,7 +11,7 @@ use Rattle.mk_closure.proofs.closure.Closure.want_all.Goals as goal
 pub returns-in_err-want-clause-refused : goal.returns-in_err-want-clause-refused
 returns-in_err-want-clause-refused g c =
     let p = err_from_is_err_and c.from_residual.result c.from_residual.ensures.1 in
-    let suffixes = c.args.suffixes.now in
+    let suffixes = c.args.rules.now.suffixes in
     let s = c.loop-name.self in
     let i = c.loop-name.name-index in
     let all = c.args.wanted.now in
@@ -29,7 +29,7 @@ returns-in_err-want-clause-refused g c =
 
 pub loop-name-preserved : goal.loop-name-preserved
 loop-name-preserved g c =
-    let suffixes = c.args.suffixes.now in
+    let suffixes = c.args.rules.now.suffixes in
     let s = c.loop-name.self in
     let i = c.loop-name.name-index in
     let all = c.args.wanted.now in
@@ -46,12 +46,13 @@ loop-name-preserved g c =
           c.loop-name.invariant.met c.in_ok-want.ensures.met
           (λ files so_far is. all_met-next (spec.entered files suffixes) _ s c.want.new.self
           (drop i all) name (drop (i + 1) all) are so_far is);
+      nodes = c.in_ok-want.ensures.nodes ∙ c.loop-name.invariant.nodes;
       faults = grind (arith, common_steps);
     }
 
 pub returns-clause-met : goal.returns-clause-met
 returns-clause-met g c =
-    let suffixes = c.args.suffixes.now in
+    let suffixes = c.args.rules.now.suffixes in
     let s = c.loop-name.self in
     let i = c.loop-name.name-index in
     let all = c.args.wanted.now in

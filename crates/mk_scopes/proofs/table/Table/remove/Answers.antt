@@ -6,6 +6,6 @@ use Rattle.mk_scopes.proofs.table.Table.remove.Goals as goal
 
 pub returns : goal.returns
 returns c =
-    ap pairs_of c.shift_remove.ensures.entries
+    ap pairs_of c.swap_remove.ensures.entries
     ∙ without-removed c.args.name.now c.self.inside.values.entries
     ∙ ap (λ pairs. without pairs c.args.name.now) c.self.view_is
