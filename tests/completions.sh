@@ -59,14 +59,14 @@ zpty shell zsh -f -i
 zpty -w shell 'PS1=; fpath=($share \$fpath); autoload -Uz compinit; compinit -u -D; LISTMAX=1000; COLUMNS=400
 compadd() { local -a all; builtin compadd -O all "\$@"; (( \${#all} )) && print -rl -- "\${all[@]}" >>$room/offered; builtin compadd "\$@" }
 zstyle ":completion:*" list-grouped false; bindkey "^I" complete-word; cd $room/here; print ready >$room/ready'
-for (( i = 0; i < 200; i++ )) { [[ -e $room/ready ]] && break; sleep 0.05 }
+for (( i = 0; i < 600; i++ )) { [[ -e $room/ready ]] && break; sleep 0.05 }
 zpty -n -w shell "\$1"\$'\t'
-for (( i = 0; i < 100; i++ )) { [[ -s $room/offered ]] && break; sleep 0.05 }
+for (( i = 0; i < 600; i++ )) { [[ -s $room/offered ]] && break; sleep 0.05 }
 sleep 0.3
 zpty -d shell
 END
     rm -f "$room/ready" "$room/offered"
-    timeout 60 zsh -f "$room/offer.zsh" "$*" >/dev/null 2>&1
+    timeout 120 zsh -f "$room/offer.zsh" "$*" >/dev/null 2>&1
     [ ! -e "$room/offered" ] || sort -u "$room/offered"
 }
 

@@ -49,7 +49,7 @@ wrong="$wrong$(same mine "$(cat "$room/root/usr/local/bin/bmake")")$(runs "$room
 grep -q '^complete -F _bmake bmake-proved$' "$room/root/usr/local/share/bash-completion/completions/bmake-proved" || wrong="$wrong bash completes another;"
 grep -q '^#compdef bmake-proved$' "$room/root/usr/local/share/zsh/site-functions/_bmake-proved" || wrong="$wrong zsh completes another;"
 grep -q '^complete -c bmake-proved -s j' "$room/root/usr/local/share/fish/vendor_completions.d/bmake-proved.fish" || wrong="$wrong fish completes another;"
-grep -q 'share/bmake-proved/mk' "$room/root/usr/local/share/man/man1/bmake-proved.1" || wrong="$wrong the page names another directory;"
+grep -q '/usr/local/share/bmake-proved/mk' "$room/root/usr/local/share/man/man1/bmake-proved.1" || wrong="$wrong the page names another directory;"
 count '--suffix installs beside another bmake' "$wrong"
 DESTDIR=$room/root tools/install --remove --suffix -proved /usr/local >/dev/null
 count '--remove with the suffix, too' "$(same "$(cat "$room/before")" "$(below "$room/root")")"

@@ -117,6 +117,13 @@ while IFS= read -r text; do
 done <"$room/messages"
 count 'each message stands in bmake(1)' "$wrong"
 
+# So does each call of the system that a fault of the outside is named by.
+wrong=''
+for call in $(grep -rhoE '(named\.name|refused|refused_child|write_fault)\((&[a-z]+, )?b"[a-z]+"' crates/mk_realworld/src | sed 's/.*b"//; s/"$//' | sort -u); do
+    grep -qE "^\.Ql $call( |\$)" man/bmake.1 || wrong="$wrong no $call;"
+done
+count 'each call that a fault is named by stands in bmake(1)' "$wrong"
+
 # What DIFFERENCES says is refused is refused, and so told.
 mkdir "$room/refused" && cd "$room/refused" || exit 1
 : >makefile

@@ -95,7 +95,7 @@ mkdir "$room/slow" && cd "$room/slow" || exit 1
 printf 'all: quick slow\nquick:\n\t@echo quick\nslow:\n\t@while [ ! -e go ]; do sleep 0.05; done; echo slow\n' >makefile
 "$program" -j2 >out 2>&1 &
 make=$!
-for _ in $(seq 1 200); do
+for _ in $(seq 1 1200); do
     grep -q '^quick$' out && break
     sleep 0.05
 done

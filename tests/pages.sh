@@ -28,6 +28,22 @@ for page in README.md docs/*.md; do
     count "$page names what is there" "$wrong"
 done
 
+# Each definition that a clause of the theorem names stands in a file of its row.
+wrong=''
+while IFS='|' read -r _ clause _ definitions files _; do
+    paths=''
+    crate=''
+    for word in $(printf '%s' "$files" | grep -oE '`[^`]+`|mk_[a-z]+' | tr -d '`'); do
+        case $word in mk_*) crate=$word ;; *) paths="$paths crates/$crate/$word" ;; esac
+    done
+    for name in $(printf '%s' "$definitions" | grep -oE '`[A-Za-z_]+`' | tr -d '`'); do
+        # The paths are parted by the blanks between them.
+        # shellcheck disable=SC2086
+        cat $paths 2>&1 | grep -qE "pub (record |data )?$name( |\$)" || wrong="$wrong no $name of $clause;"
+    done
+done < <(sed -n '/^## The clauses of/,/^## The premises/p' docs/THEOREM.md | grep '^| [`a-z]')
+count 'docs/THEOREM.md names definitions where they stand' "$wrong"
+
 # Each crate has a row of what is proved of it, and each script a row of what it shows.
 wrong=''
 for crate in $(sed -n 's/^\([a-z_]*\):.*/\1/p' crates.txt); do

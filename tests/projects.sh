@@ -209,4 +209,26 @@ cc -o primes main.o prime.o
 else
     skip 'a project in meta mode' 'it needs cc, fmtrace and strace, which may trace'
 fi
+# The commands of examples/README.md, each in a copy of its folder: its status is 0, but for the tests of which one fails.
+mkdir -p "$room/bin" "$room/all"
+ln -s "$program" "$room/bin/bmake"
+ln -s "$recorder" "$room/bin/fmtrace"
+cp -R examples share "$room/all"
+while IFS='|' read -r _ folder _ command _; do
+    folder=$(printf %s "$folder" | tr -d ' `')
+    command=$(printf %s "$command" | sed -e 's/^ *`//' -e 's/` *$//')
+    is=0
+    case $folder in
+        projects/checks) is=1 ;;
+        *.mk) folder=.. ;;
+    esac
+    case $command in
+        *fmtrace*) { is_there strace && is_there cc && [ -s "$room/trace" ]; } || {
+            skip "examples/README.md: $folder" 'it needs cc and strace'
+            continue
+        } ;;
+    esac
+    (cd "$room/all/examples/$folder" && PATH=$room/bin:$PATH && eval "$command") >"$room/out" 2>&1 </dev/null
+    count "examples/README.md: $folder, $command" "$(same $is $?)"
+done < <(grep '^| `' examples/README.md)
 finish

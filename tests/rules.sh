@@ -49,6 +49,22 @@ while IFS= read -r line; do
     count "$rule" "$wrong"
 done < <(grep '^| [^R-]\|^| R[^u]' docs/RULES.md)
 
+# The calls of docs/ARCHITECTURE.md, and its crates.
+wrong=''
+while IFS='|' read -r _ _ crates calls _; do
+    for crate in $(printf '%s' "$crates" | tr ',' ' '); do [ -d "crates/$crate" ] || wrong="$wrong no crate $crate;"; done
+    for word in $(printf '%s' "$calls" | grep -oE '`[A-Za-z_:]+`' | tr -d '`'); do
+        is_call "${word##*::}" || wrong="$wrong no call $word;"
+    done
+done < <(sed -n '/^## The way of the bytes/,/^## In a crate/p' docs/ARCHITECTURE.md | grep '^| [a-z]')
+for crate in $(sed -n '/^```text/,/^```$/p' docs/ARCHITECTURE.md | grep -oE '\bmk_[a-z]+'); do
+    [ -d "crates/$crate" ] || wrong="$wrong no crate $crate;"
+done
+for crate in $(sed -n 's/^\([a-z_]*\):.*/\1/p' crates.txt); do
+    sed -n '/^```text/,/^```$/p' docs/ARCHITECTURE.md | grep -qw "$crate" || wrong="$wrong no $crate in the picture;"
+done
+count 'docs/ARCHITECTURE.md has each crate, and names what is there' "$wrong"
+
 # Each file of definitions has a row, but for the lists of modules.
 for file in $(find crates/*/specs -name '*.antt' | sort); do
     grep -qv '^pub mod ' "$file" || continue
