@@ -3,6 +3,7 @@ use crate::family::family_of;
 use crate::file::{bytes_from, bytes_of, length_of};
 use crate::refusal::Refusal;
 use mk_bytes::Text;
+use mk_filemon::cut_at;
 use mk_strace::lines_of;
 
 /// Where the trace of a command stands.
@@ -56,7 +57,13 @@ impl Source {
         let Some(bytes) = bytes_from(rt, self.path.bytes(), part.from)? else {
             return Ok(None);
         };
-        let family = family_of(rt.alloc(), bytes.bytes(), part.process)?;
-        Ok(Some(lines_of(rt.alloc(), &family, bytes.bytes())?))
+        // The first line is of what this process asked for the length with, or of another one: that of the
+        // command was not begun then.
+        let lines = match cut_at(b'\n', bytes.bytes()) {
+            Some((_, lines)) => lines,
+            None => b"",
+        };
+        let family = family_of(rt.alloc(), lines, part.process)?;
+        Ok(Some(lines_of(rt.alloc(), &family, lines)?))
     }
 }
