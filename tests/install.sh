@@ -78,7 +78,7 @@ if is_there dpkg-deb; then
 
     # A root with a shell and the libraries that the programs name, and a make in it.
     clean=$room/clean
-    mkdir -p "$clean/bin" "$clean/tmp" "$clean/work" "$clean/dev" "$clean/var/lib/dpkg/info" "$clean/var/lib/dpkg/updates" "$clean/var/lib/dpkg/triggers"
+    mkdir -p "$clean/bin" "$clean/tmp" "$clean/project" "$clean/dev" "$clean/var/lib/dpkg/info" "$clean/var/lib/dpkg/updates" "$clean/var/lib/dpkg/triggers"
     : >"$clean/var/lib/dpkg/status"
     cp -L /bin/sh "$clean/bin/sh"
     for library in $(ldd "$program" /bin/sh | grep -oE '/[^ ]+\.so[^ ]*' | sort -u); do
@@ -92,13 +92,13 @@ if is_there dpkg-deb; then
     fi
     count 'dpkg installs it in a clean root' "$wrong"
     [ -e "$clean/usr/bin/bmake-proved" ] || dpkg-deb -x "$package" "$clean"
-    printf 'all: b\nb: a\n\tread x <a; echo $$x >b\n' >"$clean/work/makefile"
-    echo 1 >"$clean/work/a"
+    printf 'all: b\nb: a\n\tread x <a; echo $$x >b\n' >"$clean/project/makefile"
+    echo 1 >"$clean/project/a"
     : >"$clean/dev/null"
     if chroot "$clean" /bin/sh -c : 2>/dev/null; then
-        wrong=$(chroot "$clean" /bin/sh -c 'cd /work && bmake-proved -j4 && exec /usr/bin/bmake-proved -q' >"$room/out" 2>&1 \
+        wrong=$(chroot "$clean" /bin/sh -c 'cd /project && bmake-proved -j4 && exec /usr/bin/bmake-proved -q' >"$room/out" 2>&1 \
             || printf 'status %s: %s; ' $? "$(cat "$room/out")")
-        wrong="$wrong$(holds "$clean/work/b" 1)"
+        wrong="$wrong$(holds "$clean/project/b" 1)"
         count 'it runs there, without the kit' "$wrong"
     else
         skip 'whether the package runs in a clean root' 'only root may change the root'

@@ -57,8 +57,7 @@ fn carry_out<W: World>(
                 return Err(WorldFault::NoMemory);
             };
             course.sched.refused(node);
-            let failure = Failure::Expand(node, number, what);
-            note_failure(&mut course.failure, failure);
+            note_failure(&mut course.failure, Failure::Expand(node, number, what));
             Ok(())
         }
         Decision::Make(task, _) => {
