@@ -154,7 +154,7 @@ row shows='the inner log of a recorder in a recorder' \
     run='"$fmtrace" /bin/sh -c "cat b; BMAKE_FILEMON=$BMAKE_FILEMON.inner \"$fmtrace\" /bin/sh -c \"(cat a; [ -e none ]); cat d/c\""; mv "$BMAKE_FILEMON.inner" "$BMAKE_FILEMON"' \
     records='R a N none R d/c'
 row shows='an inner process that runs on' \
-    run='"$fmtrace" /bin/sh -c "BMAKE_FILEMON=$BMAKE_FILEMON.inner \"$fmtrace\" /bin/sh -c \"(sleep 1) >/dev/null 2>&1 & cat a\""; mv "$BMAKE_FILEMON.inner" "$BMAKE_FILEMON"' \
+    run='"$fmtrace" /bin/sh -c "BMAKE_FILEMON=$BMAKE_FILEMON.inner \"$fmtrace\" /bin/sh -c \"(sleep 3) >/dev/null 2>&1 & cat a\""; mv "$BMAKE_FILEMON.inner" "$BMAKE_FILEMON"' \
     records='X'
 
 if command -v cc >/dev/null; then

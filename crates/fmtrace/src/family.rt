@@ -1,7 +1,7 @@
 //! Which processes a command began, by what a trace tells of it.
 use indexmap::IndexMap;
 use mk_bytes::{Items, NoMemory, Text, Texts};
-use mk_filemon::{cut_at, push_decimal};
+use mk_filemon::push_decimal;
 use mk_strace::{Kept, is_number, parts_of, without_spaces};
 use std::alloc::Global;
 
@@ -36,11 +36,22 @@ fn begun_by<'t>(text: &'t [u8]) -> Option<&'t [u8]> {
 struct Begun {
     alloc: Global,
     children: IndexMap<Vec<u8>, Texts>,
+    // how many were begun
+    count: usize,
+}
+
+// A trace up to its last newline: another process may be writing behind that.
+fn whole_lines<'t>(trace: &'t [u8]) -> &'t [u8] {
+    match trace.iter().rposition(|byte| *byte == b'\n') {
+        Some(end) => &trace[..end],
+        None => b"",
+    }
 }
 
 impl Begun {
     fn add(&mut self, parent: &[u8], child: &[u8]) -> Result<(), NoMemory> {
         let child = Text::from_bytes(self.alloc, child)?;
+        self.count = self.count.saturating_add(1);
         if let Some(children) = self.children.get_mut(parent) {
             return children.push(child);
         }
@@ -53,27 +64,26 @@ impl Begun {
 
     // What the lines of a trace tell.
     fn add_all(&mut self, trace: &[u8]) -> Result<(), NoMemory> {
-        let mut rest = trace;
-        while let Some((line, after)) = cut_at(b'\n', rest) {
+        for line in whole_lines(trace).split(|byte| *byte == b'\n') {
             if let Some((parent, text)) = parts_of(line) {
                 if let Some(child) = begun_by(text) {
                     self.add(parent, child)?;
                 }
             }
-            rest = after;
         }
         Ok(())
     }
 
     // A process, and those that it began, and those that these began.
+    // Each that was begun is met once at most.
     fn family_of(&self, process: Text) -> Result<Kept, NoMemory> {
         let mut family = Kept::new(self.alloc);
-        let mut open: Texts = Items::new(self.alloc, 1)?;
+        let mut open = Vec::new(self.alloc);
         open.push(process)?;
-        let mut place = 0;
-        while place < open.len() {
-            let process = open.get(place).copy(self.alloc)?;
-            place += 1;
+        for _ in 0..=self.count {
+            let Some(process) = open.pop() else {
+                break;
+            };
             if !family.of(process.bytes()).is_empty() {
                 continue;
             }
@@ -94,6 +104,7 @@ pub fn family_of(alloc: Global, trace: &[u8], process: u32) -> Result<Kept, NoMe
     let mut begun = Begun {
         alloc,
         children: IndexMap::new(alloc),
+        count: 0,
     };
     let mut digits = Text::new(alloc);
     push_decimal(&mut digits, u64::from(process))?;
