@@ -1,6 +1,7 @@
 pub mod AgeLaws
 pub mod AgeLemmas
 pub mod AgeRows
+pub mod CauseLemmas
 pub mod DateLemmas
 pub mod DecisionLemmas
 pub mod LookLemmas

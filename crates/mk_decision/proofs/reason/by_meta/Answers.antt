@@ -4,7 +4,9 @@ use Rattle.mk_world.proofs.SinkLemmas.{OnErr-from}
 use Rattle.mk_oodate.specs.Stale.{stale}
 use Rattle.mk_oodate.specs.declared.reason.Times.{Times}
 use Rattle.mk_plan.specs.Plans.{node_at}
+use Rattle.mk_world.specs.declared.fault.WorldFault.TheVariants.{Failed as failed}
 use Rattle.mk_world.specs.declared.time.When.{When}
+use Rattle.mk_decision.proofs.CauseLemmas.{cause-behind}
 use Rattle.mk_decision.specs.Metas.{file_looks, no_paths, path_looks}
 use Rattle.mk_decision.specs.Newest.{raised, raised_all}
 use Rattle.mk_decision.specs.Reasons.{first_times, with_paths}
@@ -38,6 +40,11 @@ pub returns-in_err-times-clause-some : goal.returns-in_err-times-clause-some
 returns-in_err-times-clause-some g c =
     OnErr-from c.from_residual-in_err-times.result
     (some-behind g.W.World.meaning _ _ _ _ c.in_ok-file.ensures.seen.2 c.in_err-times.ensures.some)
+
+pub returns-in_err-times-clause-cause : goal.returns-in_err-times-clause-cause
+returns-in_err-times-clause-cause g c =
+    cause-behind failed _ _ _ c.from_residual-in_err-times.result c.in_ok-file.ensures.cause
+    c.in_err-times.ensures.cause c.from_residual-in_err-times.ensures.1
 
 pub returns-clause-seen : goal.returns-clause-seen
 returns-clause-seen g c =
