@@ -164,10 +164,6 @@ row shows='a chain of 1,024 modifiers of 4 MiB in less than 64 MiB' memory=65536
     words='-v "\${C12$(times 512 ":tu:tl")}" | wc -c' out=$'4194305\n' \
     makefile='echo "C0=$(times 1024 x)"; lines 12 "C+=\${C%}\${C%}"'
 
-row shows='a chain of 20 modifiers of 2,000,000 words in less than 168 MiB' memory=172032 \
-    words='-V "\${W$(times 10 ":S/a/b/:S/b/a/"):[#]}"' out=$'2000000\n' \
-    makefile='echo "P=$(times 250000 "a ")"; echo "W=$(times 8 "\$P")"'
-
 row shows='200,000 suffixes in a line' words='-v A' out="$one" \
     makefile='echo ".SUFFIXES: \${:U:range=200000:S/^/./}"; echo A=1'
 

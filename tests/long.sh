@@ -103,13 +103,13 @@ row 'the value itself is too long' '' $'bmake: target t command 1: value too lon
 long_text() {
     printf 'A='
     times 1048000 x
-    printf '\nB=$A$A$A$A\n'
+    printf '\nB=$A$A$A$A\nW=${:U:range=600000:${B}=y}\n'
 }
 
 row 'a text of 4 MiB is looked for in 600000 words' $'600000\n' '' 0 \
     -V '${:U:range=600000:S/${B}/y/:[#]}' < <(long_text)
 row 'an end of 4 MiB is looked for in 600000 words' $'600000\n' '' 0 \
-    -V '${:U:range=600000:${B}=y:[#]}' < <(long_text)
+    -V '${W:[#]}' < <(long_text)
 
 # So many names that are set, and taken away in this order by one line.
 names_taken_away() {
@@ -146,7 +146,7 @@ suffix_chain() {
 seconds=3 row '200 files and a chain of 800 suffixes' '' '' 0 -n < <(suffix_chain)
 rm "$room"/f*.1
 
-seconds=2 row 'make() for 40000 targets that are no main ones' $'\n' '' 0 -V X <<'MAKEFILE'
+seconds=4 row 'make() for 40000 targets that are no main ones' $'\n' '' 0 -V X <<'MAKEFILE'
 ${:U:range=40000:S/^/t/}: .NOTMAIN
 .for i in ${:U:range=40000}
 .if make(x)

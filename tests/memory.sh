@@ -5,19 +5,29 @@
 set -u
 program=${BMAKE:-$PWD/crates/bmake/out/bmake}
 cases=${CASES:-$PWD/crates/cases/out/cases}
-. tests/lib.sh
+room=$(mktemp -d) || exit 1
+trap 'rm -rf "$room"' EXIT
+unset MAKEFLAGS BMAKE_FILEMON
 
 for needed in cc python3; do
-    if ! is_there "$needed"; then
-        skip 'want of memory' "there is no $needed"
-        finish
+    if ! command -v "$needed" >/dev/null; then
+        echo "skipped: want of memory (there is no $needed)"
+        echo "0 passed, 0 failed"
+        exit 0
     fi
 done
 if ! cc -shared -fPIC -O1 -o "$room/refuse.so" tests/memory/refuse.c 2>"$room/errors" \
     || ! LD_PRELOAD="$room/refuse.so" REFUSE=0 ALLOCATIONS="$room/count" cc --version >/dev/null 2>&1 \
     || [ ! -s "$room/count" ]; then
-    skip 'want of memory' 'no library may be loaded before that of C here'
-    finish
+    echo 'skipped: want of memory (no library may be loaded before that of C here)'
+    echo "0 passed, 0 failed"
+    exit 0
 fi
-needs_built "$program" "$cases"
+for built in "$program" "$cases"; do
+    if [ ! -x "$built" ]; then
+        echo "there is no program $built"
+        echo "0 passed, 1 failed"
+        exit 1
+    fi
+done
 tests/memory/refuse_each "$program" "$cases" "$room/refuse.so" "$room"
