@@ -414,6 +414,12 @@ row shows='a time that is a little ahead is waited for' \
     before='touch -d "@$(($(date +%s) + 1)).9" a' makefile="$meta$nl"$'t: a\n\t@echo made; : >t\n' \
     run='timeout 20 "$program"; timeout 20 "$program"; sleep 0.1; timeout 20 "$program"' out=$'made\nmade\n'
 
+# What is written to /dev/null gives it no later time.
+row shows='a meta file that gets no later time ends the run, within seconds' \
+    before='touch -d 2001-01-01 t; touch a; ln -s /dev/null t.meta' makefile="$meta$nl"$'t: a\n\t@echo made; : >t\n' \
+    run='timeout 20 "$program"' status=3 \
+    err="bmake: write t.meta: the time of the file does not come to be later than that of others$nl$outside"
+
 row shows='a pipe with a name as meta file gives way' \
     before='mkfifo t.meta; touch t' makefile="$meta$nl"$'t:\n\t@echo made; : >t\n' \
     run='timeout 20 "$program"; sleep 0.1; timeout 20 "$program"' out=$'made\n' after='[ -f t.meta ]'

@@ -4,8 +4,6 @@
 
 mod exported;
 mod exports;
-mod name;
 
 pub use exported::Exported;
 pub use exports::Exports;
-pub use name::is_export_name;

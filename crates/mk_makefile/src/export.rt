@@ -7,7 +7,8 @@ ghost use Rattle.mk_makefile.specs.Values.{reference};
 ghost use Rattle.mk_meta.specs.Lawful.{is_export_name as is_lawful};
 
 use mk_bytes::{NoMemory, Text};
-use mk_export::{Exports, is_export_name};
+use mk_export::Exports;
+use mk_meta::is_export_name;
 use std::alloc::Global;
 
 fn are_lawful(names: &[Text]) -> bool

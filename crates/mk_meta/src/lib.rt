@@ -28,6 +28,7 @@ mod reading;
 mod writing;
 
 pub use law::{jobs_are_lawful, no_text_begins_another, nothing_to_tell, the_head_is_no_text};
+pub use line::is_export_name;
 pub use meta::Meta;
 pub use reading::read_meta;
 pub use writing::{head, meta_path, write_meta};

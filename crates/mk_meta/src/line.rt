@@ -96,7 +96,8 @@ fn are_name_bytes(name: &[u8]) -> bool
     name.iter().all(|byte| is_name_byte(*byte))
 }
 
-fn is_export_name(name: &[u8]) -> bool
+/// Whether a variable of this name may be exported: letters, digits and `_`, with no digit first.
+pub fn is_export_name(name: &[u8]) -> bool
     ensures { result ≡ lawful.is_export_name name.now }
 {
     match name {
