@@ -13,6 +13,7 @@ use mk_scopes::Env;
 use mk_top::run;
 use std::alloc::Global;
 use std::io::{Print, Stdout};
+use std::mem::forget;
 use std::process::ExitCode;
 use std::str;
 
@@ -142,8 +143,9 @@ fn run_all(rt: &HostRuntime, all: &Texts, env: &Env) -> Result<u8, NoMemory>
     let mut err = RealSink::err(rt.stderr());
     let report = run(rt.alloc(), all, env, &mut world, &mut out, &mut err);
     let status = report.status;
-    drop(report);
-    drop(world);
+    // The process ends: what stands in memory need not be given back piece by piece.
+    forget(report);
+    forget(world);
     Ok(status)
 }
 

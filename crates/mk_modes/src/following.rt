@@ -24,6 +24,7 @@ use mk_reader::read;
 use mk_scopes::Env;
 use mk_world::{Sink, World};
 use std::alloc::Global;
+use std::mem::forget;
 
 // The end of a run that went so far.
 fn end_of(went: Result<(), End>) -> End
@@ -124,7 +125,9 @@ pub fn follow<W: World, S: Sink>(
     match read(alloc, world, err, order, env) {
         Ok(made) => {
             let went = by_mode(alloc, &made, order, world, out);
-            drop(made);
+            // A run is the last thing that its process does: to give back each node and variable
+            // by itself would take a good part of a build in which nothing is made.
+            forget(made);
             went
         }
         Err(fault) => unbuilt(alloc, End::from(fault)),
