@@ -172,6 +172,9 @@ yes $'R 1 /d/a' | head -c 67108872 >"$room/log"
 log_row 'a log above 67108864 bytes is none' $'t no records\n'
 rm -f "$room/log"
 
+seconds=5 row '340000 groups of braces, one behind another' $'\n' '' 0 -V A \
+    < <(printf 't: '; times 340000 '{a}'; echo)
+
 row 'a chain of 20000 targets' '' '' 0 t20000 <<'MAKEFILE'
 P=
 .for i in ${:U:range=20000}

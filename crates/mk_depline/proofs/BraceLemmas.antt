@@ -6,7 +6,7 @@ use Rattle.std.proofs.lemmas.List.{append-nil}
 use Rattle.std.specs.List.{onto_first}
 use Rattle.std.specs.Option.{option_map}
 use Rattle.mk_bytes.specs.Agrees.{AgreesErr, ◌>>=◌}
-use Rattle.mk_depline.specs.Braces.{Group, added, alternatives, alternatives_from, comma, depth_behind}
+use Rattle.mk_depline.specs.Braces.{Group, IsPlaced, Placed, added, alternatives, alternatives_from, comma, depth_behind}
 use Rattle.mk_depline.specs.Braces.{all_pending, all_steps, both_spelled, each_spelled, each_steps}
 use Rattle.mk_depline.specs.Braces.{group_of, pending_steps, pending_words, place_from, place_of}
 use Rattle.mk_depline.specs.Braces.{spelled_in, steps_left, stops, word_steps, words_left}
@@ -111,17 +111,30 @@ pub none-both : (words : Result (List (List ℕ)) DepFault) → both_spelled (Ok
 none-both (Ok words) = refl
 none-both (Err fault) = refl
 
-pub pending-push : (waiting : List Pending) (p : Pending)
-    → all_pending (waiting ++ p ∷ []) ≡ both_spelled (pending_words p) (all_pending waiting)
-pending-push [] p = none-both (pending_words p) ∙ sym (both-none (pending_words p))
-pending-push (q ∷ waiting) p =
-    ap (λ inner. both_spelled inner (pending_words q)) (pending-push waiting p)
-    ∙ both-assoc (pending_words p) (all_pending waiting) (pending_words q)
+pub pending-push : (word : List ℕ) (waiting : List Pending) (p : Pending)
+    → all_pending word (waiting ++ p ∷ [])
+    ≡ both_spelled (pending_words word p) (all_pending word waiting)
+pending-push word [] p = none-both (pending_words word p) ∙ sym (both-none (pending_words word p))
+pending-push word (q ∷ waiting) p =
+    ap (λ inner. both_spelled inner (pending_words word q)) (pending-push word waiting p)
+    ∙ both-assoc (pending_words word p) (all_pending word waiting) (pending_words word q)
 
-pub steps-push : (waiting : List Pending) (p : Pending)
-    → all_steps (waiting ++ p ∷ []) ≡ all_steps waiting + pending_steps p
-steps-push [] p = omega arith
-steps-push (q ∷ waiting) p = omega (arith, steps-push waiting p)
+pub steps-push : (word : List ℕ) (waiting : List Pending) (p : Pending)
+    → all_steps word (waiting ++ p ∷ []) ≡ all_steps word waiting + pending_steps word p
+steps-push word [] p = omega arith
+steps-push word (q ∷ waiting) p = omega (arith, steps-push word waiting p)
+
+pub placed-push : (word : List ℕ) (waiting : List Pending) (p : Pending) → Placed word waiting
+    → IsPlaced word p.before p.at (p.depth + 1) → Placed word (waiting ++ p ∷ [])
+placed-push word [] p all one = (one, tt)
+placed-push word (q ∷ waiting) p all one = (all.0, placed-push word waiting p all.1 one)
+
+pub placed-pop : (word : List ℕ) (waiting : List Pending) (p : Pending)
+    → Placed word (waiting ++ p ∷ [])
+    → Placed word waiting × IsPlaced word p.before p.at (p.depth + 1)
+placed-pop word [] p all = (tt, all.0)
+placed-pop word (q ∷ waiting) p all =
+    let more = placed-pop word waiting p all.1 in ((all.0, more.0), more.1)
 
 pub steps-group : (most : ℕ) (word : List ℕ) (group : Group)
     → 0 < most → group_of word ≡ Ok (Some group)
@@ -133,22 +146,22 @@ steps-group (suc most) word group some is =
     let less : suc most - 1 ≡ most = omega arith in rw (is, less) refl
 
 -- a group whose first word is taken, with those that are left put back
-pub popped : (waiting rest pushed : List Pending) (words : Pending) (word : List ℕ)
+pub popped : (word : List ℕ) (waiting rest pushed : List Pending) (words : Pending) (one : List ℕ)
     (left : Option Pending)
     → waiting ≡ rest ++ words ∷ []
-    → pending_words words ≡ both_spelled (spelled_in words.most word) (words_left left)
-    → all_pending pushed ≡ both_spelled (words_left left) (all_pending rest)
-    → all_pending waiting ≡ both_spelled (spelled_in words.most word) (all_pending pushed)
-popped waiting rest pushed words word left pops first puts =
-    rw (pops, pending-push rest words, first, puts)
-    (both-assoc (spelled_in words.most word) (words_left left) (all_pending rest))
+    → pending_words word words ≡ both_spelled (spelled_in words.most one) (words_left word left)
+    → all_pending word pushed ≡ both_spelled (words_left word left) (all_pending word rest)
+    → all_pending word waiting ≡ both_spelled (spelled_in words.most one) (all_pending word pushed)
+popped word waiting rest pushed words one left pops first puts =
+    rw (pops, pending-push word rest words, first, puts)
+    (both-assoc (spelled_in words.most one) (words_left word left) (all_pending word rest))
 
-pub steps_popped : (waiting rest pushed new : List Pending) (words : Pending) (word : List ℕ)
-    (left : Option Pending)
+pub steps_popped : (word : List ℕ) (waiting rest pushed new : List Pending) (words : Pending)
+    (one : List ℕ) (left : Option Pending)
     → waiting ≡ rest ++ words ∷ []
-    → pending_steps words ≡ 1 + (word_steps words.most word + steps_left left)
-    → all_steps pushed ≡ all_steps rest + steps_left left
-    → all_steps new ≤ all_steps pushed + word_steps words.most word
-    → all_steps new < all_steps waiting
-steps_popped waiting rest pushed new words word left pops first puts fewer =
-    rw (pops, steps-push rest words) (omega (arith, first, puts, fewer))
+    → pending_steps word words ≡ 1 + (word_steps words.most one + steps_left word left)
+    → all_steps word pushed ≡ all_steps word rest + steps_left word left
+    → all_steps word new ≤ all_steps word pushed + word_steps words.most one
+    → all_steps word new < all_steps word waiting
+steps_popped word waiting rest pushed new words one left pops first puts fewer =
+    rw (pops, steps-push word rest words) (omega (arith, first, puts, fewer))

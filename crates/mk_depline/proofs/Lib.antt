@@ -1,3 +1,5 @@
 mod BraceLemmas
+mod GroupLemmas
+mod LeftLemmas
 mod NameLemmas
 mod PlaceLemmas

@@ -1,5 +1,6 @@
 -- Braces: `x{a,b}y` stands for `xay xby`.
-use Rattle.std.specs.Prelude.{ℕ, zero, suc, ◌+◌, ◌-◌, ◌==◌, ◌&&◌, Bool, List, [], ◌∷◌, ◌++◌}
+use Rattle.std.specs.Prelude.{ℕ, zero, suc, ◌+◌, ◌-◌, ◌==◌, ◌&&◌, ◌||◌, ◌≡◌, ◌≤◌, Bool, false}
+use Rattle.std.specs.Prelude.{not, List, [], ◌∷◌, ◌++◌}
 use Rattle.std.specs.Prelude.{length, take, drop, position, Option, Some, None, Result, Ok, Err}
 use Rattle.std.specs.Prelude.{if◌then◌else◌}
 use Rattle.std.specs.List.{onto_first}
@@ -8,6 +9,7 @@ use Rattle.mk_bytes.specs.Agrees.{◌>>=◌}
 use Rattle.mk_bytes.specs.Bytes.{curly_open, curly_close}
 use Rattle.mk_bytes.specs.Words.{words_among}
 use Rattle.mk_depline.specs.declared.brace.Pending.{Pending}
+use Rattle.mk_depline.specs.declared.brace.Reading.{Reading}
 use Rattle.mk_depline.specs.declared.fault.DepFault.{DepFault}
 use Rattle.mk_depline.specs.declared.fault.DepFault.TheVariants.{Brace, NoMemory}
 
@@ -46,10 +48,6 @@ alternatives_from depth (byte ∷ rest) =
 
 abbrev pub alternatives : List ℕ → List (List ℕ)
 alternatives inside = alternatives_from 0 inside
-
-abbrev pub alternatives_at : List ℕ → Option ℕ → List (List ℕ)
-alternatives_at inside None = []
-alternatives_at inside (Some at) = alternatives (drop at inside)
 
 -- a word with braces: what stands before the first, in it and behind it
 pub record Group : Type 0 where
@@ -113,25 +111,104 @@ all_spelled_out [] = Ok []
 all_spelled_out (word ∷ words) =
     spelled_out word >>= λ names. all_spelled_out words >>= λ others. Ok (names ++ others)
 
+-- What is left of a word that is read from the left
+
+-- the first alternative of what stands in a group
+abbrev pub first_to : List ℕ → Option ℕ → List ℕ
+first_to inside None = inside
+first_to inside (Some at) = take at inside
+
+abbrev pub first_of : List ℕ → List ℕ
+first_of inside = first_to inside (place_of comma inside)
+
+-- in an alternative of a group that is closed at such a place: the rest of the alternative, and
+-- what is left behind the group
+abbrev pub left_to : List ℕ → (List ℕ → List ℕ) → Option ℕ → List ℕ
+left_to text behind None = text
+left_to text behind (Some at) = first_of (take at text) ++ behind (drop (suc at) text)
+
+-- what is left of a word from a place in the alternatives of so many groups
+unfoldable pub left : ℕ → List ℕ → List ℕ
+left zero text = text
+left (suc depth) text = left_to text (left depth) (place_of curly_close text)
+
+-- whether a text begins with what ends an alternative
+abbrev pub ends_alternative : List ℕ → Bool
+ends_alternative [] = false
+ends_alternative (byte ∷ rest) = byte == comma || byte == curly_close
+
+-- where the group is closed whose alternative ends where a text begins
+abbrev pub group_end : ℕ → List ℕ → Option ℕ
+group_end zero text = None
+group_end (suc depth) text =
+    if ends_alternative text then place_of curly_close text else None
+
+-- whether a text begins with a byte that opens no group
+abbrev pub is_plain : List ℕ → Bool
+is_plain [] = false
+is_plain (byte ∷ rest) = not (byte == curly_open)
+
+-- where the alternative behind the first one begins, in a group that is closed at such a place
+abbrev pub next_in : List ℕ → Option ℕ → Option ℕ
+next_in text None = None
+next_in text (Some at) = option_map suc (place_of comma (take at text))
+
 -- What the code keeps open
+
+-- the word of which a part is read
+abbrev pub word_of : List ℕ → Reading → List ℕ
+word_of word r = r.text ++ left r.depth (drop r.at word)
+
+-- a text that opens no group
+abbrev pub Plain : List ℕ → Type 0
+Plain [] = Unit {0}
+Plain (byte ∷ text) = (is_open byte ≡ false) × Plain text
+
+-- a place in a word, in no more groups than bytes, behind a text that opens none
+pub record IsPlaced (word text : List ℕ) (at depth : ℕ) : Type 0 where
+  pub within : at ≤ length word
+  pub deep : depth ≤ at
+  pub plain : Plain text
+
+-- the same of all alternatives that wait
+abbrev pub Placed : List ℕ → List Pending → Type 0
+Placed word [] = Unit {0}
+Placed word (p ∷ inner) = IsPlaced word p.before p.at (p.depth + 1) × Placed word inner
+
+abbrev pub PlacedLeft : List ℕ → Option Pending → Type 0
+PlacedLeft word None = Unit {0}
+PlacedLeft word (Some p) = IsPlaced word p.before p.at (p.depth + 1)
 
 -- the words of one, and those behind them
 abbrev pub both_spelled : Result (List (List ℕ)) DepFault → Result (List (List ℕ)) DepFault
     → Result (List (List ℕ)) DepFault
 both_spelled first behind = first >>= λ words. behind >>= λ others. Ok (words ++ others)
 
-abbrev pub pending_words : Pending → Result (List (List ℕ)) DepFault
-pending_words p =
-    each_spelled (spelled_in p.most) p.before p.behind (alternatives (drop p.at p.inside))
+-- the alternatives of a group that is closed at such a place, and what is left behind it
+abbrev pub alternatives_to : List ℕ → Option ℕ → List (List ℕ)
+alternatives_to text None = text ∷ []
+alternatives_to text (Some at) = alternatives (take at text)
 
-abbrev pub words_left : Option Pending → Result (List (List ℕ)) DepFault
-words_left None = Ok []
-words_left (Some p) = pending_words p
+abbrev pub behind_to : ℕ → List ℕ → Option ℕ → List ℕ
+behind_to depth text None = []
+behind_to depth text (Some at) = left depth (drop (suc at) text)
+
+abbrev pub spelled_to : ℕ → List ℕ → ℕ → List ℕ → Option ℕ → Result (List (List ℕ)) DepFault
+spelled_to most before depth text at =
+    each_spelled (spelled_in most) before (behind_to depth text at) (alternatives_to text at)
+
+abbrev pub pending_words : List ℕ → Pending → Result (List (List ℕ)) DepFault
+pending_words word p =
+    spelled_to p.most p.before p.depth (drop p.at word) (place_of curly_close (drop p.at word))
+
+abbrev pub words_left : List ℕ → Option Pending → Result (List (List ℕ)) DepFault
+words_left word None = Ok []
+words_left word (Some p) = pending_words word p
 
 -- the innermost is the last, and its words come first
-abbrev pub all_pending : List Pending → Result (List (List ℕ)) DepFault
-all_pending [] = Ok []
-all_pending (p ∷ inner) = both_spelled (all_pending inner) (pending_words p)
+abbrev pub all_pending : List ℕ → List Pending → Result (List (List ℕ)) DepFault
+all_pending word [] = Ok []
+all_pending word (p ∷ inner) = both_spelled (all_pending word inner) (pending_words word p)
 
 -- how many words are spelled on the way
 abbrev pub each_steps : (List ℕ → ℕ) → List ℕ → List ℕ → List (List ℕ) → ℕ
@@ -148,14 +225,18 @@ unfoldable pub word_steps : ℕ → List ℕ → ℕ
 word_steps zero word = 0
 word_steps (suc most) word = group_steps (word_steps most) (group_of word)
 
-abbrev pub pending_steps : Pending → ℕ
-pending_steps p =
-    each_steps (word_steps p.most) p.before p.behind (alternatives (drop p.at p.inside))
+abbrev pub steps_to : ℕ → List ℕ → ℕ → List ℕ → Option ℕ → ℕ
+steps_to most before depth text at =
+    each_steps (word_steps most) before (behind_to depth text at) (alternatives_to text at)
 
-abbrev pub steps_left : Option Pending → ℕ
-steps_left None = 0
-steps_left (Some p) = pending_steps p
+abbrev pub pending_steps : List ℕ → Pending → ℕ
+pending_steps word p =
+    steps_to p.most p.before p.depth (drop p.at word) (place_of curly_close (drop p.at word))
 
-abbrev pub all_steps : List Pending → ℕ
-all_steps [] = 0
-all_steps (p ∷ inner) = pending_steps p + all_steps inner
+abbrev pub steps_left : List ℕ → Option Pending → ℕ
+steps_left word None = 0
+steps_left word (Some p) = pending_steps word p
+
+abbrev pub all_steps : List ℕ → List Pending → ℕ
+all_steps word [] = 0
+all_steps word (p ∷ inner) = pending_steps word p + all_steps word inner

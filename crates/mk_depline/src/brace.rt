@@ -1,8 +1,8 @@
 //! Braces: `x{a,b}y` stands for `xay xby`.
-ghost use Rattle.std.specs.Prelude.{◌≡◌, ◌+◌, ◌<◌, ◌≤◌, ◌∷◌, ◌++◌, [], length, drop, position, Ok, IfOk, IfErr, IfSome, OnOk};
+ghost use Rattle.std.specs.Prelude.{◌≡◌, ◌+◌, ◌<◌, ◌≤◌, ◌∷◌, ◌++◌, [], true, false, length};
+ghost use Rattle.std.specs.Prelude.{drop, IfOk, IfErr, IfSome, OnOk};
 ghost use Rattle.mk_bytes.specs.Agrees.{Agrees, AgreesErr};
 ghost use Rattle.mk_depline.specs.Braces as spec;
-ghost use Rattle.mk_depline.specs.View.{group_seen};
 ghost use Rattle.mk_bytes.specs.Words as words;
 ghost use Rattle.mk_depline.specs.declared.fault.DepFault.TheVariants.{NoMemory as no_memory};
 
@@ -26,13 +26,6 @@ fn stops(wanted: u8, depth: usize, byte: u8) -> bool
     ensures { result ≡ spec.stops wanted depth byte }
 {
     byte == wanted && depth == 0
-}
-
-fn first_open(word: &[u8]) -> Option<usize>
-    ensures value { result ≡ position spec.is_open word.now }
-    ensures within { IfSome result (λ at. at < length word.now) }
-{
-    word.iter().position(|byte| *byte == b'{')
 }
 
 // The place of the first such byte that stands in no brace of a text.
@@ -60,51 +53,45 @@ fn behind(text: &[u8], at: usize) -> &[u8]
     &text[at..]
 }
 
-// The first alternative, and the place behind its comma.
-fn first_alternative(inside: &[u8]) -> (&[u8], Option<usize>)
-    ensures alternatives { spec.alternatives inside.now
-        ≡ result.0.now ∷ spec.alternatives_at inside.now result.1 }
-    ensures within { IfSome result.1 (λ at. (0 < at) × (at ≤ length inside.now)) }
+// Whether a text begins with a byte that opens no group.
+fn is_plain(text: &[u8]) -> bool
+    ensures { result ≡ spec.is_plain text.now }
 {
-    match place_of(b',', inside) {
-        Some(at) => (&inside[..at], Some(at + 1)),
-        None => (inside, None),
+    match text {
+        [] => false,
+        [byte, ..] => *byte != b'{',
     }
 }
 
-/// What a word with braces is made of.
-#[derive(Clone, Copy)]
-pub struct Group<'t> {
-    pub before: &'t [u8],
-    pub inside: &'t [u8],
-    pub behind: &'t [u8],
-}
-
-// The first group of a word. `Brace` exactly where its brace is not closed.
-fn group_of<'t>(word: &'t [u8]) -> Result<Option<Group<'t>>, DepFault>
-    ensures { Agrees no_memory group_seen result (spec.group_of word.now) }
+fn ends_alternative(text: &[u8]) -> bool
+    ensures { result ≡ spec.ends_alternative text.now }
 {
-    let Some(at) = first_open(word) else {
-        return Ok(None);
-    };
-    let rest = &word[at + 1..];
-    match place_of(b'}', rest) {
-        Some(end) => Ok(Some(Group {
-            before: &word[..at],
-            inside: &rest[..end],
-            behind: &rest[end + 1..],
-        })),
-        None => Err(DepFault::Brace),
+    match text {
+        [] => false,
+        [byte, ..] => *byte == b',' || *byte == b'}',
     }
 }
 
-fn joined(alloc: Global, before: &[u8], one: &[u8], behind: &[u8]) -> Result<Text, NoMemory>
-    ensures { IfOk result (λ text. text ≡ before.now ++ one.now ++ behind.now) }
+// Where the group is closed whose alternative ends where a text begins.
+fn group_end(depth: usize, text: &[u8]) -> Option<usize>
+    ensures value { result ≡ spec.group_end depth text.now }
+    ensures within { IfSome result (λ at. at < length text.now) }
+    ensures deep { IfSome result (λ at. 0 < depth) }
 {
-    let mut text = Text::from_bytes(alloc, before)?;
-    text.push(one)?;
-    text.push(behind)?;
-    Ok(text)
+    if depth == 0 || !ends_alternative(text) {
+        return None;
+    }
+    place_of(b'}', text)
+}
+
+// Where the alternative behind the first one begins.
+fn next_alternative(text: &[u8]) -> Option<usize>
+    ensures value { result ≡ spec.next_in text.now (spec.place_of 125 text.now) }
+    ensures within { IfSome result (λ at. at ≤ length text.now) }
+{
+    let end = place_of(b'}', text)?;
+    let comma = place_of(b',', &text[..end])?;
+    Some(comma + 1)
 }
 
 // Adds a word, if it is not empty.
@@ -117,32 +104,66 @@ fn push_word(alloc: Global, word: &[u8], names: &mut Texts) -> Result<(), NoMemo
     names.push(Text::from_bytes(alloc, word)?)
 }
 
-/// The words of a group's alternatives, from the one at a place inside on. Each may have so many
-/// groups more.
+/// A word that is read from the left: what it is so far, and the place of the next byte, which
+/// stands in so many groups. It may have so many groups more.
+#[derive(Drop)]
+pub struct Reading {
+    pub most: usize,
+    pub text: Text,
+    pub at: usize,
+    pub depth: usize,
+}
+
+/// The alternatives of a group from the one at a place on, what stands before the group, and in how
+/// many others it stands. Each may have so many groups more.
 #[derive(Drop)]
 pub struct Pending {
     pub most: usize,
     pub before: Text,
-    pub inside: Text,
     pub at: usize,
-    pub behind: Text,
+    pub depth: usize,
 }
 
-fn group_words(alloc: Global, most: usize, group: Group<'_>) -> Result<Pending, NoMemory>
-    ensures words { IfOk result (λ words. spec.pending_words words
-        ≡ spec.each_spelled (spec.spelled_in most) group.entry.before.now group.entry.behind.now
-        (spec.alternatives group.entry.inside.now)) }
-    ensures steps { IfOk result (λ words. spec.pending_steps words
-        ≡ spec.each_steps (spec.word_steps most) group.entry.before.now group.entry.behind.now
-        (spec.alternatives group.entry.inside.now)) }
+// Reads a byte, or goes from the end of an alternative to behind its group.
+fn read_byte(word: &[u8], reading: &mut Reading) -> Result<(), NoMemory>
+    requires plain { spec.is_plain (drop reading.old.at word.now) ≡ true }
+    requires placed { spec.IsPlaced word.now reading.old.text reading.old.at reading.old.depth }
+    ensures word { OnOk result
+        (spec.word_of word.now reading.new ≡ spec.word_of word.now reading.old) }
+    ensures most { OnOk result (reading.new.most ≡ reading.old.most) }
+    ensures more { OnOk result (reading.old.at < reading.new.at) }
+    ensures placed { OnOk result
+        (spec.IsPlaced word.now reading.new.text reading.new.at reading.new.depth) }
 {
-    Ok(Pending {
-        most,
-        before: Text::from_bytes(alloc, group.before)?,
-        inside: Text::from_bytes(alloc, group.inside)?,
-        at: 0,
-        behind: Text::from_bytes(alloc, group.behind)?,
-    })
+    let rest = behind(word, reading.at);
+    match group_end(reading.depth, rest) {
+        Some(end) => {
+            reading.at += end + 1;
+            reading.depth -= 1;
+        }
+        None => {
+            reading.text.push(&rest[..1])?;
+            reading.at += 1;
+        }
+    }
+    Ok(())
+}
+
+// Reads up to the next group, or to the end of the word.
+fn read_plain(word: &[u8], reading: Reading) -> Result<Reading, NoMemory>
+    requires { spec.IsPlaced word.now reading.text reading.at reading.depth }
+    ensures word { IfOk result
+        (λ new. spec.word_of word.now new ≡ spec.word_of word.now reading) }
+    ensures most { IfOk result (λ new. new.most ≡ reading.most) }
+    ensures placed { IfOk result
+        (λ new. spec.IsPlaced word.now new.text new.at new.depth) }
+    ensures over { IfOk result (λ new. spec.is_plain (drop new.at word.now) ≡ false) }
+{
+    let mut reading = reading;
+    'bytes: while is_plain(behind(word, reading.at)) {
+        read_byte(word, &mut reading)?;
+    }
+    Ok(reading)
 }
 
 fn push_pending(waiting: &mut Vec<Pending>, words: Pending) -> Result<(), NoMemory>
@@ -153,29 +174,60 @@ fn push_pending(waiting: &mut Vec<Pending>, words: Pending) -> Result<(), NoMemo
 }
 
 // The word of the first alternative, and those that are left.
-fn next_word(alloc: Global, words: Pending) -> Result<(Text, Option<Pending>), NoMemory>
-    ensures words { IfOk result (λ next. spec.pending_words words
-        ≡ spec.both_spelled (spec.spelled_in words.most next.0) (spec.words_left next.1)) }
-    ensures steps { IfOk result (λ next. spec.pending_steps words
-        ≡ 1 + (spec.word_steps words.most next.0 + spec.steps_left next.1)) }
+fn next_word(
+    alloc: Global,
+    word: &[u8],
+    words: Pending,
+) -> Result<(Reading, Option<Pending>), NoMemory>
+    requires { spec.IsPlaced word.now words.before words.at (words.depth + 1) }
+    ensures words { IfOk result (λ next. spec.pending_words word.now words
+        ≡ spec.both_spelled (spec.spelled_in words.most (spec.word_of word.now next.0))
+        (spec.words_left word.now next.1)) }
+    ensures steps { IfOk result (λ next. spec.pending_steps word.now words
+        ≡ 1 + (spec.word_steps words.most (spec.word_of word.now next.0)
+        + spec.steps_left word.now next.1)) }
+    ensures most { IfOk result (λ next. next.0.most ≡ words.most) }
+    ensures placed { IfOk result
+        (λ next. spec.IsPlaced word.now next.0.text next.0.at next.0.depth) }
+    ensures left { IfOk result (λ next. spec.PlacedLeft word.now next.1) }
 {
-    let mut words = words;
-    let (one, more) = first_alternative(behind(words.inside.bytes(), words.at));
-    let word = joined(alloc, words.before.bytes(), one, words.behind.bytes())?;
-    let Some(at) = more else {
-        drop(words);
-        return Ok((word, None));
-    };
-    words.at += at;
-    Ok((word, Some(words)))
+    match next_alternative(behind(word, words.at)) {
+        Some(count) => {
+            let text = Text::from_bytes(alloc, words.before.bytes())?;
+            let reading = Reading {
+                most: words.most,
+                text,
+                at: words.at,
+                depth: words.depth + 1,
+            };
+            let left = Pending {
+                at: words.at + count,
+                ..words
+            };
+            Ok((reading, Some(left)))
+        }
+        None => {
+            let reading = Reading {
+                most: words.most,
+                text: words.before,
+                at: words.at,
+                depth: words.depth + 1,
+            };
+            Ok((reading, None))
+        }
+    }
 }
 
 // Puts back those that are left.
-fn push_left(waiting: &mut Vec<Pending>, left: Option<Pending>) -> Result<(), NoMemory>
-    ensures words { OnOk result (spec.all_pending waiting.new.items
-        ≡ spec.both_spelled (spec.words_left left) (spec.all_pending waiting.old.items)) }
-    ensures steps { OnOk result (spec.all_steps waiting.new.items
-        ≡ spec.all_steps waiting.old.items + spec.steps_left left) }
+fn push_left(word: &[u8], waiting: &mut Vec<Pending>, left: Option<Pending>) -> Result<(), NoMemory>
+    requires waiting { spec.Placed word.now waiting.old.items }
+    requires left { spec.PlacedLeft word.now left }
+    ensures words { OnOk result (spec.all_pending word.now waiting.new.items
+        ≡ spec.both_spelled (spec.words_left word.now left)
+        (spec.all_pending word.now waiting.old.items)) }
+    ensures steps { OnOk result (spec.all_steps word.now waiting.new.items
+        ≡ spec.all_steps word.now waiting.old.items + spec.steps_left word.now left) }
+    ensures placed { OnOk result (spec.Placed word.now waiting.new.items) }
 {
     match left {
         Some(words) => {
@@ -189,41 +241,72 @@ fn push_left(waiting: &mut Vec<Pending>, left: Option<Pending>) -> Result<(), No
 // Adds a word that has no group. Of one that has, the words of its first group's alternatives wait.
 fn spell(
     alloc: Global,
-    most: usize,
     word: &[u8],
+    reading: Reading,
     waiting: &mut Vec<Pending>,
     names: &mut Texts,
 ) -> Result<(), DepFault>
-    ensures ok { OnOk result (spec.added names.new (spec.all_pending waiting.new.items)
+    requires reading { spec.IsPlaced word.now reading.text reading.at reading.depth }
+    requires waiting { spec.Placed word.now waiting.old.items }
+    ensures ok { OnOk result (spec.added names.new (spec.all_pending word.now waiting.new.items)
         ≡ spec.added names.old
-        (spec.both_spelled (spec.spelled_in most word.now) (spec.all_pending waiting.old.items))) }
-    ensures err { IfErr result (λ fault. AgreesErr no_memory fault (spec.spelled_in most word.now)) }
-    ensures steps { OnOk result (spec.all_steps waiting.new.items
-        ≤ spec.all_steps waiting.old.items + spec.word_steps most word.now) }
+        (spec.both_spelled (spec.spelled_in reading.most (spec.word_of word.now reading))
+        (spec.all_pending word.now waiting.old.items))) }
+    ensures err { IfErr result (λ fault. AgreesErr no_memory fault
+        (spec.spelled_in reading.most (spec.word_of word.now reading))) }
+    ensures steps { OnOk result (spec.all_steps word.now waiting.new.items
+        ≤ spec.all_steps word.now waiting.old.items
+        + spec.word_steps reading.most (spec.word_of word.now reading)) }
+    ensures placed { OnOk result (spec.Placed word.now waiting.new.items) }
 {
-    match group_of(word)? {
-        None => Ok(push_word(alloc, word, names)?),
-        Some(group) => {
-            if most == 0 {
+    let reading = read_plain(word, reading)?;
+    if reading.at == word.len() {
+        return Ok(push_word(alloc, reading.text.bytes(), names)?);
+    }
+    match place_of(b'}', behind(word, reading.at + 1)) {
+        Some(_) => {
+            if reading.most == 0 {
                 return Err(DepFault::NoMemory);
             }
-            Ok(push_pending(waiting, group_words(alloc, most - 1, group)?)?)
+            let words = Pending {
+                most: reading.most - 1,
+                before: reading.text,
+                at: reading.at + 1,
+                depth: reading.depth,
+            };
+            Ok(push_pending(waiting, words)?)
         }
+        None => Err(DepFault::Brace),
     }
 }
 
-// Adds the words that a word stands for. Those of groups that are open wait in a list, the innermost last.
+// A word of which nothing is read yet. It has fewer groups than bytes.
+#[tactic(auto, unfolding(crate::specs::Braces::left))]
+fn start(alloc: Global, word: &[u8]) -> Reading
+    ensures word { spec.word_of word.now result ≡ word.now }
+    ensures most { result.most ≡ length word.now }
+    ensures placed { spec.IsPlaced word.now result.text result.at result.depth }
+{
+    Reading {
+        most: word.len(),
+        text: Text::new(alloc),
+        at: 0,
+        depth: 0,
+    }
+}
+
+// Adds the words that a word stands for. Those of groups that are open wait in a list, the innermost
+// last.
 fn spell_word(alloc: Global, word: &[u8], names: &mut Texts) -> Result<(), DepFault>
     ensures { Agrees no_memory (λ _. names.new) result
         (spec.added names.old (spec.spelled_out word.now)) }
 {
     let mut waiting = Vec::new(alloc);
-    spell(alloc, word.len(), word, &mut waiting, names)?;
+    spell(alloc, word, start(alloc, word), &mut waiting, names)?;
     'words: while let Some(words) = waiting.pop() {
-        let most = words.most;
-        let (word, left) = next_word(alloc, words)?;
-        push_left(&mut waiting, left)?;
-        spell(alloc, most, word.bytes(), &mut waiting, names)?;
+        let (reading, left) = next_word(alloc, word, words)?;
+        push_left(word, &mut waiting, left)?;
+        spell(alloc, word, reading, &mut waiting, names)?;
     }
     Ok(())
 }

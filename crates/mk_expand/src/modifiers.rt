@@ -1,5 +1,5 @@
 //! The modifiers of a reference, of which only what is chosen is evaluated.
-ghost use Rattle.std.specs.Prelude.{◌≡◌, ◌≤◌, length, false, IfOk, IfSome, OnOk};
+ghost use Rattle.std.specs.Prelude.{◌≡◌, ◌≤◌, length, take, false, IfOk, IfSome, OnOk};
 ghost use Rattle.mk_ast.specs.Tree.{if_undefined, mod_then, no_mods};
 ghost use Rattle.mk_ast.specs.View.{mod_view, mods_view, tree_view};
 ghost use Rattle.mk_values.specs.Calls.{AsksOf, Extends, Finds, FindsAs, Keeps, Modifies};
@@ -8,7 +8,7 @@ ghost use Rattle.mk_values.specs.Names.{while_bound};
 ghost use Rattle.mk_values.specs.Parts.{tree_value};
 ghost use Rattle.mk_values.specs.Value.{found_at};
 ghost use Rattle.mk_values.specs.View.{chain_view};
-ghost use Rattle.mk_pieces.specs.Pieces.{texts_of};
+ghost use Rattle.mk_pieces.specs.Pieces.{Begins, texts_of};
 ghost use Rattle.mk_mods.specs.Pieces.{end_of, seen};
 ghost use Rattle.mk_mods.specs.Results.{no_results};
 ghost use Rattle.mk_mods.specs.State.{words_of};
@@ -17,13 +17,14 @@ use crate::conditions::truth_of;
 use crate::evaluation::tree_value;
 use crate::words::modifier;
 use mk_ast::{ModTree, ModTrees, Tree};
-use mk_bytes::Text;
+use mk_bytes::{NoMemory, Text};
 use mk_cond::{Form, parse_cond};
 use mk_mods::{Results, Val, apply, shown, text, with_results, word_pieces};
-use mk_pool::Piece;
+use mk_pool::{Piece, Region};
 use mk_values::{
     Binding, Chain, ExpandFault, Facts, Found, Names, Run, bind, compacted, given, unbind,
 };
+use std::alloc::Global;
 
 // The text of a `:U`, where that is the one modifier.
 #[tactic(auto, using(mk_ast::proofs::Views::views))]
@@ -85,11 +86,8 @@ pub fn chained<F: Facts>(
         return default_found(names, run, facts, room, text);
     }
     let len = run.region.len();
-    let chain = Chain {
-        val: Val::new(names.alloc, &mut run.region, found.value.bytes())?,
-        defined: found.defined,
-    };
-    let chain = all_modified(names, run, facts, room, name, chain, mods)?;
+    let start = placed(names.alloc, &mut run.region, found)?;
+    let chain = all_modified(names, run, facts, room, name, len, start, mods)?;
     let value = text(names.alloc, &run.region, &chain.val)?;
     run.region.back(len);
     Ok(Found {
@@ -98,7 +96,19 @@ pub fn chained<F: Facts>(
     })
 }
 
-// A chain behind all modifiers.
+// What was found, as a chain. Its text stands in the region alone then.
+fn placed(alloc: Global, region: &mut Region, found: Found) -> Result<Chain, NoMemory>
+    ensures value { IfOk result (λ chain. chain_view region.new.bytes chain ≡ spec.chain_of found) }
+    ensures within { IfOk result (λ chain. end_of chain.val ≤ length region.new.bytes) }
+    ensures begins { Begins region.old.bytes region.new.bytes }
+{
+    let Found { value, defined } = found;
+    let val = Val::new(alloc, region, value.bytes())?;
+    Ok(Chain { val, defined })
+}
+
+// A chain behind all modifiers. What stands behind the first `len` bytes of the region may be
+// given up.
 #[cycle(value)]
 fn all_modified<F: Facts>(
     names: &Names<'_>,
@@ -106,17 +116,22 @@ fn all_modified<F: Facts>(
     facts: &mut F,
     room: usize,
     name: &[u8],
+    len: usize,
     chain: Chain,
     mods: &ModTrees,
 ) -> Result<Chain, ExpandFault>
-    requires { end_of chain.val ≤ length run.old.region.bytes }
+    requires least { 2 ≤ len }
+    requires within { len ≤ length run.old.region.bytes }
+    requires items { end_of chain.val ≤ length run.old.region.bytes }
     ensures value { Modifies F.Facts names.now run.old run.new facts.old facts.new result
         (λ c p. spec.all_modified (found_at room) c p name.now
         (chain_view run.old.region.bytes chain) (mods_view mods.now)) }
-    ensures run { OnOk result (Extends run.old run.new) }
+    ensures open_names { OnOk result (run.new.open_names ≡ run.old.open_names) }
+    ensures bound { OnOk result (run.new.bound.items ≡ run.old.bound.items) }
+    ensures begins { OnOk result
+        (take len run.new.region.bytes ≡ take len run.old.region.bytes) }
     ensures facts { AsksOf F.Facts facts.old facts.new result }
 {
-    let len = run.region.len();
     let mut chain = chain;
     for one in mods.as_slice() {
         let more = modified(names, run, facts, room, name, chain, one)?;

@@ -1,4 +1,4 @@
-use Rattle.std.proofs.Common.{◌≡◌, ◌+◌, ◌-◌, ◌<◌, take, false, [], ◌∷◌, ◌++◌, Ok, refl, sym, ap, ◌∙◌, inl, inr, rules, arith}
+use Rattle.std.proofs.Common.{◌≡◌, ℕ, List, ◌+◌, ◌-◌, ◌<◌, ◌≤◌, length, take, false, [], ◌∷◌, ◌++◌, Ok, refl, sym, ap, ◌∙◌, inl, inr, rules, arith}
 use Rattle.std.proofs.lemmas.Grind.{common_steps}
 use Rattle.std.proofs.lemmas.Result.{err_from_is_err_and}
 use Rattle.mk_ast.proofs.Views as trees
@@ -13,7 +13,10 @@ use Rattle.mk_bytes.proofs.RefusalLemmas.{holds, refused, refused_if}
 use Rattle.mk_cond.proofs.WalkLemmas.{behind_all-push, weight-push}
 use Rattle.mk_cond.specs.View.{cond_view, side_view}
 use Rattle.mk_cond.specs.Walk.{behind_all, step_size, way, weight}
-use Rattle.mk_pieces.proofs.PieceLemmas.{Begins-refl, Begins-trans}
+use Rattle.std.proofs.lemmas.Bool.{not-true}
+use Rattle.std.proofs.lemmas.List.{length-take-le}
+use Rattle.mk_pieces.proofs.PieceLemmas.{Begins-refl, Begins-trans, length-begins}
+use Rattle.mk_pieces.specs.Pieces.{Begins}
 use Rattle.mk_values.specs.Calls.{at, here}
 use Rattle.mk_values.specs.Value.{found_at}
 use Rattle.mk_values.specs.View.{chain_view}
@@ -162,15 +165,33 @@ pub words::new_text-returns-clause-facts : goal.words::new_text-returns-clause-f
 words::new_text-returns-clause-facts g t c =
     Asks-ok _ c.loop-part.invariant.facts
 
+take_begun : (len : ℕ) (old new : List ℕ) → len ≤ length old → Begins old new
+    → take len new ≡ take len old
+take_begun len old new within begins =
+    let longer = length-begins old new begins in
+    let cut : take len (take (length old) new) ≡ take len new = grind (arith, common_steps) in
+    sym cut ∙ ap (take len) begins
+
+take_anew : (len : ℕ) (old new : List ℕ) → len ≤ length old → Begins (take len old) new
+    → take len new ≡ take len old
+take_anew len old new within begins = rw (length-take-le len old within) at begins
+
+take_within : (len : ℕ) (old new : List ℕ) → take len new ≡ take len old → len ≤ length old
+    → len ≤ length new
+take_within len old new same within =
+    let long : length (take len new) ≡ length (take len old) = ap length same in
+    grind (arith, common_steps, long)
+
 pub modifiers::all_modified-loop-one-init : goal.modifiers::all_modified-loop-one-init
 modifiers::all_modified-loop-one-init g t c =
     record {
       value = λ answers by. refl;
-      run = record { open_names = refl; bound = refl; begins = Begins-refl _ };
+      open_names = refl;
+      bound = refl;
+      begins = refl;
+      room = c.requires.within;
       facts = Asks-none (g.met.F.Facts.stays _) _ _ _ (Ok tt) (ok_never tt);
-      within = c.requires;
-      len = c.len-len.ensures.value;
-      least = grind (arith, common_steps);
+      within = c.requires.items;
     }
 
 pub modifiers::all_modified-returns-in_err-more-clause-value : goal.modifiers::all_modified-returns-in_err-more-clause-value
@@ -196,9 +217,10 @@ pub modifiers::all_modified-loop-one-preserved : goal.modifiers::all_modified-lo
 modifiers::all_modified-loop-one-preserved g t c =
     let l = c.loop-one in
     let more = c.in_ok-more.ensures in
-    let run = Extends-then _ _ _ l.invariant.run more.run in
-    let short : take c.len-len.result c.modified.new.run.region.bytes ≡ c.args.run.now.region.bytes =
-    rw l.invariant.len run.begins in
+    let whole = take_begun c.args.len l.run.region.bytes c.modified.new.run.region.bytes l.invariant.room more.run.begins in
+    let placed = take_anew c.args.len c.modified.new.run.region.bytes c.compacted.new.region.bytes
+    (take_within c.args.len _ _ whole l.invariant.room) c.in_ok-chain.ensures.begins in
+    let begins = placed ∙ whole ∙ l.invariant.begins in
     record {
       value = λ answers by.
           let before = earlier _ _ answers more.facts.asked by in
@@ -215,13 +237,10 @@ modifiers::all_modified-loop-one-preserved g t c =
             more.run.bound,
             more.facts.lists,
           ) refl;
-      len = l.invariant.len;
-      least = l.invariant.least;
-      run = record {
-        open_names = run.open_names;
-        bound = run.bound;
-        begins = rw short at c.in_ok-chain.ensures.begins;
-      };
+      open_names = more.run.open_names ∙ l.invariant.open_names;
+      bound = more.run.bound ∙ l.invariant.bound;
+      begins = begins;
+      room = take_within c.args.len _ _ begins c.requires.within;
       facts = Asks-then (g.met.F.Facts.goes_on _ _ _) l.invariant.facts (Asks-ok tt more.facts);
       within = c.in_ok-chain.ensures.within;
     }
@@ -594,7 +613,7 @@ modifiers::chained-returns-clause-value g t c =
           (here c.args.names.now.scopes.now c.args.names.now.locals.now
           (g.F.Facts.lists c.args.facts.now) c.args.run.now false answers)
           (at c.args.run.now (g.F.Facts.asked c.args.facts.now)) c.args.name.now c.args.found
-          (tree_view text.now) c.if-not-found.true),
+          (tree_view text.now) (not-true c.args.found.defined c.if-not-found.true)),
     )
     (c.default_found.ensures.value answers by)
 
@@ -1539,16 +1558,16 @@ pub modifiers::chained-returns-clause-facts : goal.modifiers::chained-returns-cl
 modifiers::chained-returns-clause-facts g t c =
     c.default_found.ensures.facts
 
-pub modifiers::chained-returns-in_err-new-clause-run : goal.modifiers::chained-returns-in_err-new-clause-run
-modifiers::chained-returns-in_err-new-clause-run g t c =
+pub modifiers::chained-returns-in_err-start-clause-run : goal.modifiers::chained-returns-in_err-start-clause-run
+modifiers::chained-returns-in_err-start-clause-run g t c =
     refused _ _ c.from_residual.result c.from_residual.ensures.1
 
-pub modifiers::chained-returns-in_err-new-clause-facts : goal.modifiers::chained-returns-in_err-new-clause-facts
-modifiers::chained-returns-in_err-new-clause-facts g t c =
+pub modifiers::chained-returns-in_err-start-clause-facts : goal.modifiers::chained-returns-in_err-start-clause-facts
+modifiers::chained-returns-in_err-start-clause-facts g t c =
     Asks-refused _ c.from_residual.ensures.1 (Asks-none (g.met.F.Facts.stays _) _ _ _ _ (err_never _ (λ is. cc)))
 
-pub modifiers::chained-returns-in_err-new-clause-value : goal.modifiers::chained-returns-in_err-new-clause-value
-modifiers::chained-returns-in_err-new-clause-value g t c =
+pub modifiers::chained-returns-in_err-start-clause-value : goal.modifiers::chained-returns-in_err-start-clause-value
+modifiers::chained-returns-in_err-start-clause-value g t c =
     λ answers by. refused_as _ c.from_residual.result c.from_residual.ensures.1 (inl (inl refl))
 
 pub modifiers::chained-returns-in_err-chain-clause-run : goal.modifiers::chained-returns-in_err-chain-clause-run
@@ -1575,12 +1594,28 @@ pub modifiers::chained-returns-2-clause-facts : goal.modifiers::chained-returns-
 modifiers::chained-returns-2-clause-facts g t c =
     Asks-ok _ c.in_ok-chain.ensures.facts
 
-pub modifiers::all_modified-returns-in_err-more-clause-run : goal.modifiers::all_modified-returns-in_err-more-clause-run
-modifiers::all_modified-returns-in_err-more-clause-run g t c =
+pub modifiers::all_modified-returns-in_err-more-clause-open_names : goal.modifiers::all_modified-returns-in_err-more-clause-open_names
+modifiers::all_modified-returns-in_err-more-clause-open_names g t c =
     refused _ _ c.from_residual.result c.from_residual.ensures.1
 
-pub modifiers::all_modified-returns-in_err-chain-clause-run : goal.modifiers::all_modified-returns-in_err-chain-clause-run
-modifiers::all_modified-returns-in_err-chain-clause-run g t c =
+pub modifiers::all_modified-returns-in_err-more-clause-bound : goal.modifiers::all_modified-returns-in_err-more-clause-bound
+modifiers::all_modified-returns-in_err-more-clause-bound g t c =
+    refused _ _ c.from_residual.result c.from_residual.ensures.1
+
+pub modifiers::all_modified-returns-in_err-more-clause-begins : goal.modifiers::all_modified-returns-in_err-more-clause-begins
+modifiers::all_modified-returns-in_err-more-clause-begins g t c =
+    refused _ _ c.from_residual.result c.from_residual.ensures.1
+
+pub modifiers::all_modified-returns-in_err-chain-clause-open_names : goal.modifiers::all_modified-returns-in_err-chain-clause-open_names
+modifiers::all_modified-returns-in_err-chain-clause-open_names g t c =
+    refused _ _ c.from_residual-in_err-chain.result c.from_residual-in_err-chain.ensures.1
+
+pub modifiers::all_modified-returns-in_err-chain-clause-bound : goal.modifiers::all_modified-returns-in_err-chain-clause-bound
+modifiers::all_modified-returns-in_err-chain-clause-bound g t c =
+    refused _ _ c.from_residual-in_err-chain.result c.from_residual-in_err-chain.ensures.1
+
+pub modifiers::all_modified-returns-in_err-chain-clause-begins : goal.modifiers::all_modified-returns-in_err-chain-clause-begins
+modifiers::all_modified-returns-in_err-chain-clause-begins g t c =
     refused _ _ c.from_residual-in_err-chain.result c.from_residual-in_err-chain.ensures.1
 
 pub modifiers::all_modified-returns-in_err-chain-clause-facts : goal.modifiers::all_modified-returns-in_err-chain-clause-facts
@@ -1591,9 +1626,17 @@ pub modifiers::all_modified-returns-in_err-chain-clause-value : goal.modifiers::
 modifiers::all_modified-returns-in_err-chain-clause-value g t c =
     λ answers by. refused_as _ c.from_residual-in_err-chain.result c.from_residual-in_err-chain.ensures.1 (inl (inl refl))
 
-pub modifiers::all_modified-returns-clause-run : goal.modifiers::all_modified-returns-clause-run
-modifiers::all_modified-returns-clause-run g t c =
-    c.loop-one.invariant.run
+pub modifiers::all_modified-returns-clause-open_names : goal.modifiers::all_modified-returns-clause-open_names
+modifiers::all_modified-returns-clause-open_names g t c =
+    c.loop-one.invariant.open_names
+
+pub modifiers::all_modified-returns-clause-bound : goal.modifiers::all_modified-returns-clause-bound
+modifiers::all_modified-returns-clause-bound g t c =
+    c.loop-one.invariant.bound
+
+pub modifiers::all_modified-returns-clause-begins : goal.modifiers::all_modified-returns-clause-begins
+modifiers::all_modified-returns-clause-begins g t c =
+    c.loop-one.invariant.begins
 
 pub modifiers::modified-returns-in-Choose-clause-run : goal.modifiers::modified-returns-in-Choose-clause-run
 modifiers::modified-returns-in-Choose-clause-run g t c =

@@ -1,4 +1,4 @@
-use Rattle.std.proofs.Common.{◌≡◌, ◌+◌, ◌*◌, ◌≤◌, drop, length, false, Ok}
+use Rattle.std.proofs.Common.{◌≡◌, ◌+◌, ◌*◌, ◌≤◌, drop, take, length, false, Ok}
 use Rattle.mk_ast.specs.View.{mods_view, tree_view}
 use Rattle.mk_cond.specs.View.{cond_view}
 use Rattle.mk_cond.specs.Walk.{behind_all, step_size, step_walk, weight}
@@ -177,9 +177,10 @@ invariant-modifiers::all_modified-loop-one g l = record {
       (here l.names.scopes.now l.names.locals.now (g.F.Facts.lists l.initial.facts) l.initial.run false answers)
       (at l.initial.run (g.F.Facts.asked l.initial.facts)) l.name
       (chain_view l.initial.run.region.bytes l.initial.chain) (mods_view l.one-items)).answer;
-  len : l.len ≡ length l.initial.run.region.bytes;
-  least : 2 ≤ l.len;
-  run : Extends l.initial.run l.run;
+  open_names : l.run.open_names ≡ l.initial.run.open_names;
+  bound : l.run.bound.items ≡ l.initial.run.bound.items;
+  begins : take l.len l.run.region.bytes ≡ take l.len l.initial.run.region.bytes;
+  room : l.len ≤ length l.run.region.bytes;
   facts : Asks {A = Unit {0}} (g.F.Facts.leads l.initial.facts l.facts) (g.F.Facts.lists l.initial.facts) (g.F.Facts.lists l.facts)
       (g.F.Facts.asked l.initial.facts) (g.F.Facts.asked l.facts)
       (g.F.Facts.faults l.initial.facts) (g.F.Facts.faults l.facts) (Ok tt);
