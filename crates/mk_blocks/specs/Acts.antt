@@ -7,5 +7,7 @@ pub data Act : Type 0 where
   wrote : (message : List ℕ) → Act
   -- it looks for the bytes of a path
   looked : (path : List ℕ) → Act
+  -- it asks for the time of a path, to tell whether a file is there
+  dated : (path : List ℕ) → Act
   -- it has a command run
   ran : (cmd : Cmd) → Act

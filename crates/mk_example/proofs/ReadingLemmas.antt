@@ -3,13 +3,12 @@ use Rattle.std.proofs.Common.{◌≡◌, ◌∙◌, ℕ, zero, List, [], ◌∷�
 use Rattle.std.proofs.Common.{refl, sym, ap, subst, append_assoc}
 use Rattle.std.proofs.lemmas.List.{append-nil}
 use Rattle.std.specs.List.{AllByRecursion}
-use Rattle.mk_blocks.specs.Acts.{Act, wrote, looked, ran}
+use Rattle.mk_blocks.specs.Acts.{Act, wrote, looked, dated, ran}
 use Rattle.mk_values.specs.declared.facts.Asked.{Asked}
 use Rattle.mk_makefile.specs.Acts.{acts_of}
 use Rattle.mk_makefile.specs.Questions.{Answered, Answers, AreAsked, Question, Reading, Running, bytes_of, cut, output_of, time_of, readings_in, runnings_in, times_in}
 use Rattle.mk_trace.specs.TrueBuilds.{LeavesFiles, longer}
 use Rattle.mk_world.proofs.CallLemmas.{after_all-append}
-use Rattle.mk_world.specs.Deeds.{Store}
 use Rattle.mk_world.specs.History.{State as Stand, after, after_all, contents, files_of, first_state, state_of}
 use Rattle.mk_world.specs.Looks.{OnlyLooks}
 use Rattle.mk_world.specs.Talks.{Meaning}
@@ -61,9 +60,7 @@ pub first-found : (meaning : Meaning) (questions : List Question) (old new : His
 first-found meaning [] old new path acts asked is = absurd cc
 first-found meaning (bytes_of at found ∷ more) old new path acts asked is =
     let same : at ≡ path = cc in asked.1.answered ∙ ap (files_of old) same
-first-found meaning (time_of at when ∷ more) old new path acts asked is =
-    first-found meaning more asked.0 new path acts asked.2 is
-    ∙ ap (λ (files : Store). files path) (look-files old asked.0 at asked.1.base asked.1.event)
+first-found meaning (time_of at when ∷ more) old new path acts asked is = absurd cc
 first-found meaning (output_of cmd ended ∷ more) old new path acts asked is = absurd cc
 first-found meaning (cut cmd ∷ more) old new path acts asked is = absurd cc
 
@@ -77,6 +74,7 @@ pub record IsQuiet (old new : History) : Type 0 where
 
 abbrev pub IsLooked : Act → Type 0
 IsLooked (looked path) = Unit {0}
+IsLooked (dated path) = Unit {0}
 IsLooked (ran cmd) = ⊥
 IsLooked (wrote message) = ⊥
 
@@ -105,7 +103,7 @@ asked-quiet meaning (bytes_of path found ∷ more) old new all asked =
     (asked-quiet meaning more asked.0 new all.1 asked.2)
 asked-quiet meaning (time_of path when ∷ more) old new all asked =
     quiet-look old asked.0 new path asked.1.base asked.1.event
-    (asked-quiet meaning more asked.0 new all asked.2)
+    (asked-quiet meaning more asked.0 new all.1 asked.2)
 asked-quiet meaning (output_of cmd ended ∷ more) old new all asked = absurd all.0
 asked-quiet meaning (cut cmd ∷ more) old new all asked = absurd all.0
 

@@ -8,7 +8,7 @@ use Rattle.mk_ast.specs.References.{mods_at, ref_at}
 use Rattle.mk_ast.specs.Rows as rows
 use Rattle.mk_ast.specs.Rows.{is_word, is_left_out_word}
 use Rattle.mk_ast.specs.Text.{text_at}
-use Rattle.mk_blocks.specs.Acts.{Act, wrote, looked, ran}
+use Rattle.mk_blocks.specs.Acts.{Act, wrote, looked, dated, ran}
 use Rattle.mk_blocks.specs.Blocks.{parse, closed, branches}
 use Rattle.mk_blocks.specs.Meaning.{file_at, meaning, chosen}
 use Rattle.mk_blocks.specs.OpenBlocks.{blocks_checked}
@@ -198,6 +198,7 @@ asked-append : (acts more : List Act) → asked_in (acts ++ more) ≡ asked_in a
 asked-append [] more = refl
 asked-append (wrote message ∷ acts) more = asked-append acts more
 asked-append (looked path ∷ acts) more = ap (λ l. looked path ∷ l) (asked-append acts more)
+asked-append (dated path ∷ acts) more = ap (λ l. dated path ∷ l) (asked-append acts more)
 asked-append (ran cmd ∷ acts) more = ap (λ l. ran cmd ∷ l) (asked-append acts more)
 
 begins-then : {A B E : Type 0} (path : List ℕ) (acts rest : List Act) (answer : Result A E) (next : A → Outcome B E)

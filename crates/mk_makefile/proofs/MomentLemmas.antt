@@ -1,18 +1,18 @@
 -- Where reading stands behind questions.
-use Rattle.std.proofs.Common.{◌≡◌, ℕ, ◌+◌, List, [], ◌∷◌, ◌++◌, length, Option, Some, slice_get, refl, sym, ap, ◌∙◌, arith}
+use Rattle.std.proofs.Common.{◌≡◌, ℕ, ◌+◌, List, [], ◌∷◌, ◌++◌, drop, length, Option, Some, slice_get, refl, sym, ap, ◌∙◌, arith}
 use Rattle.std.proofs.lemmas.Grind.{common_steps}
 use Rattle.std.proofs.lemmas.List.{append-nil, map-append}
 use Rattle.mk_blocks.specs.Acts.{Act, looked, ran}
 use Rattle.mk_cli.specs.declared.order.Order.{Order}
 use Rattle.mk_world.specs.declared.command.Cmd.{Cmd}
 use Rattle.mk_world.specs.declared.step.Ended.{Ended}
-use Rattle.mk_makefile.specs.Acts.{acts_of}
+use Rattle.mk_makefile.specs.Acts.{dates}
 use Rattle.mk_makefile.specs.Moments.{Moment, moment_of}
 use Rattle.mk_makefile.specs.Notes.{asked_by, question_of, questions_in}
-use Rattle.mk_makefile.specs.Questions.{Answered, Answers, Reading, Running, bytes_of, output_of, readings_in, runnings_in}
+use Rattle.mk_makefile.specs.Questions.{Answered, Answers, AreTimes, Reading, Running, bytes_of, output_of, readings_in, runnings_in}
 use Rattle.mk_makefile.specs.Questions.{times_in}
 use Rattle.mk_makefile.specs.Questions.{readings_in-append, runnings_in-append, times_in-append}
-use Rattle.mk_makefile.specs.Values.{asking, contents, printed_by}
+use Rattle.mk_makefile.specs.Values.{asking, contents, newly_dated, printed_by}
 use Rattle.mk_makefile.specs.declared.note.Note.{Note}
 use Rattle.mk_makefile.specs.declared.state.State.{State}
 use Rattle.mk_makefile.proofs.QuestionLemmas.{readings_in-none, runnings_in-none}
@@ -45,7 +45,7 @@ length-last before one = grind (arith, common_steps)
 pub moment-asked : (s t : State) (a b : Order) (more : List Note)
     → t.made ≡ s.made → t.in_group ≡ s.in_group → b ≡ a
     → t.notes.items ≡ s.notes.items ++ more
-    → acts_of (questions_in more) ≡ []
+    → AreTimes (questions_in more)
     → record (moment_of s a) { asked = asked_by t.notes.items } ≡ moment_of t b
 moment-asked s t a b more made in_group order added none =
     let read : readings_in (questions_in t.notes.items) ≡ readings_in (questions_in s.notes.items) =
@@ -57,6 +57,19 @@ moment-asked s t a b more made in_group order added none =
     ∙ ap (λ l. runnings_in (questions_in s.notes.items) ++ l) (runnings_in-none (questions_in more) none)
     ∙ append-nil _ in
     rw (made, in_group, order, read, ran) refl
+
+drop-front : {A : Type 0} (front more : List A) → drop (length front) (front ++ more) ≡ more
+drop-front [] more = refl
+drop-front (x ∷ front) more = drop-front front more
+
+-- their times are those that are newly asked for
+pub newly_dated-more : (s t : State) (a : Order) (more : List Note)
+    → t.notes.items ≡ s.notes.items ++ more
+    → newly_dated (moment_of s a) (asked_by t.notes.items) ≡ dates (asked_by more)
+newly_dated-more s t a more added =
+    ap (λ l. dates (drop (length (asked_by s.notes.items)) l))
+    (ap asked_by added ∙ times-more s.notes.items more)
+    ∙ ap dates (drop-front (asked_by s.notes.items) (asked_by more))
 
 slice_get-last : {A : Type 0} (before : List A) (one : A)
     → slice_get (before ++ one ∷ []) (length before) ≡ Some one

@@ -12,10 +12,9 @@ use Rattle.mk_world.specs.Told.{Told}
 use Rattle.mk_world.specs.declared.history.History.{History}
 use Rattle.mk_world.specs.declared.time.When.{When}
 use Rattle.mk_world.proofs.IdleLemmas.{IsIdle, adds_alone, same_idle}
-use Rattle.mk_makefile.specs.Acts.{acts_of}
 use Rattle.mk_makefile.specs.Leads.{Led}
 use Rattle.mk_makefile.specs.Notes.{asked_by, question_of, questions_in}
-use Rattle.mk_makefile.specs.Questions.{AreAsked, IsAsked, Question, bytes_of, cut, cuts_in, output_of, readings_in, runnings_in, time_of, times_in}
+use Rattle.mk_makefile.specs.Questions.{AreAsked, AreTimes, IsAsked, Question, bytes_of, cut, cuts_in, output_of, readings_in, runnings_in, time_of, times_in}
 use Rattle.mk_makefile.specs.Questions.{times_in-append}
 use Rattle.mk_makefile.specs.declared.note.Note.{Note}
 
@@ -55,13 +54,13 @@ told_one meaning question (Some old) (Some new) asked = (new, asked, refl)
 pub led_once : (meaning : Meaning) (idle : Type 0) (before after : Option History)
     (old new : List Note) (note : Note)
     → new ≡ old ++ note ∷ []
-    → acts_of (questions_in (note ∷ [])) ≡ []
+    → AreTimes (questions_in (note ∷ []))
     → (idle → Told before after (IsAsked meaning (question_of note)))
     → Led meaning idle before after old new
-led_once meaning idle before after old new note is no_act told = record {
+led_once meaning idle before after old new note is times told = record {
   more = note ∷ [];
   added = is;
-  no_act = no_act;
+  times = times;
   told = λ i. told_one meaning (question_of note) before after (told i);
 }
 
@@ -79,7 +78,7 @@ pub led_refused : (meaning : Meaning) (idle : Type 0) (before after : Option His
 led_refused meaning idle before after old new is none adds = record {
   more = [];
   added = is ∙ sym (append-nil old);
-  no_act = refl;
+  times = tt;
   told = λ is. told_nothing meaning before after (same_idle meaning before after (none is) adds);
 }
 
@@ -93,25 +92,25 @@ asked_by-push notes more note asked is one =
     ∙ times_in-append (questions_in notes) (questions_in (note ∷ []))
     ∙ ap (λ l. asked_by notes ++ l) one
 
--- questions that ask for no bytes and no command
+-- questions of `exists` ask for no bytes and no command
 
-pub readings_in-none : (questions : List Question) → acts_of questions ≡ [] → readings_in questions ≡ []
-readings_in-none [] none = refl
-readings_in-none (bytes_of path found ∷ more) none = absurd cc
-readings_in-none (time_of path when ∷ more) none = readings_in-none more none
-readings_in-none (output_of cmd ended ∷ more) none = absurd cc
-readings_in-none (cut cmd ∷ more) none = absurd cc
+pub readings_in-none : (questions : List Question) → AreTimes questions → readings_in questions ≡ []
+readings_in-none [] times = refl
+readings_in-none (bytes_of path found ∷ more) times = absurd times
+readings_in-none (time_of path when ∷ more) times = readings_in-none more times
+readings_in-none (output_of cmd ended ∷ more) times = absurd times
+readings_in-none (cut cmd ∷ more) times = absurd times
 
-pub runnings_in-none : (questions : List Question) → acts_of questions ≡ [] → runnings_in questions ≡ []
-runnings_in-none [] none = refl
-runnings_in-none (bytes_of path found ∷ more) none = absurd cc
-runnings_in-none (time_of path when ∷ more) none = runnings_in-none more none
-runnings_in-none (output_of cmd ended ∷ more) none = absurd cc
-runnings_in-none (cut cmd ∷ more) none = absurd cc
+pub runnings_in-none : (questions : List Question) → AreTimes questions → runnings_in questions ≡ []
+runnings_in-none [] times = refl
+runnings_in-none (bytes_of path found ∷ more) times = absurd times
+runnings_in-none (time_of path when ∷ more) times = runnings_in-none more times
+runnings_in-none (output_of cmd ended ∷ more) times = absurd times
+runnings_in-none (cut cmd ∷ more) times = absurd times
 
-pub cuts_in-none : (questions : List Question) → acts_of questions ≡ [] → cuts_in questions ≡ []
-cuts_in-none [] none = refl
-cuts_in-none (bytes_of path found ∷ more) none = absurd cc
-cuts_in-none (time_of path when ∷ more) none = cuts_in-none more none
-cuts_in-none (output_of cmd ended ∷ more) none = absurd cc
-cuts_in-none (cut cmd ∷ more) none = absurd cc
+pub cuts_in-none : (questions : List Question) → AreTimes questions → cuts_in questions ≡ []
+cuts_in-none [] times = refl
+cuts_in-none (bytes_of path found ∷ more) times = absurd times
+cuts_in-none (time_of path when ∷ more) times = cuts_in-none more times
+cuts_in-none (output_of cmd ended ∷ more) times = absurd times
+cuts_in-none (cut cmd ∷ more) times = absurd times

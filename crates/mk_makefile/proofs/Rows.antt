@@ -21,7 +21,7 @@ use Rattle.mk_glob.specs.Patterns.{parts_of}
 use Rattle.mk_lines.specs.Comment.{before_comment, unescaped}
 use Rattle.mk_lines.specs.Lines.{physical_lines, line_groups, joined}
 use Rattle.mk_for.specs.Substitution.{replaced_behind}
-use Rattle.mk_blocks.specs.Acts.{Act, wrote, looked, ran}
+use Rattle.mk_blocks.specs.Acts.{Act, wrote, looked, dated, ran}
 use Rattle.mk_blocks.specs.Blocks.{parse, closed, branches}
 use Rattle.mk_blocks.specs.Meaning.{file_at, meaning, chosen}
 use Rattle.mk_blocks.specs.Runs.{all_turns}
@@ -98,6 +98,7 @@ abbrev messages_in : List Act → List (List ℕ)
 messages_in [] = []
 messages_in (wrote message ∷ acts) = message ∷ messages_in acts
 messages_in (looked path ∷ acts) = messages_in acts
+messages_in (dated path ∷ acts) = messages_in acts
 messages_in (ran cmd ∷ acts) = messages_in acts
 
 abbrev shown : Reads Made → List ℕ → List (List ℕ) × Found
@@ -153,8 +154,8 @@ row_messages : read (codes "V=1" ∷ codes ".info a $V" ∷ codes ".warning b" �
 unfolding physical_lines line_groups joined before_comment unescaped replaced_behind parse closed branches file_at meaning chosen all_turns blocks_checked turns_from equals_at in_at text_at mods_at ref_at rows.begins is_word is_left_out_word begins more_at inner_at is_call skip_blanks all_modified each_behind truth_of any_truth all_truth without_front without_back parts.joined found_at digits parts_of semicolon_from place_from alternatives_from spelled_in
 row_messages = refl
 
--- the files and commands that are asked for: none of a branch that is not chosen, and of places where a
--- file is sought all up to the one at which it is
+-- the files, times and commands that are asked for: none of a branch that is not chosen, and of places
+-- where a file is sought all up to the one at which it is
 abbrev asked_for : List (List ℕ) → List Act
 asked_for ls = asked_in (reading (answers ((codes "makefile", lines ls) ∷ (codes "near/c", []) ∷ [])) env order).acts
 
@@ -163,6 +164,13 @@ row_asked : asked_for (codes ".if 0" ∷ codes "A!=a" ∷ codes ".endif" ∷ cod
     ∷ looked (codes "c") ∷ looked (codes "near/c") ∷ []
 unfolding physical_lines line_groups joined before_comment unescaped replaced_behind parse closed branches file_at meaning chosen all_turns blocks_checked turns_from equals_at in_at text_at mods_at ref_at rows.begins is_word is_left_out_word begins more_at inner_at is_call skip_blanks all_modified each_behind truth_of any_truth all_truth without_front without_back parts.joined found_at digits parts_of semicolon_from place_from alternatives_from spelled_in
 row_asked = refl
+
+-- a time between two commands
+row_dated : asked_for (codes "A!=a" ∷ codes ".if exists(f)" ∷ codes ".endif" ∷ codes "B!=b" ∷ [])
+    ≡ looked (codes "makefile") ∷ ran (record { text = codes "a"; cwd = codes "/w"; exports = [] })
+    ∷ dated (codes "f") ∷ ran (record { text = codes "b"; cwd = codes "/w"; exports = [] }) ∷ []
+unfolding physical_lines line_groups joined before_comment unescaped replaced_behind parse closed branches file_at meaning chosen all_turns blocks_checked turns_from equals_at in_at text_at mods_at ref_at rows.begins is_word is_left_out_word begins more_at inner_at is_call skip_blanks all_modified each_behind truth_of any_truth all_truth without_front without_back parts.joined found_at digits parts_of semicolon_from place_from alternatives_from spelled_in
+row_dated = refl
 
 -- an error ends the reading, behind the messages before it
 row_error : read (codes ".warning w" ∷ codes ".error e" ∷ [])

@@ -2,24 +2,32 @@
 use Rattle.std.specs.Prelude.{◌≡◌, ℕ, List, [], ◌∷◌, ◌++◌, Option, Some, None}
 use Rattle.std.proofs.Common.{refl, sym, ap, subst, ◌∙◌, append_assoc}
 use Rattle.std.proofs.lemmas.List.{append-nil}
-use Rattle.mk_blocks.specs.Acts.{Act, wrote, looked, ran}
+use Rattle.mk_blocks.specs.Acts.{Act, wrote, looked, dated, ran}
+use Rattle.mk_values.specs.declared.facts.Asked.{Asked}
 use Rattle.mk_world.specs.Sinks.{Gains, GainsPart}
 use Rattle.mk_world.proofs.SinkLemmas.{Gains-nothing, Gains-then, GainsPart-more, GainsPart-then}
-use Rattle.mk_makefile.specs.Questions.{Question, bytes_of, time_of, output_of, cut}
+use Rattle.mk_makefile.specs.Questions.{Question, AreTimes, bytes_of, time_of, output_of, cut, times_in}
 
--- The files and commands that questions ask for. A command that was not answered is one of them.
+-- The files, times and commands that questions ask for, each an act, in order. A command that was not
+-- answered is one of them.
 abbrev pub acts_of : List Question → List Act
 acts_of [] = []
 acts_of (bytes_of path found ∷ more) = looked path ∷ acts_of more
-acts_of (time_of path when ∷ more) = acts_of more
+acts_of (time_of path when ∷ more) = dated path ∷ acts_of more
 acts_of (output_of cmd ended ∷ more) = ran cmd ∷ acts_of more
 acts_of (cut cmd ∷ more) = ran cmd ∷ acts_of more
 
--- the files and commands among acts
+-- the times of these questions of `exists`, as acts
+abbrev pub dates : List Asked → List Act
+dates [] = []
+dates (one ∷ more) = dated one.path ∷ dates more
+
+-- the files, times and commands among acts
 abbrev pub asked_in : List Act → List Act
 asked_in [] = []
 asked_in (wrote message ∷ acts) = asked_in acts
 asked_in (looked path ∷ acts) = looked path ∷ asked_in acts
+asked_in (dated path ∷ acts) = dated path ∷ asked_in acts
 asked_in (ran cmd ∷ acts) = ran cmd ∷ asked_in acts
 
 -- the bytes of the messages among acts
@@ -27,32 +35,56 @@ abbrev pub written : List Act → List ℕ
 written [] = []
 written (wrote message ∷ acts) = message ++ written acts
 written (looked path ∷ acts) = written acts
+written (dated path ∷ acts) = written acts
 written (ran cmd ∷ acts) = written acts
 
--- Exactly these acts were done: a sink gained their messages, and their files and commands were asked
--- for behind those before.
+-- Exactly these acts were done: a sink gained their messages, and their files, times and commands were
+-- asked for behind those before, in their order.
 pub record Did (before after : Option (List ℕ)) (asked asked_now acts : List Act) : Type 0 where
   pub gains : Gains before after (written acts)
   pub asks : asked_now ≡ asked ++ asked_in acts
 
--- A first part of the messages was written, and a first part of the files and commands asked for.
+-- A first part of the messages was written, and a first part of the files, times and commands asked
+-- for. Behind it there may be further times: those that the last evaluation asked for before the outside
+-- failed in it, or memory ran out.
 pub record DidPart (before after : Option (List ℕ)) (asked asked_now acts : List Act) : Type 0 where
   pub gains : GainsPart before after (written acts)
   pub part : List Act
   pub rest : List Act
   pub whole : asked_in acts ≡ part ++ rest
-  pub asks : asked_now ≡ asked ++ part
+  pub looks : List Asked
+  pub asks : asked_now ≡ asked ++ (part ++ dates looks)
 
 pub acts_of-append : (first second : List Question)
     → acts_of (first ++ second) ≡ acts_of first ++ acts_of second
 acts_of-append [] second = refl
 acts_of-append (bytes_of path found ∷ more) second =
     ap (λ (l : List Act). looked path ∷ l) (acts_of-append more second)
-acts_of-append (time_of path when ∷ more) second = acts_of-append more second
+acts_of-append (time_of path when ∷ more) second =
+    ap (λ (l : List Act). dated path ∷ l) (acts_of-append more second)
 acts_of-append (output_of cmd ended ∷ more) second =
     ap (λ (l : List Act). ran cmd ∷ l) (acts_of-append more second)
 acts_of-append (cut cmd ∷ more) second =
     ap (λ (l : List Act). ran cmd ∷ l) (acts_of-append more second)
+
+-- questions of `exists` are acts of times, and write nothing
+
+pub acts_of-times : (questions : List Question) → AreTimes questions
+    → acts_of questions ≡ dates (times_in questions)
+acts_of-times [] times = refl
+acts_of-times (time_of path when ∷ more) times =
+    ap (λ (l : List Act). dated path ∷ l) (acts_of-times more times)
+acts_of-times (bytes_of path found ∷ more) times = absurd times
+acts_of-times (output_of cmd ended ∷ more) times = absurd times
+acts_of-times (cut cmd ∷ more) times = absurd times
+
+pub asked_in-dates : (looks : List Asked) → asked_in (dates looks) ≡ dates looks
+asked_in-dates [] = refl
+asked_in-dates (one ∷ more) = ap (λ (l : List Act). dated one.path ∷ l) (asked_in-dates more)
+
+pub written-dates : (looks : List Asked) → written (dates looks) ≡ []
+written-dates [] = refl
+written-dates (one ∷ more) = written-dates more
 
 asked_in-append : (first second : List Act)
     → asked_in (first ++ second) ≡ asked_in first ++ asked_in second
@@ -60,6 +92,8 @@ asked_in-append [] second = refl
 asked_in-append (wrote message ∷ more) second = asked_in-append more second
 asked_in-append (looked path ∷ more) second =
     ap (λ (l : List Act). looked path ∷ l) (asked_in-append more second)
+asked_in-append (dated path ∷ more) second =
+    ap (λ (l : List Act). dated path ∷ l) (asked_in-append more second)
 asked_in-append (ran cmd ∷ more) second =
     ap (λ (l : List Act). ran cmd ∷ l) (asked_in-append more second)
 
@@ -70,6 +104,7 @@ written-append (wrote message ∷ more) second =
     ap (λ l. message ++ l) (written-append more second)
     ∙ sym (append_assoc message (written more) (written second))
 written-append (looked path ∷ more) second = written-append more second
+written-append (dated path ∷ more) second = written-append more second
 written-append (ran cmd ∷ more) second = written-append more second
 
 GainsPart-whole : (a b : Option (List ℕ)) (bytes : List ℕ) → Gains a b bytes → GainsPart a b bytes
@@ -99,8 +134,10 @@ module _ (a b c : Option (List ℕ)) (k l m first second : List Act) where
     rest = more.rest;
     whole = asked_in-append first second ∙ ap (λ s. asked_in first ++ s) more.whole
         ∙ sym (append_assoc (asked_in first) more.part more.rest);
-    asks = more.asks ∙ ap (λ s. s ++ more.part) did.asks
-        ∙ append_assoc k (asked_in first) more.part;
+    looks = more.looks;
+    asks = more.asks ∙ ap (λ s. s ++ (more.part ++ dates more.looks)) did.asks
+        ∙ append_assoc k (asked_in first) (more.part ++ dates more.looks)
+        ∙ ap (λ s. k ++ s) (sym (append_assoc (asked_in first) more.part (dates more.looks)));
   }
 
 module _ (a b : Option (List ℕ)) (k l : List Act) where
@@ -110,7 +147,8 @@ module _ (a b : Option (List ℕ)) (k l : List Act) where
     part = asked_in acts;
     rest = [];
     whole = sym (append-nil (asked_in acts));
-    asks = did.asks;
+    looks = [];
+    asks = did.asks ∙ ap (λ s. k ++ s) (sym (append-nil (asked_in acts)));
   }
 
   pub DidPart-more : (part more : List Act) → DidPart a b k l part → DidPart a b k l (part ++ more)
@@ -121,5 +159,6 @@ module _ (a b : Option (List ℕ)) (k l : List Act) where
     rest = did.rest ++ asked_in more;
     whole = asked_in-append part more ∙ ap (λ s. s ++ asked_in more) did.whole
         ∙ append_assoc did.part did.rest (asked_in more);
+    looks = did.looks;
     asks = did.asks;
   }

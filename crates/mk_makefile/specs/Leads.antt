@@ -6,18 +6,17 @@ use Rattle.mk_world.specs.Talks.{Meaning}
 use Rattle.mk_world.specs.Told.{Told}
 use Rattle.mk_world.specs.declared.history.History.{History}
 use Rattle.mk_makefile.specs.Notes.{question_of, questions_in}
-use Rattle.mk_makefile.specs.Acts.{acts_of, acts_of-append}
-use Rattle.mk_makefile.specs.Questions.{Question, AreAsked}
+use Rattle.mk_makefile.specs.Questions.{Question, AreAsked, AreTimes, bytes_of, cut, output_of, time_of}
 use Rattle.mk_makefile.specs.declared.note.Note.{Note}
 
--- The questions that were noted in addition are those of `exists`, which ask for no bytes and no
--- command. They were asked, and nothing else happened, where no child runs.
+-- The questions that were noted in addition are those of `exists` alone. They were asked, and nothing
+-- else happened, where no child runs.
 pub record Led (meaning : Meaning) (idle : Type 0) (before after : Option History)
     (old new : List Note) : Type 0
   where
     pub more : List Note
     pub added : new ≡ old ++ more
-    pub no_act : acts_of (questions_in more) ≡ []
+    pub times : AreTimes (questions_in more)
     pub told : idle → Told before after (AreAsked meaning (questions_in more))
 
 -- no question
@@ -31,11 +30,19 @@ pub led_nowhere : (meaning : Meaning) (idle : Type 0) (told : Option History) (n
 led_nowhere meaning idle told notes = record {
   more = [];
   added = sym (append-nil notes);
-  no_act = refl;
+  times = tt;
   told = λ is. told-none meaning told;
 }
 
 -- one question after the other
+
+AreTimes-both : (first second : List Question) → AreTimes first → AreTimes second
+    → AreTimes (first ++ second)
+AreTimes-both [] second times more = more
+AreTimes-both (time_of path when ∷ first) second times more = AreTimes-both first second times more
+AreTimes-both (bytes_of path found ∷ first) second times more = absurd times
+AreTimes-both (output_of cmd ended ∷ first) second times more = absurd times
+AreTimes-both (cut cmd ∷ first) second times more = absurd times
 
 pub AreAsked-both : (meaning : Meaning) (a b c : History) (first second : List Question)
     → AreAsked meaning first a b → AreAsked meaning second b c
@@ -61,9 +68,9 @@ led_on meaning idle then_idle a b c old mid new first keeps second = record {
   more = first.more ++ second.more;
   added = second.added ∙ ap (λ l. l ++ second.more) first.added
       ∙ append_assoc old first.more second.more;
-  no_act = ap acts_of (map-append question_of first.more second.more)
-      ∙ acts_of-append (questions_in first.more) (questions_in second.more)
-      ∙ rw (first.no_act, second.no_act) refl;
+  times =
+      subst AreTimes (sym (map-append question_of first.more second.more))
+      (AreTimes-both (questions_in first.more) (questions_in second.more) first.times second.times);
   told = λ is.
       subst (λ q. Told a c (AreAsked meaning q))
       (sym (map-append question_of first.more second.more))

@@ -33,6 +33,14 @@ pub record Running : Type 0 where
   pub cmd : Cmd
   pub ended : Ended
 
+-- these are of `exists` alone
+abbrev pub AreTimes : List Question → Type 0
+AreTimes [] = Unit {0}
+AreTimes (time_of path when ∷ more) = AreTimes more
+AreTimes (bytes_of path found ∷ more) = ⊥
+AreTimes (output_of cmd ended ∷ more) = ⊥
+AreTimes (cut cmd ∷ more) = ⊥
+
 -- the questions of each sort, in order; a file is there unless its time says that it is missing
 abbrev pub times_in : List Question → List Asked
 times_in [] = []

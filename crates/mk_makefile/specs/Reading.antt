@@ -1,11 +1,10 @@
 -- Reading: from a command line and the answers of the outside to variables and the graph.
-use Rattle.std.specs.Prelude.{ℕ, List, [], ◌∷◌, Option, Some, None, Result, Ok, Err, codes}
+use Rattle.std.specs.Prelude.{ℕ, List, [], ◌∷◌, Option, Some, None, codes}
 use Rattle.mk_blocks.specs.Meaning.{file_read}
 use Rattle.mk_blocks.specs.Outcomes.{done, refused, ◌>>=◌}
 use Rattle.mk_blocks.specs.Runs.{Run, run_at}
 use Rattle.mk_bytes.specs.Paths.{clean}
 use Rattle.mk_cli.specs.declared.order.Order.{Order}
-use Rattle.mk_values.specs.declared.facts.Asked.{Asked}
 use Rattle.mk_graph.specs.declared.Made.{Made}
 use Rattle.mk_graph.specs.declared.mode.Mode.{Mode}
 use Rattle.mk_scopes.specs.declared.scopes.Env.{Env}
@@ -17,7 +16,6 @@ use Rattle.mk_makefile.specs.Orders.{first_moment, ordered}
 use Rattle.mk_makefile.specs.Questions.{Answers}
 use Rattle.mk_makefile.specs.ReadFaults.{Reads, file_fault, of_end, of_what, outcome_as}
 use Rattle.mk_makefile.specs.Values.{contents}
-use Rattle.mk_makefile.specs.declared.fault.ReadFault.{ReadFault}
 use Rattle.mk_makefile.specs.declared.fault.ReadFault.TheVariants.{NoFile}
 
 -- the bytes of a file of this name, which is cleaned; or none where it is missing
@@ -95,12 +93,3 @@ run_read answers r = all_read answers r >>= λ last. mode_ended answers last.sta
 abbrev pub reading : Answers → Env → Order → Reads Made
 reading answers env order =
     run_read answers (run_at (first_moment env order) 0) >>= λ end. done (made_at end.0 end.1)
-
-abbrev pub looked_behind : Result (Mode × Moment) ReadFault → List Asked
-looked_behind (Ok end) = end.1.asked
-looked_behind (Err fault) = []
-
--- The paths that `exists` is asked of where all is read, in order, with the answers.
-abbrev pub looks : Answers → Env → Order → List Asked
-looks answers env order =
-    looked_behind (run_read answers (run_at (first_moment env order) 0)).answer

@@ -5,18 +5,21 @@ use Rattle.std.proofs.lemmas.List.{append-nil, map-append}
 use Rattle.mk_blocks.specs.Acts.{Act, wrote}
 use Rattle.mk_blocks.specs.Outcomes.{done, refused}
 use Rattle.mk_blocks.specs.Ties.{Does}
+use Rattle.mk_values.specs.Evaluators.{Answer}
 use Rattle.mk_values.specs.Facts as expand
+use Rattle.mk_values.specs.Value.{questions_of, with_asked}
 use Rattle.mk_values.specs.declared.facts.Asked.{Asked}
 use Rattle.mk_values.specs.declared.fault.ExpandFault.{ExpandFault}
 use Rattle.mk_values.specs.declared.fault.ExpandFault.TheVariants as expand_fault
-use Rattle.mk_makefile.specs.Acts.{Did, Did-nothing, DidPart-more, DidPart-whole, acts_of, acts_of-append, asked_in, written}
+use Rattle.mk_makefile.specs.Acts.{Did, Did-nothing, DidPart-more, DidPart-whole, acts_of, acts_of-append, acts_of-times}
+use Rattle.mk_makefile.specs.Acts.{asked_in, asked_in-dates, dates, written, written-dates}
 use Rattle.mk_makefile.specs.Leads.{told-none}
 use Rattle.mk_makefile.specs.Messages.{said}
 use Rattle.mk_makefile.specs.Moments.{Doing, Moment, moment_of}
-use Rattle.mk_makefile.specs.Notes.{question_of, questions_in}
-use Rattle.mk_makefile.specs.Questions.{Answers, AreAsked, IsAsked, Question, cuts_in}
+use Rattle.mk_makefile.specs.Notes.{asked_by, question_of, questions_in}
+use Rattle.mk_makefile.specs.Questions.{Answers, AreAsked, AreTimes, IsAsked, Question, cuts_in}
 use Rattle.mk_makefile.specs.Refusals.{of_expand, of_world, sorted}
-use Rattle.mk_makefile.specs.Values.{expanded}
+use Rattle.mk_makefile.specs.Values.{expanded, found_by, newly_dated}
 use Rattle.mk_makefile.specs.declared.fault.Outside.{Outside}
 use Rattle.mk_makefile.specs.declared.fault.Outside.TheVariants as outside
 use Rattle.mk_makefile.specs.declared.fault.Refusal.{Refusal}
@@ -25,7 +28,7 @@ use Rattle.mk_makefile.specs.declared.fault.What.{What}
 use Rattle.mk_makefile.specs.declared.fault.What.TheVariants.{Expand}
 use Rattle.mk_makefile.specs.declared.note.Note.{Note}
 use Rattle.mk_makefile.specs.declared.state.State.{State}
-use Rattle.mk_makefile.proofs.MomentLemmas.{moment-asked}
+use Rattle.mk_makefile.proofs.MomentLemmas.{moment-asked, newly_dated-more}
 use Rattle.mk_makefile.proofs.QuestionLemmas.{cuts_in-none, told_nothing, told_one}
 use Rattle.mk_world.specs.Causes.{HasCause}
 use Rattle.mk_world.specs.Runs.{Same}
@@ -54,11 +57,35 @@ sort_of expand_fault.NoMemory = inl refl
 sort_of expand_fault.Failed = inr (inl refl)
 sort_of fault = inr (inr (refl, ((λ is. absurd cc), (λ is. absurd cc))))
 
-own_answer : {A : Type 0} (fault : ExpandFault) (defined : Result A ExpandFault) → IsOwn fault
-    → (expand.IsOutside fault) ⊎ (defined ≡ Err fault) → defined ≡ Err fault
-own_answer fault defined own (inl (inl want)) = absurd (own.0 want)
-own_answer fault defined own (inl (inr failed)) = absurd (own.1 failed)
-own_answer fault defined own (inr same) = same
+-- what holds of an own fault, or of one that the outside causes
+own_case : {P : Type 0} (fault : ExpandFault) → IsOwn fault → (expand.IsOutside fault) ⊎ P → P
+own_case fault own (inl (inl want)) = absurd (own.0 want)
+own_case fault own (inl (inr failed)) = absurd (own.1 failed)
+own_case fault own (inr is) = is
+
+-- the questions behind an answer
+given_questions : {B : Type 0} (found : Answer B) (value : B) (asked : List Asked)
+    → with_asked found ≡ Ok (value, asked) → questions_of found ≡ asked
+given_questions {B = B} (Ok found) value asked is =
+    let same : (found.0, found.1.asked) ≡ (value, asked) = cc in
+    ap (λ (both : B × List Asked). both.1) same
+given_questions (Err fault) value asked is = absurd cc
+
+-- an evaluation by what it asks for and what it gives
+expanded-as : {B : Type 0} (s : Moment) (found : Answer B) (asked : List Asked) (acts : List Act)
+    (told : Result (B × List Asked) ExpandFault)
+    → questions_of found ≡ asked → newly_dated s asked ≡ acts → with_asked found ≡ told
+    → expanded s found ≡ record { acts = acts; answer = found_by s told }
+expanded-as {B = B} s found asked acts told questions dated value =
+    ap (λ (q : List Asked). record {
+      acts = newly_dated s q;
+      answer = found_by s (with_asked found);
+    }) questions
+    ∙ ap (λ (l : List Act). record { acts = l; answer = found_by s (with_asked found) }) dated
+    ∙ ap (λ (r : Result (B × List Asked) ExpandFault). record {
+      acts = acts;
+      answer = found_by s r;
+    }) value
 
 no_rise-ok : {A : Type 0} (found : A) (before after : ℕ)
     → HasCause expand_fault.Failed before after (Ok found)
@@ -125,7 +152,6 @@ Given o x y view answer whole =
     (λ answers found. done (view found, moment_of y.state.now y.order.now)) answer whole
 
 module _ {W S : Type 0} (o : Outer W S) where
-  -- only questions of `exists` were asked, and nothing was written
   did_nothing : (x y : Reader W S) → y.err.now ≡ x.err.now → acts_at o y ≡ acts_at o x
       → did o x y []
   did_nothing x y same asked =
@@ -145,6 +171,44 @@ module _ {W S : Type 0} (o : Outer W S) where
       ap (λ l. acts_of (questions_in l)) noted
       ∙ ap acts_of (map-append question_of x.state.now.notes.items (note ∷ []))
       ∙ acts_of-append (questions_in x.state.now.notes.items) (question_of note ∷ [])
+
+  -- questions of `exists` were asked, and nothing was written
+  module _ (x y : Reader W S) (more : List Note) (same : y.err.now ≡ x.err.now)
+      (noted : y.state.now.notes.items ≡ x.state.now.notes.items ++ more)
+      (times : AreTimes (questions_in more))
+    where
+      dates-noted : acts_at o y ≡ acts_at o x ++ dates (asked_by more)
+      dates-noted =
+          ap (λ l. acts_of (questions_in l)) noted
+          ∙ ap acts_of (map-append question_of x.state.now.notes.items more)
+          ∙ acts_of-append (questions_in x.state.now.notes.items) (questions_in more)
+          ∙ ap (λ l. acts_at o x ++ l) (acts_of-times (questions_in more) times)
+
+      dates_done : did o x y (dates (asked_by more))
+      dates_done = record {
+        gains =
+            subst (λ s. Gains (o.held x.err.now) (o.held s) (written (dates (asked_by more))))
+            (sym same)
+            (subst (Gains (o.held x.err.now) (o.held x.err.now)) (sym (written-dates (asked_by more)))
+            (Gains-nothing (o.held x.err.now)));
+        asks = dates-noted
+            ∙ ap (λ l. acts_at o x ++ l) (sym (asked_in-dates (asked_by more)));
+      }
+
+      -- by an evaluation that ended before its own end
+      dates_part : (acts : List Act) → did_part o x y acts
+      dates_part acts = record {
+        gains =
+            subst (λ s. GainsPart (o.held x.err.now) (o.held s) (written acts)) (sym same)
+            (DidPart-more (o.held x.err.now) (o.held x.err.now) (acts_at o x) (acts_at o x) [] acts
+            (DidPart-whole (o.held x.err.now) (o.held x.err.now) (acts_at o x) (acts_at o x) []
+            (Did-nothing (o.held x.err.now) (acts_at o x)))).gains;
+        part = [];
+        rest = asked_in acts;
+        whole = refl;
+        looks = asked_by more;
+        asks = dates-noted;
+      }
 
   asked_done : (x y : Reader W S) (note : Note) (acts : List Act) → y.err.now ≡ x.err.now
       → y.state.now.notes.items ≡ x.state.now.notes.items ++ note ∷ []
@@ -207,6 +271,31 @@ module _ {W S : Type 0} (o : Outer W S) where
     gives = λ answers by. part answers;
   }
 
+  -- a fault of the definition behind these acts
+  gave-refused : {A B : Type 0} (x y : Reader W S) (view : A → B) (whole : Answers → Doing B)
+      (acts : List Act) → did o x y acts → (what : What) → Leads o None x y
+      → ((answers : Answers) → has_answered o answers y
+      → whole answers ≡ record { acts = acts; answer = Err what })
+      → Given o x y view (Err (Wrong what)) whole
+  gave-refused x y view whole acts done what leads is = record {
+    leads = leads;
+    gives = λ answers by. record {
+      acts = acts;
+      did = done;
+      is = is answers by
+          ∙ ap (λ (l : List Act). record { acts = l; answer = Err what }) (sym (append-nil acts));
+    };
+  }
+
+  -- want of memory behind a first part of the acts
+  gave-wanting : {A B : Type 0} (x y : Reader W S) (view : A → B) (whole : Answers → Doing B)
+      → Leads o None x y → ((answers : Answers) → did_part o x y (whole answers).acts)
+      → Given o x y view (Err NoMemory) whole
+  gave-wanting x y view whole leads part = record {
+    leads = leads;
+    gives = λ answers by. part answers;
+  }
+
   module _ {A B : Type 0} (x y : Reader W S) (view : A → B) (whole : Answers → Doing B)
       (nothing : did o x y [])
     where
@@ -215,17 +304,12 @@ module _ {W S : Type 0} (o : Outer W S) where
           → ((answers : Answers) → has_answered o answers y
           → whole answers ≡ refused what)
           → Given o x y view (Err (Wrong what)) whole
-      gave-wrong what leads is = record {
-        leads = leads;
-        gives = λ answers by. record { acts = []; did = nothing; is = is answers by };
-      }
+      gave-wrong what leads is = gave-refused x y view whole [] nothing what leads is
 
       -- want of memory
       pub gave-want : Leads o None x y → Given o x y view (Err NoMemory) whole
-      gave-want leads = record {
-        leads = leads;
-        gives = λ answers by. part_done x y (whole answers).acts nothing;
-      }
+      gave-want leads =
+          gave-wanting x y view whole leads (λ answers. part_done x y (whole answers).acts nothing)
 
   -- Evaluations
 
@@ -265,8 +349,7 @@ module _ {W S : Type 0} (o : Outer W S) where
       (no_rise outside.Sink failure (o.lost x.err.now) none)
 
   module _ {A B : Type 0} (x y : Reader W S) (stays : Stays x y) (view : A → B)
-      (defined : expand.Answers → Result (B × List Asked) ExpandFault)
-      (whole : Answers → Doing B)
+      (defined : expand.Answers → Answer B) (whole : Answers → Doing B)
       (is : (answers : Answers) → whole answers
       ≡ expanded (moment_of x.state.now x.order.now) (defined answers.exists))
     where
@@ -289,49 +372,76 @@ module _ {W S : Type 0} (o : Outer W S) where
         noted = evaluated.led.added;
         told = evaluated.led.told;
         whole = whole_anyway failure (questions_in evaluated.led.more)
-            (cuts_in-none (questions_in evaluated.led.more) evaluated.led.no_act);
+            (cuts_in-none (questions_in evaluated.led.more) evaluated.led.times);
         stays_idle = evaluated.stays_idle;
         world_cause = cause;
         sink_cause = no_loss failure x y stays.same none;
       }
 
-      nothing : (answer : Result A ExpandFault) → Evaluates answer → did o x y []
-      nothing answer evaluated =
-          did_nothing x y stays.same
-          (ap (λ l. acts_of (questions_in l)) evaluated.led.added
-          ∙ ap acts_of (map-append question_of x.state.now.notes.items evaluated.led.more)
-          ∙ acts_of-append (questions_in x.state.now.notes.items)
-          (questions_in evaluated.led.more)
-          ∙ ap (λ l. acts_at o x ++ l) evaluated.led.no_act ∙ append-nil (acts_at o x))
+      -- the times that were asked for
+      looks : (answer : Result A ExpandFault) → Evaluates answer → List Act
+      looks answer evaluated = dates (asked_by evaluated.led.more)
+
+      looks-done : (answer : Result A ExpandFault) (evaluated : Evaluates answer)
+          → did o x y (looks answer evaluated)
+      unfolding looks
+      looks-done answer evaluated =
+          dates_done x y evaluated.led.more stays.same evaluated.led.added evaluated.led.times
+
+      looks-part : (answer : Result A ExpandFault) (evaluated : Evaluates answer) (acts : List Act)
+          → did_part o x y acts
+      looks-part answer evaluated acts =
+          dates_part x y evaluated.led.more stays.same evaluated.led.added evaluated.led.times acts
+
+      -- they are those of the definition
+      looks-are : (answer : Result A ExpandFault) (evaluated : Evaluates answer)
+          → newly_dated (moment_of x.state.now x.order.now) (asked_by y.state.now.notes.items)
+          ≡ looks answer evaluated
+      unfolding looks
+      looks-are answer evaluated =
+          newly_dated-more x.state.now y.state.now x.order.now evaluated.led.more
+          evaluated.led.added
 
       pub gave-evaluated : (found : A) → Evaluates (Ok found)
           → HasCause expand_fault.Failed (o.faults x.world.now) (o.faults y.world.now)
           (Ok found)
           → Given o x y view (Ok found) whole
       gave-evaluated found evaluated cause =
-          gave-given x y view whole [] (nothing (Ok found) evaluated) found
+          gave-given x y view whole (looks (Ok found) evaluated) (looks-done (Ok found) evaluated)
+          found
           (leads-evaluated (Ok found) None evaluated
           (no_rise-ok found (o.faults x.world.now) (o.faults y.world.now) cause) (λ none. absurd cc))
           (λ answers by. is answers
-          ∙ ap (expanded (moment_of x.state.now x.order.now))
-          (evaluated.value answers.exists by.exists)
-          ∙ ap (λ (m : Moment). done (view found, m))
+          ∙ expanded-as (moment_of x.state.now x.order.now) (defined answers.exists)
+          (asked_by y.state.now.notes.items) (looks (Ok found) evaluated)
+          (Ok (view found, asked_by y.state.now.notes.items))
+          (given_questions (defined answers.exists) (view found)
+          (asked_by y.state.now.notes.items) (evaluated.value answers.exists by.exists))
+          (looks-are (Ok found) evaluated) (evaluated.value answers.exists by.exists)
+          ∙ ap (λ (m : Moment). record {
+            acts = looks (Ok found) evaluated;
+            answer = Ok (view found, m);
+          })
           (moment-asked x.state.now y.state.now x.order.now y.order.now evaluated.led.more
           evaluated.made evaluated.in_group stays.order evaluated.led.added
-          evaluated.led.no_act))
+          evaluated.led.times))
 
       own_fault : (fault : ExpandFault) → IsOwn fault → Evaluates (Err fault)
           → HasCause {T = A} expand_fault.Failed (o.faults x.world.now)
           (o.faults y.world.now) (Err fault)
           → Given o x y view (Err (Wrong (Expand fault))) whole
       own_fault fault own evaluated cause =
-          gave-wrong x y view whole (nothing (Err fault) evaluated) (Expand fault)
+          gave-refused x y view whole (looks (Err fault) evaluated)
+          (looks-done (Err fault) evaluated) (Expand fault)
           (leads-evaluated (Err fault) None evaluated
           (no_rise-err fault (o.faults x.world.now) (o.faults y.world.now) own.1 cause)
           (λ none. absurd cc))
           (λ answers by. is answers
-          ∙ ap (expanded (moment_of x.state.now x.order.now))
-          (own_answer fault (defined answers.exists) own (evaluated.value answers.exists by.exists)))
+          ∙ expanded-as (moment_of x.state.now x.order.now) (defined answers.exists)
+          (asked_by y.state.now.notes.items) (looks (Err fault) evaluated) (Err fault)
+          (own_case fault own (evaluated.questions answers.exists by.exists))
+          (looks-are (Err fault) evaluated)
+          (own_case fault own (evaluated.value answers.exists by.exists)))
 
       by_sort : (fault : ExpandFault) → Sort fault → Evaluates (Err fault)
           → HasCause {T = A} expand_fault.Failed (o.faults x.world.now)
@@ -339,18 +449,19 @@ module _ {W S : Type 0} (o : Outer W S) where
           → Given o x y view (Err (of_expand fault)) whole
       by_sort fault (inl want) evaluated cause =
           subst (λ (r : Refusal). Given o x y view (Err r) whole) (sym (ap of_expand want))
-          (gave-want x y view whole (nothing (Err fault) evaluated)
+          (gave-wanting x y view whole
           (leads-evaluated (Err fault) None evaluated
           (no_rise-err fault (o.faults x.world.now) (o.faults y.world.now)
           (λ failed. let never = sym want ∙ failed in absurd cc) cause)
-          (λ none. absurd cc)))
+          (λ none. absurd cc))
+          (λ answers. looks-part (Err fault) evaluated (whole answers).acts))
       by_sort fault (inr (inl failed)) evaluated cause =
           subst (λ (r : Refusal). Given o x y view (Err r) whole) (sym (ap of_expand failed))
           (gave-failed x y view whole outside.World
           (leads-evaluated (Err fault) (Some outside.World) evaluated
           (rose_by fault (o.faults x.world.now) (o.faults y.world.now) failed cause)
           (λ none. absurd cc))
-          (λ answers. part_done x y (whole answers).acts (nothing (Err fault) evaluated)))
+          (λ answers. looks-part (Err fault) evaluated (whole answers).acts))
       by_sort fault (inr (inr own)) evaluated cause =
           subst (λ (r : Refusal). Given o x y view (Err r) whole) (sym own.0)
           (own_fault fault own.1 evaluated cause)
@@ -578,6 +689,7 @@ module _ {W S : Type 0} (o : Outer W S) where
               part = [];
               rest = [];
               whole = refl;
+              looks = [];
               asks = asked_as_before;
             });
       }

@@ -10,14 +10,10 @@ use Rattle.mk_blocks.specs.Ties as verdict
 use Rattle.mk_world.specs.Causes.{HasCause}
 use Rattle.mk_world.specs.Talks.{Meaning}
 use Rattle.mk_world.specs.declared.history.History.{History}
-use Rattle.mk_blocks.specs.Runs.{run_at}
-use Rattle.mk_graph.specs.declared.mode.Mode.{Mode}
 use Rattle.mk_makefile.specs.Acts.{Did, Did-nothing, DidPart, DidPart-more, DidPart-whole, acts_of}
 use Rattle.mk_makefile.specs.Leads.{told-none}
 use Rattle.mk_makefile.specs.Notes.{questions_in}
-use Rattle.mk_makefile.specs.Moments.{Moment}
-use Rattle.mk_makefile.specs.Questions.{Answered, Answers, times_in}
-use Rattle.mk_makefile.specs.Reading.{looked_behind, run_read}
+use Rattle.mk_makefile.specs.Questions.{Answered, Answers}
 use Rattle.mk_makefile.specs.ReadFaults.{Reads, of_stop, sorted}
 use Rattle.mk_makefile.specs.declared.fault.Fault.TheVariants as fault
 use Rattle.mk_makefile.specs.declared.fault.Outside.{Outside}
@@ -26,7 +22,7 @@ use Rattle.mk_makefile.specs.declared.fault.ReadFault.{ReadFault}
 use Rattle.mk_makefile.specs.declared.fault.ReadFault.TheVariants as read
 use Rattle.mk_makefile.specs.declared.fault.Stop.{Stop}
 use Rattle.mk_makefile.specs.declared.fault.Stop.TheVariants as stop
-use Rattle.mk_reader.specs.Results.{LooksBy, ReadBy, standing}
+use Rattle.mk_reader.specs.Results.{ReadBy}
 use Rattle.mk_reader.specs.Ties.{Leads, Outer, acts_at, cut_last-none, did, did_part, ended, has_answered, idle}
 use Rattle.mk_reader.specs.Ties.{reader_ties}
 use Rattle.mk_reader.specs.declared.reader.Reader.{Reader}
@@ -263,22 +259,3 @@ module _ {W S : Type 0} (o : Outer W S) {x y : Reader W S} where
       whole = cut_last-none (questions_in does.leads.more) does.leads.whole;
       gave = read_part None (λ answers. (defined answers).acts) none does.leads does.gives;
     }
-
-  -- the times of a reading that went well
-  pub looks_ok : (mode : Mode) (start : Moment) → standing x ≡ start
-      → x.state.now.notes.items ≡ [] → idle o x
-      → Does (reader_ties o) sorted x y (λ answers found. done (found, standing y)) (Ok mode)
-      (λ answers. run_read answers (run_at (standing x) 0))
-      → LooksBy o.meaning (o.history x.world.now) (o.history y.world.now)
-      (λ answers. looked_behind (run_read answers (run_at start 0)).answer)
-  looks_ok mode start begins none is does = record {
-    questions = questions_in does.leads.more;
-    asked = does.leads.told is;
-    whole = does.leads.whole;
-    times = λ answers by.
-        let goes = does.gives answers (answered None does.leads none answers by) in
-        ap (λ s. looked_behind (run_read answers (run_at s 0)).answer) (sym begins)
-        ∙ ap looked_behind
-        (ap (λ (one : Reads (Mode × Moment)). one.answer) goes.is)
-        ∙ ap (λ l. times_in (questions_in l)) (does.leads.noted ∙ ap (λ l. l ++ does.leads.more) none);
-  }

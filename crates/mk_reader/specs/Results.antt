@@ -8,11 +8,10 @@ use Rattle.mk_world.specs.Talks.{Meaning}
 use Rattle.mk_world.specs.Told.{Told}
 use Rattle.mk_world.specs.declared.history.History.{History}
 use Rattle.mk_graph.specs.declared.mode.Mode.{Mode}
-use Rattle.mk_values.specs.declared.facts.Asked.{Asked}
 use Rattle.mk_makefile.specs.Acts.{Did, DidPart, acts_of}
 use Rattle.mk_makefile.specs.Moments.{Moment, moment_of}
 use Rattle.mk_makefile.specs.Reading.{run_read}
-use Rattle.mk_makefile.specs.Questions.{Answered, Answers, AreAsked, Question, cuts_in, times_in}
+use Rattle.mk_makefile.specs.Questions.{Answered, Answers, AreAsked, Question}
 use Rattle.mk_makefile.specs.ReadFaults.{Reads, sorted}
 use Rattle.mk_makefile.specs.declared.fault.Outside.{Outside}
 use Rattle.mk_makefile.specs.declared.fault.Outside.TheVariants as outside
@@ -57,8 +56,9 @@ abbrev pub failure_in : {A : Type 0} → Result A ReadFault → Option Outside
 failure_in (Ok given) = None
 failure_in (Err fault) = failure_by fault
 
--- A fault of the reading, behind all that is done before it. Before a fault of the outside or want of
--- memory a part of that was done.
+-- A fault of the reading, behind all that is done before it: the same messages, files, times and
+-- commands. Before a fault of the outside or want of memory a first part of that was done, and behind it
+-- the last evaluation may have asked for times.
 abbrev pub Refused : {A : Type 0} → Option (List ℕ) → Option (List ℕ) → List Act → ReadFault
     → Reads A → Type 0
 Refused before after asked World defined = DidPart before after [] asked defined.acts
@@ -68,7 +68,7 @@ Refused before after asked fault defined =
     (defined.answer ≡ Err fault) × Did before after [] asked defined.acts
 
 -- An answer is what is defined, and exactly that was done outside which is defined: standard error has
--- gained the messages, and these files and commands were asked for.
+-- gained the messages, and these files, times and commands were asked for, in this order.
 abbrev pub Gave : {A : Type 0} → Option (List ℕ) → Option (List ℕ) → List Act
     → Result A ReadFault → Reads A → Type 0
 Gave before after asked (Ok given) defined =
@@ -77,9 +77,9 @@ Gave before after asked (Err fault) defined = Refused before after asked fault d
 
 -- The world was asked these questions in order, each answered with what stood there at its moment, and
 -- nothing else happened in it. What is given is defined by the answers, whatever other questions would
--- be answered, and the files and commands among the questions are those of the definition: no more, no
--- fewer, in its order. Where the outside failed, or memory ran out, the last question may be that of a
--- command without an answer.
+-- be answered, and the questions are those of the definition, of files, times and commands alike: no
+-- more, no fewer, in its order. So they are behind a fault of the makefiles too. Where the outside
+-- failed, or memory ran out, the last question may be that of a command without an answer.
 pub record ReadBy {A : Type 0} (meaning : Meaning) (before after : Option History)
     (held held_after : Option (List ℕ)) (answer : Result A ReadFault)
     (defined : Answers → Reads A) : Type 0
@@ -89,14 +89,3 @@ pub record ReadBy {A : Type 0} (meaning : Meaning) (before after : Option Histor
     pub whole : IsWhole (failure_in answer) questions
     pub gave : (answers : Answers) → Answered answers questions
         → Gave held held_after (acts_of questions) answer (defined answers)
-
--- The world was asked these questions in order, and nothing else happened in it. The times among them
--- are those that the conditions ask for by the answers: no more, no fewer, in their order.
-pub record LooksBy (meaning : Meaning) (before after : Option History)
-    (looks : Answers → List Asked) : Type 0
-  where
-    pub questions : List Question
-    pub asked : Told before after (AreAsked meaning questions)
-    pub whole : cuts_in questions ≡ []
-    pub times : (answers : Answers) → Answered answers questions
-        → looks answers ≡ times_in questions

@@ -6,9 +6,10 @@ use Rattle.std.proofs.lemmas.List.{append-nil, map-append}
 use Rattle.mk_blocks.specs.Acts.{Act}
 use Rattle.mk_blocks.specs.Outcomes.{done}
 use Rattle.mk_blocks.specs.Ties.{Does, Ties}
-use Rattle.mk_values.specs.Facts.{Means}
+use Rattle.mk_values.specs.Evaluators.{Answer}
+use Rattle.mk_values.specs.Facts.{Means, RefusedBehind}
 use Rattle.mk_values.specs.Facts as expand
-use Rattle.mk_values.specs.declared.facts.Asked.{Asked}
+use Rattle.mk_values.specs.Value.{questions_of, with_asked}
 use Rattle.mk_values.specs.declared.fault.ExpandFault.{ExpandFault}
 use Rattle.mk_makefile.specs.Acts.{Did, Did-both, Did-nothing, DidPart, DidPart-behind, DidPart-more, DidPart-whole, acts_of}
 use Rattle.mk_makefile.specs.Kinds.{line_kind}
@@ -210,7 +211,7 @@ module _ {W S : Type 0} (outer : Outer W S) where
       (ap questions_in leads.noted ∙ map-append question_of x.state.now.notes.items leads.more)
       by)
 
-  -- the files and commands that were asked for
+  -- the files, times and commands that were asked for
   abbrev pub acts_at : Reader W S → List Act
   acts_at x = acts_of (questions_in x.state.now.notes.items)
 
@@ -273,14 +274,17 @@ Gave outer x y view answer question =
     (λ answers found. done (view found, moment_of y.state.now y.order.now)) answer
     (λ answers. question answers (moment_of x.state.now x.order.now))
 
--- What evaluating a text or a condition gives, and what it leaves of what was read and of the world.
+-- What evaluating a text or a condition gives, what it asks for, behind a fault of its own too, and what
+-- it leaves of what was read and of the world.
 pub record Evaluated {A B : Type 0} (meaning : Meaning) (idle then_idle : Type 0)
     (before after : Option History) (old new : State) (view : A → B)
     (answer : Result A ExpandFault)
-    (defined : expand.Answers → Result (B × List Asked) ExpandFault) : Type 0
+    (defined : expand.Answers → Answer B) : Type 0
   where
     pub value : Means (asked_by new.notes.items) (λ found. (view found, asked_by new.notes.items))
-        answer defined
+        answer (λ answers. with_asked (defined answers))
+    pub questions : RefusedBehind (asked_by new.notes.items) answer
+        (λ answers. questions_of (defined answers))
     pub made : new.made ≡ old.made
     pub in_group : new.in_group ≡ old.in_group
     pub led : Led meaning idle before after old.notes.items new.notes.items

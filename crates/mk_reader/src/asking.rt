@@ -32,9 +32,9 @@ fn value_in<W: World>(
 ) -> Result<Text, ExpandFault>
     ensures evaluated { Evaluated W.meaning (W.runs world.old []) (W.runs world.new [])
         (W.history world.old) (W.history world.new) state.old state.new (λ value. value) result
-        (λ answers. expand.value_of_text state.old.made.scopes no_locals
+        (λ answers. (expand.of_text state.old.made.scopes no_locals
         (lists_of state.old.made.rules requested.now) answers keep
-        (asked_by state.old.notes.items) text.now) }
+        (asked_by state.old.notes.items) text.now).answer) }
     ensures cause { HasCause failed (W.faults world.old) (W.faults world.new) result }
 {
     let locals = Locals::none(alloc)?;
@@ -60,9 +60,9 @@ fn truth_in<W: World>(
 ) -> Result<bool, ExpandFault>
     ensures evaluated { Evaluated W.meaning (W.runs world.old []) (W.runs world.new [])
         (W.history world.old) (W.history world.new) state.old state.new (λ truth. truth) result
-        (λ answers. expand.truth state.old.made.scopes no_locals
+        (λ answers. (expand.of_condition state.old.made.scopes no_locals
         (lists_of state.old.made.rules requested.now) answers
-        (asked_by state.old.notes.items) (cond_view cond.now)) }
+        (asked_by state.old.notes.items) (cond_view cond.now)).answer) }
     ensures cause { HasCause failed (W.faults world.old) (W.faults world.new) result }
 {
     let locals = Locals::none(alloc)?;

@@ -1,5 +1,5 @@
 //! Reading of the makefiles of a run.
-ghost use Rattle.std.specs.Prelude.{◌^◌, ◌<◌, [], length, IsTrue, OnOk};
+ghost use Rattle.std.specs.Prelude.{◌^◌, ◌<◌, [], length, IsTrue};
 ghost use Rattle.mk_bytes.specs.Paths.{is_clean_directory};
 ghost use Rattle.mk_makefile.specs.Modes as modes;
 ghost use Rattle.mk_makefile.specs.Reading as spec;
@@ -7,7 +7,7 @@ ghost use Rattle.mk_makefile.specs.declared.fault.ReadFault.TheVariants.{
   Sink as sink_failed,
   World as world_failed,
 };
-ghost use Rattle.mk_reader.specs.Results.{Ended, Found, LooksBy, ReadBy, Went};
+ghost use Rattle.mk_reader.specs.Results.{Ended, Found, ReadBy, Went};
 ghost use Rattle.mk_reader.specs.Ties.{Gave, outer};
 ghost use Rattle.mk_world.specs.Causes.{HasCause};
 
@@ -227,8 +227,6 @@ pub fn read<W: World, S: Sink>(
     ensures reading { ReadBy W.meaning (W.history world.old) (W.history world.new)
         (S.held err.old) (S.held err.new) result
         (λ answers. spec.reading answers env.now order.now) }
-    ensures looks { OnOk result (LooksBy W.meaning (W.history world.old) (W.history world.new)
-        (λ answers. spec.looks answers env.now order.now)) }
     ensures world_cause { HasCause world_failed (W.faults world.old) (W.faults world.new) result }
     ensures sink_cause { HasCause sink_failed (S.faults err.old) (S.faults err.new) result }
     ensures idle { W.runs world.new [] }

@@ -4,7 +4,7 @@
 use Rattle.std.specs.Prelude.{◌≡◌, ℕ, ◌||◌, ◌&&◌, true, List, [], ◌∷◌, Option, Some, None, Result, Ok, Err}
 use Rattle.std.specs.Prelude.{is_some, if◌then◌else◌}
 use Rattle.std.specs.List.{AllByRecursion, list_any}
-use Rattle.mk_blocks.specs.Acts.{Act, wrote, looked, ran}
+use Rattle.mk_blocks.specs.Acts.{Act, wrote, looked, dated, ran}
 use Rattle.mk_clean.specs.Clean.{AllWell, CleanJob, IsAmong}
 use Rattle.mk_clean.specs.Declared.{IsDeclared}
 use Rattle.mk_clean.specs.Jobs.{job}
@@ -51,6 +51,7 @@ abbrev pub LeavesThem : Meaning → Store → Act → Type 0
 LeavesThem meaning files (ran cmd) = (path : List ℕ) → after_doing meaning cmd files path ≡ files path
 LeavesThem meaning files (wrote message) = Unit {0}
 LeavesThem meaning files (looked path) = Unit {0}
+LeavesThem meaning files (dated path) = Unit {0}
 
 -- The makefiles are read and a plan is made of these files, with the same words and in the same environment as in
 -- the run; this is what is built.

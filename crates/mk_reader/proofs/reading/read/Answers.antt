@@ -1,5 +1,4 @@
 use Rattle.std.proofs.Common.{◌≡◌, [], Result, ap, refl, sym, ◌∙◌}
-use Rattle.std.specs.Prelude.{OnOk}
 use Rattle.std.proofs.lemmas.Result.{err_from_is_err_and}
 use Rattle.mk_blocks.specs.Outcomes.{done, ◌>>=◌}
 use Rattle.mk_blocks.specs.Runs.{run_at}
@@ -7,14 +6,14 @@ use Rattle.mk_graph.specs.declared.Made.{Made}
 use Rattle.mk_makefile.specs.Modes.{made_at}
 use Rattle.mk_makefile.specs.Orders.{first_moment}
 use Rattle.mk_makefile.specs.ReadFaults.{sorted}
-use Rattle.mk_makefile.specs.Reading.{looks, reading, run_read}
+use Rattle.mk_makefile.specs.Reading.{reading, run_read}
 use Rattle.mk_makefile.specs.declared.fault.ReadFault.{ReadFault}
 use Rattle.mk_makefile.specs.declared.fault.ReadFault.TheVariants as fault
 use Rattle.mk_makefile.specs.declared.fault.Stop.TheVariants as stop
 use Rattle.mk_world.specs.Causes.{HasCause}
-use Rattle.mk_reader.specs.Results.{LooksBy, ReadBy, standing}
+use Rattle.mk_reader.specs.Results.{ReadBy, standing}
 use Rattle.mk_reader.specs.Ties.{outer}
-use Rattle.mk_reader.proofs.ReadByLemmas.{looks_ok, made_or_want, read_err, read_nothing, read_ok, sink_by, sink_ok, world_by}
+use Rattle.mk_reader.proofs.ReadByLemmas.{made_or_want, read_err, read_nothing, read_ok, sink_by, sink_ok, world_by}
 use Rattle.mk_reader.proofs.ReadByLemmas.{world_ok}
 use Rattle.mk_reader.proofs.TieLemmas.{does-as, first-refused, first-then, still-given, still-want}
 use Rattle.mk_reader.proofs.reading.read.Goals as goal
@@ -98,33 +97,6 @@ returns-in-Ok-clause-reading g c =
     made _ is c.made_of.ensures.want
     (rw (same.world, same.err) at (read_ok o made none idle given))
     (rw (same.world, same.err) at (read_err o stop.NoMemory none idle want)))
-
-pub returns-in-Ok-clause-looks : goal.returns-in-Ok-clause-looks
-returns-in-Ok-clause-looks g c =
-    let same = c.new-reader.ensures in
-    let went = c.in-Ok.ensures in
-    let o = outer g.W.World.meaning g.W.World.history g.W.World.faults g.W.World.runs g.S.Sink.held
-    g.S.Sink.faults in
-    let end = c.read_to_end.new.self in
-    let world = c.world-1.given.1 (sym (went.leads.world ∙ same.same_world)) in
-    let err = c.err-1.given.1 (sym (went.leads.err ∙ same.same_err)) in
-    let made = made_at c.in-Ok.mode (standing end) in
-    let is =
-    rw (c.into_made.ensures, c.state-3-1.given.1 (sym (went.leads.state ∙ same.same_state)))
-    at c.made_of.ensures.made in
-    let start : standing c.new-reader.result ≡ first_moment c.args.env.now c.args.order.now =
-    rw (same.state, same.order) c.in_ok-state.ensures.moment in
-    let none : c.new-reader.result.state.now.notes.items ≡ [] = rw same.state c.in_ok-state.ensures.asked in
-    let idle = rw (← same.world) at c.requires.idle in
-    rw world
-    (made_or_want
-    (λ (r : Result Made ReadFault).
-    OnOk r (LooksBy g.W.World.meaning (g.W.World.history c.args.world.now)
-    (g.W.World.history end.world.now) (λ answers. looks answers c.args.env.now c.args.order.now)))
-    made _ is c.made_of.ensures.want
-    (rw same.world at
-    (looks_ok o c.in-Ok.mode (first_moment c.args.env.now c.args.order.now) start none idle went))
-    tt)
 
 pub returns-in-Ok-clause-world_cause : goal.returns-in-Ok-clause-world_cause
 returns-in-Ok-clause-world_cause g c =

@@ -16,7 +16,7 @@ returns-in-Ok-clause-led g c =
     let pushed = rw c.unwrap.ensures at c.push.ensures.items in
     led_once g.W.World.meaning _ _ _ _ _ (Time c.of.result c.of-in-Ok.result)
     (pushed ∙ ap (λ l. l ++ Time c.of.result c.of-in-Ok.result ∷ []) c.reserve.ensures.items)
-    refl
+    tt
     (λ runs.
     let idle : IsIdle (g.W.World.history c.args.self.now.world.now) =
     λ h is. g.met.W.World.told_children c.args.self.now.world.now h [] runs is in

@@ -1,5 +1,7 @@
-use Rattle.std.proofs.Common.{refl, sym, ◌∙◌}
+use Rattle.std.proofs.Common.{ℕ, List, ap, sym, ◌∙◌}
 use Rattle.std.proofs.lemmas.Result.{err_from_is_err_and}
+use Rattle.mk_blocks.specs.Outcomes.{◌>>=◌}
+use Rattle.mk_makefile.specs.Moments.{Doing, moment_of}
 use Rattle.mk_makefile.specs.Variables.{set_by}
 use Rattle.mk_makefile.proofs.VariableLemmas.{variable_name-own}
 use Rattle.mk_reader.proofs.StepLemmas.{given-as, then-fault, then-given}
@@ -18,5 +20,10 @@ returns g c =
 pub returns-then-is_own_value : goal.returns-then-is_own_value
 returns-then-is_own_value g c =
     given-as _ _ _ _ _ _
-    (λ answers. rw (variable_name-own answers c.args.name.now _ (sym c.is_own_value.ensures ∙ c.if-is_own_value.true)) refl)
+    (λ answers.
+    ap (λ (is : Doing (List ℕ)). is
+    >>= λ is. set_by answers c.args.class c.args.op is.0 c.args.text.now is.1)
+    (variable_name-own answers c.args.name.now
+    (moment_of c.args.self.now.state.now c.args.self.now.order.now)
+    (sym c.is_own_value.ensures ∙ c.if-is_own_value.true)))
     c.set_by.ensures
