@@ -175,6 +175,9 @@ rm -f "$room/log"
 seconds=5 row '340000 groups of braces, one behind another' $'\n' '' 0 -V A \
     < <(printf 't: '; times 340000 '{a}'; echo)
 
+seconds=5 row '500000 groups of braces, one in another' $'\n' '' 0 -V A \
+    < <(printf 't: '; times 500000 '{'; printf a; times 500000 '}'; echo)
+
 row 'a chain of 20000 targets' '' '' 0 t20000 <<'MAKEFILE'
 P=
 .for i in ${:U:range=20000}

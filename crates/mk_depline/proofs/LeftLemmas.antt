@@ -11,7 +11,7 @@ use Rattle.mk_depline.specs.Braces.{left_to, place_from}
 use Rattle.mk_depline.specs.Braces.{place_of, stops}
 
 -- a place, counted from so many bytes before
-abbrev shift : ℕ → Option ℕ → Option ℕ
+abbrev pub shift : ℕ → Option ℕ → Option ℕ
 shift count found = option_map (λ k. count + k) found
 
 shift-zero : (found : Option ℕ) → shift 0 found ≡ found
@@ -37,7 +37,7 @@ deeper zero byte false true opens closes none = let no = rw closes at none in cc
 deeper (suc depth) byte false true opens closes none = rw (opens, closes) (omega arith)
 deeper depth byte false false opens closes none = rw (opens, closes) refl
 
-never : (wanted depth byte : ℕ) → stops wanted (suc depth) byte ≡ false
+pub never : (wanted depth byte : ℕ) → stops wanted (suc depth) byte ≡ false
 never wanted depth byte =
     let none : (suc depth == 0) ≡ false = grind (arith, nat_tests) in
     and_right (byte == wanted) (suc depth == 0) none
@@ -134,16 +134,16 @@ unclosed-byte depth byte rest false is none =
     let more = rw is at none in
     (refl, none_map (place_from curly_close (depth_behind depth byte) rest) more)
 
-pub place-unclosed : (depth : ℕ) (text : List ℕ) → place_from curly_close depth text ≡ None
-    → place_from curly_close (suc depth) text ≡ None
+pub place-unclosed : (wanted depth : ℕ) (text : List ℕ) → place_from curly_close depth text ≡ None
+    → place_from wanted (suc depth) text ≡ None
 unfolding place_from
-place-unclosed depth [] none = refl
-place-unclosed depth (byte ∷ rest) none =
+place-unclosed wanted depth [] none = refl
+place-unclosed wanted depth (byte ∷ rest) none =
     let more = unclosed-byte depth byte rest (stops curly_close depth byte) refl none in
     rw (
-      never curly_close depth byte,
+      never wanted depth byte,
       deeper depth byte (byte == curly_open) (byte == curly_close) refl refl more.0,
-      place-unclosed (depth_behind depth byte) rest more.1,
+      place-unclosed wanted (depth_behind depth byte) rest more.1,
     ) refl
 
 -- What is left
@@ -191,7 +191,7 @@ pub left-unclosed : (depth : ℕ) (rest : List ℕ) → place_of curly_close res
     → left depth (curly_open ∷ rest) ≡ curly_open ∷ rest
 unfolding left place_from
 left-unclosed zero rest none = refl
-left-unclosed (suc depth) rest none = rw (place-unclosed 0 rest none) refl
+left-unclosed (suc depth) rest none = rw (place-unclosed curly_close 0 rest none) refl
 
 -- one byte of an alternative
 first-byte : (byte : ℕ) (rest : List ℕ) (found : Option ℕ) → found ≡ place_of comma rest

@@ -2,4 +2,4 @@ mod BraceLemmas
 mod GroupLemmas
 mod LeftLemmas
 mod NameLemmas
-mod PlaceLemmas
+mod NumberLemmas

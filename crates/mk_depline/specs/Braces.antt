@@ -9,6 +9,7 @@ use Rattle.mk_bytes.specs.Agrees.{◌>>=◌}
 use Rattle.mk_bytes.specs.Bytes.{curly_open, curly_close}
 use Rattle.mk_bytes.specs.Words.{words_among}
 use Rattle.mk_depline.specs.declared.brace.Pending.{Pending}
+use Rattle.mk_depline.specs.declared.brace.Places.{Places}
 use Rattle.mk_depline.specs.declared.brace.Reading.{Reading}
 use Rattle.mk_depline.specs.declared.fault.DepFault.{DepFault}
 use Rattle.mk_depline.specs.declared.fault.DepFault.TheVariants.{Brace, NoMemory}
@@ -152,6 +153,31 @@ is_plain (byte ∷ rest) = not (byte == curly_open)
 abbrev pub next_in : List ℕ → Option ℕ → Option ℕ
 next_in text None = None
 next_in text (Some at) = option_map suc (place_of comma (take at text))
+
+-- a place as a number, which is 0 where there is none
+abbrev pub number_of : Option ℕ → ℕ
+number_of None = 0
+number_of (Some at) = suc at
+
+abbrev pub place_numbered : ℕ → Option ℕ
+place_numbered zero = None
+place_numbered (suc at) = Some at
+
+-- the number of a place so many bytes further on
+abbrev pub moved : ℕ → ℕ → ℕ
+moved zero by = 0
+moved (suc at) by = suc at + by
+
+-- the numbers of the places in each end of a text, the shortest first
+unfoldable pub numbers_of : ℕ → List ℕ → List ℕ
+numbers_of wanted [] = 0 ∷ []
+numbers_of wanted (byte ∷ rest) =
+    numbers_of wanted rest ++ number_of (place_of wanted (byte ∷ rest)) ∷ []
+
+-- where groups are closed in each end of a word, and where their alternatives end
+pub record ArePlaces (word : List ℕ) (places : Places) : Type 0 where
+  pub closes : places.closes.items ≡ numbers_of curly_close word
+  pub commas : places.commas.items ≡ numbers_of comma word
 
 -- What the code keeps open
 

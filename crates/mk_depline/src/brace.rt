@@ -1,6 +1,6 @@
 //! Braces: `x{a,b}y` stands for `xay xby`.
-ghost use Rattle.std.specs.Prelude.{◌≡◌, ◌+◌, ◌<◌, ◌≤◌, ◌∷◌, ◌++◌, [], true, false, length};
-ghost use Rattle.std.specs.Prelude.{drop, IfOk, IfErr, IfSome, OnOk};
+ghost use Rattle.std.specs.Prelude.{◌≡◌, ◌+◌, ◌<◌, ◌≤◌, ◌≢◌, ◌∷◌, ◌++◌, [], true, false, length};
+ghost use Rattle.std.specs.Prelude.{drop, position, IfOk, IfErr, IfSome, OnOk};
 ghost use Rattle.mk_bytes.specs.Agrees.{Agrees, AgreesErr};
 ghost use Rattle.mk_depline.specs.Braces as spec;
 ghost use Rattle.mk_bytes.specs.Words as words;
@@ -10,37 +10,10 @@ use crate::fault::DepFault;
 use mk_bytes::{Items, NoMemory, Text, Texts, first_piece};
 use std::alloc::Global;
 
-fn depth_behind(depth: usize, byte: u8) -> usize
-    requires { depth < usize.MAX }
-    ensures value { result ≡ spec.depth_behind depth byte }
-    ensures small { result ≤ depth + 1 }
+fn first_open(word: &[u8]) -> Option<usize>
+    ensures { result ≡ position spec.is_open word.now }
 {
-    match byte {
-        b'{' => depth + 1,
-        b'}' => depth.saturating_sub(1),
-        _ => depth,
-    }
-}
-
-fn stops(wanted: u8, depth: usize, byte: u8) -> bool
-    ensures { result ≡ spec.stops wanted depth byte }
-{
-    byte == wanted && depth == 0
-}
-
-// The place of the first such byte that stands in no brace of a text.
-fn place_of(wanted: u8, text: &[u8]) -> Option<usize>
-    ensures value { result ≡ spec.place_of wanted text.now }
-    ensures within { IfSome result (λ at. at < length text.now) }
-{
-    let mut depth = 0;
-    for (at, byte) in text.iter().enumerate() {
-        if stops(wanted, depth, *byte) {
-            return Some(at);
-        }
-        depth = depth_behind(depth, *byte);
-    }
-    None
+    word.iter().position(|byte| *byte == b'{')
 }
 
 // A text without its first bytes.
@@ -51,6 +24,14 @@ fn behind(text: &[u8], at: usize) -> &[u8]
         return b"";
     }
     &text[at..]
+}
+
+/// Where groups are closed in each end of a word, and where their first alternatives end, from the
+/// shortest end on: a place and one more, and 0 where there is none.
+#[derive(Drop)]
+pub struct Places {
+    pub closes: Vec<usize>,
+    pub commas: Vec<usize>,
 }
 
 // Whether a text begins with a byte that opens no group.
@@ -72,26 +53,132 @@ fn ends_alternative(text: &[u8]) -> bool
     }
 }
 
-// Where the group is closed whose alternative ends where a text begins.
-fn group_end(depth: usize, text: &[u8]) -> Option<usize>
-    ensures value { result ≡ spec.group_end depth text.now }
-    ensures within { IfSome result (λ at. at < length text.now) }
-    ensures deep { IfSome result (λ at. 0 < depth) }
+fn moved(number: usize, by: usize) -> usize
+    requires { number + by ≤ usize.MAX }
+    ensures { result ≡ spec.moved number by }
 {
-    if depth == 0 || !ends_alternative(text) {
+    if number == 0 {
+        return 0;
+    }
+    number + by
+}
+
+// The number of a place in a byte and the text behind it, whose places have these numbers.
+fn number_behind(wanted: u8, byte: u8, rest: &[u8], closes: &[usize], places: &[usize]) -> usize
+    requires wanted { wanted ≢ 123 }
+    requires closes { closes.now ≡ spec.numbers_of 125 rest.now }
+    requires places { places.now ≡ spec.numbers_of wanted rest.now }
+    ensures { result ≡ spec.number_of (spec.place_of wanted (byte ∷ rest.now)) }
+{
+    if byte == wanted {
+        return 1;
+    }
+    let count = rest.len();
+    if byte != b'{' {
+        return moved(places[count], 1);
+    }
+    let close = closes[count];
+    if close == 0 {
+        return 0;
+    }
+    moved(places[count - close], close + 1)
+}
+
+// The places in a byte and the text behind it.
+#[tactic(auto, unfolding(crate::specs::Braces::numbers_of))]
+fn push_places(places: &mut Places, byte: u8, rest: &[u8]) -> Result<(), NoMemory>
+    requires { spec.ArePlaces rest.now places.old }
+    ensures { OnOk result (spec.ArePlaces (byte ∷ rest.now) places.new) }
+{
+    let closes = places.closes.as_slice();
+    let close = number_behind(b'}', byte, rest, closes, closes);
+    let comma = number_behind(b',', byte, rest, closes, places.commas.as_slice());
+    places.closes.push(close)?;
+    places.commas.push(comma)?;
+    Ok(())
+}
+
+// No place at all.
+#[tactic(auto, unfolding(crate::specs::Braces::numbers_of))]
+fn no_places(alloc: Global) -> Result<Places, NoMemory>
+    ensures { IfOk result (λ places. spec.ArePlaces [] places) }
+{
+    let mut closes = Vec::new(alloc);
+    closes.push(0)?;
+    let mut commas = Vec::new(alloc);
+    commas.push(0)?;
+    Ok(Places { closes, commas })
+}
+
+// The places in a word, which is read once, from its last byte on.
+fn places_in(alloc: Global, word: &[u8]) -> Result<Places, NoMemory>
+    ensures { IfOk result (λ places. spec.ArePlaces word.now places) }
+{
+    let mut places = no_places(alloc)?;
+    let mut at = word.len();
+    'bytes: while at > 0 {
+        at -= 1;
+        push_places(&mut places, word[at], behind(word, at + 1))?;
+    }
+    Ok(places)
+}
+
+fn place_numbered(number: usize) -> Option<usize>
+    ensures { result ≡ spec.place_numbered number }
+{
+    if number == 0 {
         return None;
     }
-    place_of(b'}', text)
+    Some(number - 1)
+}
+
+// Where the group is closed in which a place of a word stands.
+fn close_at(places: &Places, word: &[u8], at: usize) -> Option<usize>
+    requires places { spec.ArePlaces word.now places.now }
+    requires within { at ≤ length word.now }
+    ensures value { result ≡ spec.place_of 125 (drop at word.now) }
+    ensures within { IfSome result (λ end. end < length (drop at word.now)) }
+{
+    let closes = places.closes.as_slice();
+    place_numbered(closes[word.len() - at])
+}
+
+// Where the first comma in no other group stands behind a place of a word.
+fn comma_at(places: &Places, word: &[u8], at: usize) -> Option<usize>
+    requires places { spec.ArePlaces word.now places.now }
+    requires within { at ≤ length word.now }
+    ensures value { result ≡ spec.place_of 44 (drop at word.now) }
+    ensures within { IfSome result (λ end. end < length (drop at word.now)) }
+{
+    let commas = places.commas.as_slice();
+    place_numbered(commas[word.len() - at])
+}
+
+// Where the group is closed whose alternative ends at a place of a word.
+fn group_end(places: &Places, word: &[u8], at: usize, depth: usize) -> Option<usize>
+    requires places { spec.ArePlaces word.now places.now }
+    requires within { at ≤ length word.now }
+    ensures value { result ≡ spec.group_end depth (drop at word.now) }
+    ensures within { IfSome result (λ end. end < length (drop at word.now)) }
+    ensures deep { IfSome result (λ end. 0 < depth) }
+{
+    if depth == 0 || !ends_alternative(behind(word, at)) {
+        return None;
+    }
+    close_at(places, word, at)
 }
 
 // Where the alternative behind the first one begins.
-fn next_alternative(text: &[u8]) -> Option<usize>
-    ensures value { result ≡ spec.next_in text.now (spec.place_of 125 text.now) }
-    ensures within { IfSome result (λ at. at ≤ length text.now) }
+fn next_alternative(places: &Places, word: &[u8], at: usize) -> Option<usize>
+    requires places { spec.ArePlaces word.now places.now }
+    requires within { at ≤ length word.now }
+    ensures value { result
+        ≡ spec.next_in (drop at word.now) (spec.place_of 125 (drop at word.now)) }
+    ensures within { IfSome result (λ next. next ≤ length (drop at word.now)) }
 {
-    let end = place_of(b'}', text)?;
-    let comma = place_of(b',', &text[..end])?;
-    Some(comma + 1)
+    let end = close_at(places, word, at)?;
+    let comma = comma_at(places, word, at)?;
+    if comma < end { Some(comma + 1) } else { None }
 }
 
 // Adds a word, if it is not empty.
@@ -125,7 +212,8 @@ pub struct Pending {
 }
 
 // Reads a byte, or goes from the end of an alternative to behind its group.
-fn read_byte(word: &[u8], reading: &mut Reading) -> Result<(), NoMemory>
+fn read_byte(places: &Places, word: &[u8], reading: &mut Reading) -> Result<(), NoMemory>
+    requires places { spec.ArePlaces word.now places.now }
     requires plain { spec.is_plain (drop reading.old.at word.now) ≡ true }
     requires placed { spec.IsPlaced word.now reading.old.text reading.old.at reading.old.depth }
     ensures word { OnOk result
@@ -135,14 +223,13 @@ fn read_byte(word: &[u8], reading: &mut Reading) -> Result<(), NoMemory>
     ensures placed { OnOk result
         (spec.IsPlaced word.now reading.new.text reading.new.at reading.new.depth) }
 {
-    let rest = behind(word, reading.at);
-    match group_end(reading.depth, rest) {
+    match group_end(places, word, reading.at, reading.depth) {
         Some(end) => {
             reading.at += end + 1;
             reading.depth -= 1;
         }
         None => {
-            reading.text.push(&rest[..1])?;
+            reading.text.push(&behind(word, reading.at)[..1])?;
             reading.at += 1;
         }
     }
@@ -150,8 +237,9 @@ fn read_byte(word: &[u8], reading: &mut Reading) -> Result<(), NoMemory>
 }
 
 // Reads up to the next group, or to the end of the word.
-fn read_plain(word: &[u8], reading: Reading) -> Result<Reading, NoMemory>
-    requires { spec.IsPlaced word.now reading.text reading.at reading.depth }
+fn read_plain(places: &Places, word: &[u8], reading: Reading) -> Result<Reading, NoMemory>
+    requires places { spec.ArePlaces word.now places.now }
+    requires placed { spec.IsPlaced word.now reading.text reading.at reading.depth }
     ensures word { IfOk result
         (λ new. spec.word_of word.now new ≡ spec.word_of word.now reading) }
     ensures most { IfOk result (λ new. new.most ≡ reading.most) }
@@ -161,7 +249,7 @@ fn read_plain(word: &[u8], reading: Reading) -> Result<Reading, NoMemory>
 {
     let mut reading = reading;
     'bytes: while is_plain(behind(word, reading.at)) {
-        read_byte(word, &mut reading)?;
+        read_byte(places, word, &mut reading)?;
     }
     Ok(reading)
 }
@@ -176,10 +264,12 @@ fn push_pending(waiting: &mut Vec<Pending>, words: Pending) -> Result<(), NoMemo
 // The word of the first alternative, and those that are left.
 fn next_word(
     alloc: Global,
+    places: &Places,
     word: &[u8],
     words: Pending,
 ) -> Result<(Reading, Option<Pending>), NoMemory>
-    requires { spec.IsPlaced word.now words.before words.at (words.depth + 1) }
+    requires places { spec.ArePlaces word.now places.now }
+    requires placed { spec.IsPlaced word.now words.before words.at (words.depth + 1) }
     ensures words { IfOk result (λ next. spec.pending_words word.now words
         ≡ spec.both_spelled (spec.spelled_in words.most (spec.word_of word.now next.0))
         (spec.words_left word.now next.1)) }
@@ -191,7 +281,7 @@ fn next_word(
         (λ next. spec.IsPlaced word.now next.0.text next.0.at next.0.depth) }
     ensures left { IfOk result (λ next. spec.PlacedLeft word.now next.1) }
 {
-    match next_alternative(behind(word, words.at)) {
+    match next_alternative(places, word, words.at) {
         Some(count) => {
             let text = Text::from_bytes(alloc, words.before.bytes())?;
             let reading = Reading {
@@ -241,11 +331,13 @@ fn push_left(word: &[u8], waiting: &mut Vec<Pending>, left: Option<Pending>) -> 
 // Adds a word that has no group. Of one that has, the words of its first group's alternatives wait.
 fn spell(
     alloc: Global,
+    places: &Places,
     word: &[u8],
     reading: Reading,
     waiting: &mut Vec<Pending>,
     names: &mut Texts,
 ) -> Result<(), DepFault>
+    requires places { spec.ArePlaces word.now places.now }
     requires reading { spec.IsPlaced word.now reading.text reading.at reading.depth }
     requires waiting { spec.Placed word.now waiting.old.items }
     ensures ok { OnOk result (spec.added names.new (spec.all_pending word.now waiting.new.items)
@@ -259,11 +351,11 @@ fn spell(
         + spec.word_steps reading.most (spec.word_of word.now reading)) }
     ensures placed { OnOk result (spec.Placed word.now waiting.new.items) }
 {
-    let reading = read_plain(word, reading)?;
+    let reading = read_plain(places, word, reading)?;
     if reading.at == word.len() {
         return Ok(push_word(alloc, reading.text.bytes(), names)?);
     }
-    match place_of(b'}', behind(word, reading.at + 1)) {
+    match close_at(places, word, reading.at + 1) {
         Some(_) => {
             if reading.most == 0 {
                 return Err(DepFault::NoMemory);
@@ -295,20 +387,39 @@ fn start(alloc: Global, word: &[u8]) -> Reading
     }
 }
 
-// Adds the words that a word stands for. Those of groups that are open wait in a list, the innermost
-// last.
+// Adds the words that a word with groups stands for. Those of groups that are open wait in a list,
+// the innermost last.
+fn spell_groups(alloc: Global, word: &[u8], names: &mut Texts) -> Result<(), DepFault>
+    ensures { Agrees no_memory (λ _. names.new) result
+        (spec.added names.old (spec.spelled_out word.now)) }
+{
+    let places = places_in(alloc, word)?;
+    let mut waiting = Vec::new(alloc);
+    spell(
+        alloc,
+        &places,
+        word,
+        start(alloc, word),
+        &mut waiting,
+        names,
+    )?;
+    'words: while let Some(words) = waiting.pop() {
+        let (reading, left) = next_word(alloc, &places, word, words)?;
+        push_left(word, &mut waiting, left)?;
+        spell(alloc, &places, word, reading, &mut waiting, names)?;
+    }
+    Ok(())
+}
+
+// Adds the words that a word stands for.
 fn spell_word(alloc: Global, word: &[u8], names: &mut Texts) -> Result<(), DepFault>
     ensures { Agrees no_memory (λ _. names.new) result
         (spec.added names.old (spec.spelled_out word.now)) }
 {
-    let mut waiting = Vec::new(alloc);
-    spell(alloc, word, start(alloc, word), &mut waiting, names)?;
-    'words: while let Some(words) = waiting.pop() {
-        let (reading, left) = next_word(alloc, word, words)?;
-        push_left(word, &mut waiting, left)?;
-        spell(alloc, word, reading, &mut waiting, names)?;
+    match first_open(word) {
+        Some(_) => spell_groups(alloc, word, names),
+        None => Ok(push_word(alloc, word, names)?),
     }
-    Ok(())
 }
 
 // Adds the words that a piece of a text stands for, if it is a word.

@@ -11,7 +11,7 @@ returns-in-None-clause-err c =
     let r = c.in_ok-reading.reading in
     let read = c.in_ok-reading.ensures in
     let within : r.at < length c.args.word.now = omega (arith, read.placed.within, c.if-reading-word.false) in
-    let is = rw c.behind.ensures at (sym c.place_of.ensures.value ∙ c.in-None.is) in
+    let is = sym c.close_at.ensures.value ∙ c.in-None.is in
     rw (← read.word)
     (spelled-unclosed c.args.reading.most r.depth r.at r.text c.args.word.now read.over within read.placed.plain is)
 
@@ -32,7 +32,7 @@ returns-in_ok-push_pending-in-Some-clause-ok c =
     let read = c.in_ok-reading.ensures in
     let within : r.at < length c.args.word.now = omega (arith, read.placed.within, c.if-reading-word.false) in
     let some : 0 < r.most = omega (arith, c.if-reading-eq0.false) in
-    let is = rw c.behind.ensures at (sym c.place_of.ensures.value ∙ c.in-Some.is) in
+    let is = sym c.close_at.ensures.value ∙ c.in-Some.is in
     let p : Pending = record { most = r.most - 1; before = r.text; at = r.at + 1; depth = r.depth } in
     rw (
       ← read.word,
@@ -48,7 +48,7 @@ returns-in_ok-push_pending-in-Some-clause-steps c =
     let read = c.in_ok-reading.ensures in
     let within : r.at < length c.args.word.now = omega (arith, read.placed.within, c.if-reading-word.false) in
     let some : 0 < r.most = omega (arith, c.if-reading-eq0.false) in
-    let is = rw c.behind.ensures at (sym c.place_of.ensures.value ∙ c.in-Some.is) in
+    let is = sym c.close_at.ensures.value ∙ c.in-Some.is in
     let p : Pending = record { most = r.most - 1; before = r.text; at = r.at + 1; depth = r.depth } in
     rw (
       ← read.word,

@@ -1,6 +1,6 @@
 use Rattle.std.proofs.Common.{◌≡◌}
 use Rattle.mk_depline.specs.Braces.{Placed, added, all_pending, all_steps, spelled_out}
-use Rattle.mk_depline.proofs.brace.spell_word.Given as goal
+use Rattle.mk_depline.proofs.brace.spell_groups.Given as goal
 
 -- the names so far, and the words of the groups that are open
 abbrev pub invariant-words : goal.invariant-words
