@@ -177,6 +177,21 @@ seconds=5 row '340000 groups of braces, one behind another' $'\n' '' 0 -V A \
 
 seconds=5 row '500000 groups of braces, one in another' $'\n' '' 0 -V A \
     < <(printf 't: '; times 500000 '{'; printf a; times 500000 '}'; echo)
+# An environment of so many variables, in two seconds of a processor.
+if command -v python3 >/dev/null; then
+    cat >"$room/many" <<PYTHON
+#!/usr/bin/env python3
+import os, resource, sys
+resource.setrlimit(resource.RLIMIT_CPU, (2, 2))
+names = {f"V{i}": str(i) for i in range(90000)}
+os.execve("$program", ["$program", *sys.argv[1:]], {**os.environ, **names})
+PYTHON
+    chmod +x "$room/many"
+    plain=$program program=$room/many
+    row 'an environment of 90000 variables' $'0\n4095\n4096\n89999\n' '' 0 \
+        -V V0 -V V4095 -V V4096 -V V89999 <<<''
+    program=$plain
+fi
 
 row 'a chain of 20000 targets' '' '' 0 t20000 <<'MAKEFILE'
 P=

@@ -4,7 +4,15 @@ use mk_bytes::{Items, NoMemory, Pair, Pairs, Text, Texts, clean_path};
 use mk_realworld::Place;
 use std::alloc::Global;
 use std::env::{Env, FillError};
-use std::process;
+use std::fs::Files;
+use std::io::{Error, ErrorKind};
+use std::{fs, process};
+
+// Where the system has the environment that the process began with.
+const ENVIRONMENT: &str = "/proc/self/environ";
+
+// So many variables are asked for one by one.
+const FEW: usize = 4096;
 
 // The system gives no directory longer than this.
 const MAX_PATH: usize = 4096;
@@ -62,18 +70,86 @@ fn variable(alloc: Global, entry: &[u8]) -> Result<Option<Pair>, NoMemory> {
     Ok(Some(Pair { name, value }))
 }
 
-// The variables of the environment, entry by entry.
-fn variables<R: Env + AllocGlobal>(rt: &R) -> Result<Pairs, NoMemory> {
-    let mut vars = Items::new(rt.alloc(), 0)?;
-    for i in 0..usize::MAX {
+// Adds the variables of these places, up to the end of the environment, and tells whether that was met.
+fn ask<R: Env + AllocGlobal>(
+    rt: &R,
+    vars: &mut Pairs,
+    first: usize,
+    end: usize,
+) -> Result<bool, NoMemory> {
+    for i in first..end {
         let Some(entry) = bytes_of(rt, Query::Entry(i))? else {
-            break;
+            return Ok(true);
         };
         if let Some(pair) = variable(rt.alloc(), entry.as_slice())? {
             vars.push(pair)?;
         }
     }
-    Ok(vars)
+    Ok(false)
+}
+
+// Whether entries with a byte 0 between them are still the environment: a library that stands before the
+// program's own may have taken some away or added some. There are as many, and the last is the same.
+fn are_now<R: Env + AllocGlobal>(rt: &R, entries: &[u8]) -> Result<bool, NoMemory> {
+    let mut count = 0usize;
+    let mut last = entries;
+    for entry in entries.split(|byte| *byte == 0) {
+        count = count.saturating_add(1);
+        last = entry;
+    }
+    let is_last = match bytes_of(rt, Query::Entry(count.saturating_sub(1)))? {
+        Some(entry) => entry.as_slice() == last,
+        None => false,
+    };
+    Ok(is_last && bytes_of(rt, Query::Entry(count))?.is_none())
+}
+
+// Adds the variables of entries with a byte 0 between them, but for the first few.
+fn take(alloc: Global, vars: &mut Pairs, entries: &[u8]) -> Result<(), NoMemory> {
+    for (place, entry) in entries.split(|byte| *byte == 0).enumerate() {
+        if place < FEW {
+            continue;
+        }
+        if let Some(pair) = variable(alloc, entry)? {
+            vars.push(pair)?;
+        }
+    }
+    Ok(())
+}
+
+// What stands in the system's file of the environment, without its last byte 0; `None` where nobody may read
+// it here.
+fn entries_in_file<R: Files + AllocGlobal>(rt: &R) -> Result<Option<Vec<u8>>, Error> {
+    match fs::read(rt, ENVIRONMENT) {
+        Ok(mut entries) => {
+            entries.pop();
+            Ok(Some(entries))
+        }
+        Err(error) => match error.kind() {
+            ErrorKind::NotFound | ErrorKind::PermissionDenied => Ok(None),
+            _ => Err(error),
+        },
+    }
+}
+
+// The variables of the environment, entry by entry; `None` where the system fails. To ask for one by its
+// number takes a walk from the first, so that those behind the first few are taken from one file.
+fn variables<R: Env + Files + AllocGlobal>(rt: &R) -> Result<Option<Pairs>, NoMemory> {
+    let mut vars = Items::new(rt.alloc(), 0)?;
+    if ask(rt, &mut vars, 0, FEW)? {
+        return Ok(Some(vars));
+    }
+    match entries_in_file(rt) {
+        Ok(Some(entries)) if are_now(rt, entries.as_slice())? => {
+            take(rt.alloc(), &mut vars, entries.as_slice())?;
+        }
+        Ok(_) => {
+            ask(rt, &mut vars, FEW, usize::MAX)?;
+        }
+        Err(error) if error.kind() == ErrorKind::OutOfMemory => return Err(NoMemory),
+        Err(_) => return Ok(None),
+    }
+    Ok(Some(vars))
 }
 
 /// A path made absolute from a directory, without `.`, `..` and empty names.
@@ -102,9 +178,13 @@ fn program<R: Env + AllocGlobal>(rt: &R, cwd: &[u8]) -> Result<Text, NoMemory> {
 }
 
 /// The environment, entry by entry, with the current directory and the program's name; `None` where the
-/// system gives no directory.
-pub fn environment<R: Env + AllocGlobal>(rt: &R) -> Result<Option<mk_scopes::Env>, NoMemory> {
-    let vars = variables(rt)?;
+/// system gives no directory, or fails.
+pub fn environment<R: Env + Files + AllocGlobal>(
+    rt: &R,
+) -> Result<Option<mk_scopes::Env>, NoMemory> {
+    let Some(vars) = variables(rt)? else {
+        return Ok(None);
+    };
     let mut buffer = [0u8; MAX_PATH];
     let Ok(count) = rt.current_dir(&mut buffer) else {
         return Ok(None);
