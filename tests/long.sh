@@ -177,6 +177,7 @@ seconds=5 row '340000 groups of braces, one behind another' $'\n' '' 0 -V A \
 
 seconds=5 row '500000 groups of braces, one in another' $'\n' '' 0 -V A \
     < <(printf 't: '; times 500000 '{'; printf a; times 500000 '}'; echo)
+
 # An environment of so many variables, in two seconds of a processor.
 if command -v python3 >/dev/null; then
     cat >"$room/many" <<PYTHON
