@@ -500,7 +500,7 @@ pub new-ready : NewWorldsAreReady
 new-ready bytes = record {
   makefile_is = refl;
   source_is = refl;
-  lawful = record { base = (omega arith, (omega arith, tt)); events = tt };
+  lawful = record { events = tt };
   idle = refl;
   truth = λ meta lawful stands. absurd (none meta stands);
 }
