@@ -7,7 +7,7 @@ use Rattle.std.specs.Str.{bytes_eq}
 use Rattle.mk_clean.proofs.CleanLemmas.{after_over, after_none, put_elsewhere, bool_two, over_changed, changed_first, changed_last, step_elsewhere, doings_in_clean, untouched, left_by, left_at_end, job_of_node, before_among, agree_on}
 use Rattle.mk_clean.proofs.JobLemmas.{JobTalks, IsJob, job_is, job_agree}
 use Rattle.mk_clean.specs.Clean.{Plan, IsAmong, DependsOn, CleanJob, deeds_of, doings_on, cleared, clean_build, clean_files, AllWell, IsWell, is_changed, Changes, LeavesIt, StandsBefore}
-use Rattle.mk_clean.specs.Declared.{IsSource, IsMadeBefore, IsOwn, IsPrivate, IsDeclared, AreDistinct}
+use Rattle.mk_clean.specs.Declared.{IsSource, IsMadeBefore, IsOwn, IsPrivate, IsDeclared, AreWellMade}
 use Rattle.mk_clean.specs.Jobs.{goes_on}
 use Rattle.mk_clean.specs.Same.{BuildsAreClean}
 use Rattle.mk_clean.specs.Turns.{Stage, waiting, between, inside, settled, Build, first_build, Turn, looks_at, keeps, begins, starts_line, steps, ends_line, settles, puts_meta, with_stage, started, stepped, line_ended, with_look, at_stage, after_turn, after_turns, SourcesSettled, seen_by, doings_seen, MayKeep, IsAsked, MayStep, ended_with, HasEnded, MayEndLine, MayTurn, MayTurns}
@@ -269,7 +269,7 @@ job_nil next command (one ∷ rest) talks = absurd talks
 
 module _ (meaning : Meaning) (plan : Plan) (store : Store)
     (declared : IsDeclared plan (clean_build meaning plan store))
-    (distinct : AreDistinct plan (clean_build meaning plan store))
+    (well_made : AreWellMade plan (clean_build meaning plan store))
   where
     abbrev pub all : List CleanJob
     all = clean_build meaning plan store
@@ -286,7 +286,7 @@ module _ (meaning : Meaning) (plan : Plan) (store : Store)
         by : IsOwn plan one path ⊎ IsPrivate plan all one path
             → IsOwn plan other path ⊎ IsPrivate plan all other path → ⊥
         by (inl own) (inl theirs) =
-            differ (distinct.names one other has_one has_other (own.name ∙ sym theirs.name))
+            differ (well_made.names one other has_one has_other (own.name ∙ sym theirs.name))
         by (inl own) (inr theirs) = false≢true (sym (theirs.alone one has_one differ) ∙ changes)
         by (inr own) theirs =
             false≢true (sym (own.alone other has_other (λ same. differ (sym same))) ∙ also)
@@ -295,7 +295,7 @@ module _ (meaning : Meaning) (plan : Plan) (store : Store)
         → Changes maker path → LeavesIt later path
     later_leaves maker later before path changes =
         ⊎_elim (λ also. absurd (apart maker later (before_among maker later all before).0
-        (before_among maker later all before).1 (distinct.once maker later before) path changes also))
+        (before_among maker later all before).1 (well_made.once maker later before) path changes also))
         (λ leaves. leaves) (bool_two (is_changed (deeds_of later) path))
 
     cleared_at : (path : List ℕ) → plan.is_made path ≡ false → plan.is_meta path ≡ false
@@ -316,10 +316,9 @@ module _ (meaning : Meaning) (plan : Plan) (store : Store)
             (untouched meaning plan path plan.order (cleared plan store) is.alone).1 one among
             ∙ (cleared_at path is.no_made is.no_meta ∙ sym (beside.sources path is.alone is.no_meta))
         by (inr is) =
-            let has_maker = (before_among is.maker one all is.earlier).0 in
             let made_it = subst (JobIs meaning.next plan build is.maker)
-            (settled_are is.maker.node is.depends) (beside.jobs is.maker has_maker) in
-            let file = declared.leaves is.maker has_maker made_it.0 is.made in
+            (settled_are is.maker.node is.depends) (beside.jobs is.maker is.among) in
+            let file = declared.leaves is.maker is.among made_it.0 is.made in
             let now : build.files (plan.node is.maker.node).name ≡ Some file.bytes =
             made_it.1 is.made (Some file.bytes) file.is in
             let before : one.before (plan.node is.maker.node).name ≡ Some file.bytes =
@@ -327,7 +326,7 @@ module _ (meaning : Meaning) (plan : Plan) (store : Store)
             (cleared plan store)
             (λ later stands. later_leaves is.maker later stands (plan.node is.maker.node).name
             (over_changed (plan.node is.maker.node).name (Some file.bytes) (deeds_of is.maker) file.is))
-            one is.earlier in
+            one (well_made.ordered one is.maker among is.among is.depends) in
             subst (λ at. one.before at ≡ build.files at) is.name (before ∙ sym now)
 
     -- a job that a turn does not touch is as before
@@ -817,10 +816,10 @@ module _ (meaning : Meaning) (plan : Plan) (store : Store)
         (over_changed (plan.node one.node).name (Some file.bytes) (deeds_of one) file.is)) among)
 
 pub builds_clean : BuildsAreClean
-builds_clean meaning plan store declared distinct turns may settled_are = record {
-  well = λ one among. (job_settled meaning plan store declared distinct turns may settled_are one among).0;
+builds_clean meaning plan store declared well_made turns may settled_are = record {
+  well = λ one among. (job_settled meaning plan store declared well_made turns may settled_are one among).0;
   same = λ one among made.
-      let is = job_settled meaning plan store declared distinct turns may settled_are one among in
-      made_at_end meaning plan store declared distinct one among is.0 made
+      let is = job_settled meaning plan store declared well_made turns may settled_are one among in
+      made_at_end meaning plan store declared well_made one among is.0 made
       (after_turns plan (first_build store) turns).files is.1;
 }

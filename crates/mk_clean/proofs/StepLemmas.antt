@@ -3,7 +3,7 @@ use Rattle.std.proofs.Common.{◌≡◌, ◌⊎◌, inl, inr, ⊎_elim, ℕ, ◌
 use Rattle.mk_clean.proofs.BesideLemmas.{PlannedAt, Beside, stage_own, stage_other, job_nil, job_at, turn_keeps, turns_keep, at_first}
 use Rattle.mk_clean.proofs.CleanLemmas.{bool_two}
 use Rattle.mk_clean.specs.Clean.{Plan, CleanJob, clean_build}
-use Rattle.mk_clean.specs.Declared.{IsDeclared, AreDistinct}
+use Rattle.mk_clean.specs.Declared.{IsDeclared, AreWellMade}
 use Rattle.mk_clean.specs.Same.{own_step, steps_of, AreFirstSteps, AreAllSteps, DoesCleanSteps, StepsAreClean}
 use Rattle.mk_clean.specs.Turns.{Stage, waiting, between, inside, settled, Build, first_build, Turn, looks_at, keeps, begins, starts_line, steps, ends_line, settles, puts_meta, with_stage, started, stepped, line_ended, after_turn, after_turns, MayStep, MayEndLine, MayTurn, MayTurns}
 use Rattle.mk_meta.specs.TrueHistory.{deeds_of_job}
@@ -20,7 +20,7 @@ Tells all node done settled = (done ≡ []) ⊎ AreAllSteps all node done
 
 module _ (meaning : Meaning) (plan : Plan) (store : Store)
     (declared : IsDeclared plan (clean_build meaning plan store))
-    (distinct : AreDistinct plan (clean_build meaning plan store))
+    (well_made : AreWellMade plan (clean_build meaning plan store))
   where
     abbrev all : List CleanJob
     all = clean_build meaning plan store
@@ -67,7 +67,7 @@ module _ (meaning : Meaning) (plan : Plan) (store : Store)
         → build.stage node ≡ between deeds [] → done ≡ deeds → AreAllSteps all node done
     settled_tells build beside node deeds done at is =
         let own = subst (PlannedAt all node) at (beside.planned node) in
-        let job = job_at meaning plan store declared distinct build beside node (between deeds []) at own.0
+        let job = job_at meaning plan store declared well_made build beside node (between deeds []) at own.0
         own.1 own.2 in
         record {
           one = own.0;
@@ -139,7 +139,7 @@ module _ (meaning : Meaning) (plan : Plan) (store : Store)
         ((after_turns plan (after_turn plan build turn) turns).stage node))
         (append_assoc done (own_step node turn) (steps_of node turns))
         (turns_told (after_turn plan build turn) turns
-        (turn_keeps meaning plan store declared distinct build turn beside may.0) may.1 node
+        (turn_keeps meaning plan store declared well_made build turn beside may.0) may.1 node
         (done ++ own_step node turn) (turn_told build turn beside may.0 node done tells))
 
     first_steps : (build : Build) → IsBeside build → (node : ℕ) (done : List Deed) (stage : Stage)
@@ -148,7 +148,7 @@ module _ (meaning : Meaning) (plan : Plan) (store : Store)
     first_steps build beside node done waiting at tells = inl tells
     first_steps build beside node done (between deeds lines) at tells =
         let own = subst (PlannedAt all node) at (beside.planned node) in
-        let job = job_at meaning plan store declared distinct build beside node (between deeds lines) at own.0
+        let job = job_at meaning plan store declared well_made build beside node (between deeds lines) at own.0
         own.1 own.2 in
         inr (record {
           one = own.0;
@@ -159,7 +159,7 @@ module _ (meaning : Meaning) (plan : Plan) (store : Store)
         })
     first_steps build beside node done (inside deeds seen line lines) at tells =
         let own = subst (PlannedAt all node) at (beside.planned node) in
-        let job = job_at meaning plan store declared distinct build beside node
+        let job = job_at meaning plan store declared well_made build beside node
         (inside deeds seen line lines) at own.0 own.1 own.2 in
         inr (record {
           one = own.0;
@@ -181,8 +181,8 @@ module _ (meaning : Meaning) (plan : Plan) (store : Store)
     pub clean_steps : (turns : List Turn) → MayTurns meaning plan (first_build store) turns
         → DoesCleanSteps all turns (after_turns plan (first_build store) turns)
     clean_steps turns may =
-        let first = at_first meaning plan store declared distinct in
-        let last = turns_keep meaning plan store declared distinct (first_build store) turns first may in
+        let first = at_first meaning plan store declared well_made in
+        let last = turns_keep meaning plan store declared well_made (first_build store) turns first may in
         record {
           begun = λ node. first_steps (after_turns plan (first_build store) turns) last node
               (steps_of node turns) ((after_turns plan (first_build store) turns).stage node) refl
@@ -192,5 +192,5 @@ module _ (meaning : Meaning) (plan : Plan) (store : Store)
         }
 
 pub steps_clean : StepsAreClean
-steps_clean meaning plan store declared distinct turns may =
-    clean_steps meaning plan store declared distinct turns may
+steps_clean meaning plan store declared well_made turns may =
+    clean_steps meaning plan store declared well_made turns may

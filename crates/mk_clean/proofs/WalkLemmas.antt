@@ -1,5 +1,5 @@
 -- Through the events of a job: its steps find what stands at the end.
-use Rattle.std.proofs.Common.{◌≡◌, ◌∙◌, ◌⊎◌, ℕ, ◌<◌, ◌≤◌, ◌==◌, List, [], ◌∷◌, ◌++◌, Option, Some, None, Bool, true, false, if◌then◌else◌, inl, inr, refl, sym, ap, subst, lt_irrefl, lt_of_lt_of_le, le_trans, le_of_lt}
+use Rattle.std.proofs.Common.{◌≡◌, ◌∙◌, ◌⊎◌, ℕ, ◌<◌, ◌≤◌, ◌==◌, List, [], ◌∷◌, ◌++◌, Option, Some, None, Bool, true, false, if◌then◌else◌, inl, inr, refl, sym, ap, subst, lt_irrefl, lt_of_lt_of_le, le_trans}
 use Rattle.std.proofs.lemmas.Bool.{false_from_ne_true}
 use Rattle.std.proofs.lemmas.Slice.Eq.{bytes_eq-Decides}
 use Rattle.std.specs.List.{Contains}
@@ -8,7 +8,7 @@ use Rattle.std.specs.Str.{bytes_eq}
 use Rattle.mk_filemon.specs.Steps.{EachLook, LookAt}
 use Rattle.mk_meta.specs.TrueHistory.{JobEvent, begun, did, ended, if_same, job_event, job_events, LeavesAlone, Alone}
 use Rattle.mk_world.specs.Deeds.{Spot, saw, changes, Holds, IsRight, Meets}
-use Rattle.mk_world.specs.History.{Filed, FileMap, Effect, State, effects, at_time, filed, effected, effected_all, contents, last_time, after, after_all, IsRising, NotEarlier, MayStep, MayAll}
+use Rattle.mk_world.specs.History.{Filed, FileMap, Effect, State, effects, at_time, filed, effected, effected_all, contents, last_time, after, after_all, NotEarlier, MayStep, MayAll}
 use Rattle.mk_world.specs.Outer.{Over, over_spot, over_spots, over_deed, over_deeds, or_stood, on}
 use Rattle.mk_world.specs.Talks.{Meaning, NextOf}
 use Rattle.mk_world.specs.declared.history.Child.{Child}
@@ -91,18 +91,11 @@ not_earlier time clock (effect ∷ more) le later =
     let rest = not_earlier time effect.time more (le_trans le later.0) later.1 in
     ((le_trans le later.0, rest.0), rest.1)
 
-rising_from : (time clock : ℕ) (all : List Effect) → time ≤ clock → IsRising clock all
-    → From time all × (time ≤ last_time clock all)
-rising_from time clock [] le later = (tt, le)
-rising_from time clock (effect ∷ more) le later =
-    let rest = not_earlier time effect.time more (le_trans le (le_of_lt later.0)) later.1 in
-    ((le_trans le (le_of_lt later.0), rest.0), rest.1)
-
 pub lawful_from : (meaning : Meaning) (time : ℕ) (state : State) (events : List Happening)
     → time ≤ state.clock → MayAll meaning state events → FromAll time events
 lawful_from meaning time state [] le may = tt
 lawful_from meaning time state (event ∷ events) le may =
-    let rest = rising_from time state.clock (effects event) le may.0.0 in
+    let rest = not_earlier time state.clock (effects event) le may.0.0 in
     (rest.0, lawful_from meaning time (after state event) events rest.1 may.1)
 
 -- a file that is older than a time stood before all changes from then on

@@ -9,11 +9,11 @@ pub record IsSource (plan : Plan) (all : List CleanJob) (path : List ℕ) : Type
   pub no_made : plan.is_made path ≡ false
   pub no_meta : plan.is_meta path ≡ false
 
--- a made file of an earlier job on which the node of this one depends
+-- the made file of a job on whose node that of this one depends
 pub record IsMadeBefore (plan : Plan) (all : List CleanJob) (one : CleanJob) (path : List ℕ) : Type 0
   where
     pub maker : CleanJob
-    pub earlier : StandsBefore maker one all
+    pub among : IsAmong maker all
     pub made : (plan.node maker.node).made ≡ true
     pub name : (plan.node maker.node).name ≡ path
     pub depends : DependsOn plan one.node maker.node
@@ -48,8 +48,11 @@ pub record IsDeclared (plan : Plan) (all : List CleanJob) : Type 0 where
   pub no_meta : (one : CleanJob) → IsAmong one all → (path : List ℕ) → plan.is_meta path ≡ true
       → LeavesIt one path
 
--- No two nodes have one path, and each has one job.
-pub record AreDistinct (plan : Plan) (all : List CleanJob) : Type 0 where
+-- No two nodes have one path, each has one job, and it stands behind those of the nodes on which it
+-- depends.
+pub record AreWellMade (plan : Plan) (all : List CleanJob) : Type 0 where
   pub names : (one other : CleanJob) → IsAmong one all → IsAmong other all
       → (plan.node one.node).name ≡ (plan.node other.node).name → one.node ≡ other.node
   pub once : (one other : CleanJob) → StandsBefore one other all → one.node ≢ other.node
+  pub ordered : (one other : CleanJob) → IsAmong one all → IsAmong other all
+      → DependsOn plan one.node other.node → StandsBefore other one all

@@ -1,7 +1,7 @@
 -- That a build by what commands did leaves what the clean build leaves.
 use Rattle.std.specs.Prelude.{◌≡◌, ◌⊎◌, ℕ, ◌==◌, List, [], ◌∷◌, ◌++◌, true, if◌then◌else◌}
 use Rattle.mk_clean.specs.Clean.{Plan, CleanJob, deeds_of, clean_build, clean_files, IsAmong, IsWell}
-use Rattle.mk_clean.specs.Declared.{IsDeclared, AreDistinct}
+use Rattle.mk_clean.specs.Declared.{IsDeclared, AreWellMade}
 use Rattle.mk_clean.specs.Turns.{Build, Turn, looks_at, keeps, begins, starts_line, steps, ends_line, settles, puts_meta, settled, first_build, after_turns, MayTurns}
 use Rattle.mk_world.specs.Deeds.{Store}
 use Rattle.mk_world.specs.Talks.{Meaning}
@@ -20,7 +20,7 @@ abbrev pub BuildsAreClean : Type 0
 BuildsAreClean =
     (meaning : Meaning) (plan : Plan) (store : Store)
     → IsDeclared plan (clean_build meaning plan store)
-    → AreDistinct plan (clean_build meaning plan store)
+    → AreWellMade plan (clean_build meaning plan store)
     → (turns : List Turn) → MayTurns meaning plan (first_build store) turns
     → ((one : CleanJob) → IsAmong one (clean_build meaning plan store)
     → (after_turns plan (first_build store) turns).stage one.node ≡ settled)
@@ -70,7 +70,7 @@ abbrev pub StepsAreClean : Type 0
 StepsAreClean =
     (meaning : Meaning) (plan : Plan) (store : Store)
     → IsDeclared plan (clean_build meaning plan store)
-    → AreDistinct plan (clean_build meaning plan store)
+    → AreWellMade plan (clean_build meaning plan store)
     → (turns : List Turn) → MayTurns meaning plan (first_build store) turns
     → DoesCleanSteps (clean_build meaning plan store) turns
     (after_turns plan (first_build store) turns)

@@ -3,14 +3,14 @@ use Rattle.std.proofs.Common.{◌≡◌, ℕ, ◌+◌, ◌<◌, List, [], ◌∷
 use Rattle.std.proofs.Common.{refl, sym, ◌∙◌, ap, subst, arith, append_assoc}
 use Rattle.std.proofs.lemmas.List.{append-nil, take_more}
 use Rattle.mk_world.specs.Deeds.{changes}
-use Rattle.mk_world.specs.History.{AreRising, FileMap, at_time, last_time, timed_effects}
+use Rattle.mk_world.specs.History.{FileMap, NotEarlier, at_time, last_time, timed_effects}
 use Rattle.mk_world.specs.declared.history.Timed.{Timed}
 use Rattle.mk_world.specs.declared.step.Deed.{Deed}
-use Rattle.mk_world.proofs.ChangeLemmas.{last_time-append}
+use Rattle.mk_world.proofs.ChangeLemmas.{NotEarlier-append, last_time-append}
 use Rattle.mk_commands.specs.Changes.{changed, changed_all}
 use Rattle.mk_commands.specs.Clock.{numbers, time_of, timed}
 use Rattle.mk_commands.specs.declared.change.Change.{Change}
-use Rattle.mk_commands.proofs.StepLemmas.{IsRising-step, last_time-step}
+use Rattle.mk_commands.proofs.StepLemmas.{NotEarlier-step, last_time-step}
 
 pub changed_all-append : (files : FileMap) (first second : List Change)
     → changed_all files (first ++ second) ≡ changed_all (changed_all files first) second
@@ -55,11 +55,11 @@ last_time-timed clock (deed ∷ deeds) =
     ∙ last_time-timed time deeds in
     behind ∙ omega arith
 
--- each step that changes files takes a later time
-pub AreRising-timed : (clock : ℕ) (deeds : List Deed) → AreRising clock (timed clock deeds)
-AreRising-timed clock [] = tt
-AreRising-timed clock (deed ∷ deeds) = (
-  IsRising-step clock deed,
-  subst (λ n. AreRising n (timed (time_of clock deed) deeds)) (sym (last_time-step clock deed))
-      (AreRising-timed (time_of clock deed) deeds),
-)
+-- no step takes an earlier time than those before it
+pub NotEarlier-timed : (clock : ℕ) (deeds : List Deed) → NotEarlier clock (timed_effects (timed clock deeds))
+NotEarlier-timed clock [] = tt
+NotEarlier-timed clock (deed ∷ deeds) =
+    let time = time_of clock deed in
+    let rest = timed_effects (timed time deeds) in
+    NotEarlier-append clock (at_time time (changes deed)) rest (NotEarlier-step clock deed)
+    (subst (λ n. NotEarlier n rest) (sym (last_time-step clock deed)) (NotEarlier-timed time deeds))

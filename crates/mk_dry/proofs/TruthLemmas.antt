@@ -219,7 +219,7 @@ stamp-later : (meaning : Meaning) (old : History) (meta : Meta) → IsLawful mea
 stamp-later meaning old meta lawful is =
     let parts = MayAll-parts meaning (first_state old.base) is.before _
     (subst (MayAll meaning (first_state old.base)) is.all lawful.events) in
-    let rises : (after_all (first_state old.base) is.before).clock < meta.stamp.0 = parts.1.0.0.0 in
+    let rises : (after_all (first_state old.base) is.before).stamped < meta.stamp.0 = parts.1.0.1 in
     omega (arith, rises)
 
 more-true : (meaning : Meaning) (old : History) (more : List Happening) → AreTrueSince meaning old

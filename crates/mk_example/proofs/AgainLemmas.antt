@@ -17,7 +17,7 @@ use Rattle.mk_meta.specs.Texts.{meta_text}
 use Rattle.mk_meta.specs.TrueHistory.{IsTrueHistory, meta_path}
 use Rattle.mk_trace.proofs.TrueTexts.{true-same}
 use Rattle.mk_trace.specs.Runs.{Tasks}
-use Rattle.mk_world.proofs.CallLemmas.{after_all-append}
+use Rattle.mk_world.proofs.CallLemmas.{MayAll-append, after_all-append}
 use Rattle.mk_world.specs.Deeds.{Store, after_deed}
 use Rattle.mk_world.specs.History.{State as Stand, after, contents, files_of, first_state, state_of}
 use Rattle.mk_world.specs.declared.history.Happening.TheVariants.{Edit}
@@ -149,11 +149,14 @@ edit-keeps old newer time truth = λ meta lawful stands.
     (edited-state old newer time) stands)).0
 
 pub edited-ready : EditedWorldsAreReady
-edited-ready bytes newer new time copied idle lawful = record {
+edited-ready bytes newer new time copied idle later = record {
   makefile_is =
       ap (λ (s : Stand). contents s.files (codes "makefile")) (edited-state new newer time) ∙ copied.makefile_is;
   source_is = ap (λ (s : Stand). contents s.files (codes "a")) (edited-state new newer time);
-  lawful = lawful;
+  lawful = record {
+    events = MayAll-append language (first_state new.base) new.events (Edit (codes "a") (Some newer) time ∷ [])
+        copied.lawful.events (((later, tt), idle), tt);
+  };
   idle = ap (λ (s : Stand). s.children) (edited-state new newer time) ∙ idle;
   truth = edit-keeps new newer time copied.truth;
 }

@@ -57,9 +57,11 @@ use Rattle.mk_trace.specs.Ends.{IsOver, StandsBy}
 use Rattle.mk_trace.specs.Runs.{Tasks}
 use Rattle.mk_trace.specs.TrueBuilds.{LeavesFiles, longer}
 use Rattle.mk_trace.specs.declared.result.BuildResult.TheVariants as build
+use Rattle.mk_world.proofs.LawLemmas.{runs_stay_lawful}
 use Rattle.mk_world.specs.Deeds.{Store}
 use Rattle.mk_world.specs.History.{files_of}
 use Rattle.mk_world.specs.Looks.{OnlyLooks}
+use Rattle.mk_world.specs.Runs.{Run}
 use Rattle.mk_world.specs.Outer.{nothing_over, outer}
 use Rattle.mk_world.specs.Talks.{Doing}
 use Rattle.mk_world.specs.declared.command.Task.{Task}
@@ -339,6 +341,7 @@ well-made = record { ordered = refl; sourced = refl; distinct = differ }
 leaves-copy : (bytes : List ℕ) (old mid new : History) (first last : Point) (went : Went) (made_then : Made)
     → IsReady bytes old → IsRead old mid made_then → first.history ≡ Some mid → last.history ≡ Some new
     → went.end ≡ Done → (built : IsBuilt language made_then no_order.flags first last went)
+    → Run language old new
     → (went.end ≡ Done → (clean : Work)
     → IsReadyRun language env no_order built.planned_at (work_on built.nodes made_then no_order.flags)
     built.built.true_build.build.tasks old clean
@@ -346,7 +349,7 @@ leaves-copy : (bytes : List ℕ) (old mid new : History) (first last : Point) (w
     built.built.true_build.build.tasks built.built.true_build.build.items old new clean
     (bare built.nodes (files_of old)))
     → IsCopied bytes new
-leaves-copy bytes old mid new first last went made_then ready was at then_is done built cleans =
+leaves-copy bytes old mid new first last went made_then ready was at then_is done built happened cleans =
     planned_then built.planned_at refl
   where
     planned_then : (planned_at : Option History) → built.planned_at ≡ planned_at
@@ -357,6 +360,7 @@ leaves-copy bytes old mid new first last went made_then ready was at then_is don
           ∙ subst (λ s. clean_files_of language work s (codes "t") ≡ Some bytes) starts (files-are (files_of old) bytes);
       makefile_is = stays (codes "makefile") refl (λ all. refl, (λ all. refl, tt)) ∙ ready.makefile_is;
       source_is = stays (codes "a") refl (λ all. refl, (λ all. refl, tt)) ∙ ready.source_is;
+      lawful = runs_stay_lawful language old new happened ready.lawful;
       truth = leaves.truth;
     }
       where
@@ -462,7 +466,7 @@ of-run bytes old new out out_after err report ready run done =
     from (Some mid) (Ok made_then) reads (inr built) cleans =
         leaves-copy bytes old mid new (point (Some mid) out) (point (Some new) out_after) run.run.went made_then ready
         (was-read bytes old mid err.before run.run.err_at made_then ready reads) refl refl went_done built
-        (λ went clean is_ready. cleans done clean is_ready)
+        run.happened (λ went clean is_ready. cleans done clean is_ready)
 
 pub copies-right : CopiesAreRight
 copies-right bytes old new out out_after err report ready run done = by run.order run.is run.follows
@@ -500,7 +504,7 @@ pub new-ready : NewWorldsAreReady
 new-ready bytes = record {
   makefile_is = refl;
   source_is = refl;
-  lawful = record { base = (omega arith, (omega arith, tt)); events = tt };
+  lawful = record { events = tt };
   idle = refl;
   truth = λ meta lawful stands. absurd (none meta stands);
 }

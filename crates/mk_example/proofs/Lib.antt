@@ -1,4 +1,5 @@
 pub mod AgainLemmas
+pub mod ChainLemmas
 pub mod CopyLemmas
 pub mod ReadingLemmas
 pub mod RowLemmas

@@ -1,5 +1,5 @@
 -- A makefile of one target, and what its runs leave.
-use Rattle.std.specs.Prelude.{◌≡◌, ℕ, List, [], ◌∷◌, Option, Some, codes}
+use Rattle.std.specs.Prelude.{◌≡◌, ℕ, ◌≤◌, List, [], ◌∷◌, Option, Some, None, codes}
 use Rattle.mk_commands.specs.Meaning.{language}
 use Rattle.mk_meta.specs.TrueHistory.{IsTrueHistory}
 use Rattle.mk_modes.specs.Building.{point}
@@ -11,7 +11,7 @@ use Rattle.mk_top.specs.Runs.{IsRun}
 use Rattle.mk_trace.specs.TrueBuilds.{longer}
 use Rattle.mk_world.specs.History.{files_of, state_of}
 use Rattle.mk_world.specs.Lawful.{IsLawful}
-use Rattle.mk_world.specs.declared.history.Happening.TheVariants.{Edit}
+use Rattle.mk_world.specs.declared.history.Happening.TheVariants.{Edit, Stamp, Put}
 use Rattle.mk_world.specs.declared.history.History.{History}
 
 -- The makefile: meta mode, and a target that is a copy of its source.
@@ -31,12 +31,13 @@ pub record IsReady (bytes : List ℕ) (old : History) : Type 0 where
   pub idle : (state_of old).children ≡ []
   pub truth : IsTrueHistory language.next old
 
--- Behind a run the target is a copy of the source, the makefile and the source are as they were, and each meta file that
--- stands tells what happened.
+-- Behind a run the target is a copy of the source, the makefile and the source are as they were, the history is one that
+-- may have come about, and each meta file that stands tells what happened.
 pub record IsCopied (bytes : List ℕ) (new : History) : Type 0 where
   pub target_is : files_of new (codes "t") ≡ Some bytes
   pub makefile_is : files_of new (codes "makefile") ≡ Some makefile
   pub source_is : files_of new (codes "a") ≡ Some bytes
+  pub lawful : IsLawful language new
   pub truth : IsTrueHistory language.next new
 
 -- Each run of the program without words that ends with all made leaves it so.
@@ -62,9 +63,33 @@ NewWorldsAreReady = (bytes : List ℕ) → IsReady bytes (new_world bytes)
 abbrev pub edited : History → List ℕ → ℕ → History
 edited new newer time = longer new (Edit (codes "a") (Some newer) time ∷ [])
 
--- Where the source is changed behind a run, the world is ready for the next one, as long as its history is one that may
--- have come about.
+-- Where the source is changed behind a run, and not earlier than all else was, the world is ready for the next one.
 abbrev pub EditedWorldsAreReady : Type 0
 EditedWorldsAreReady =
     (bytes newer : List ℕ) (new : History) (time : ℕ) → IsCopied bytes new → (state_of new).children ≡ []
-    → IsLawful language (edited new newer time) → IsReady newer (edited new newer time)
+    → (state_of new).clock ≤ time → IsReady newer (edited new newer time)
+
+-- So a run, a change of the source and a second run leave a copy of the source as it was changed, at whatever time: also
+-- at that of the last write of the first run.
+abbrev pub CopiesAreRightAgain : Type 0
+CopiesAreRightAgain =
+    (bytes newer : List ℕ) (old mid new : History) (time : ℕ) (out out_mid out_again out_after : Option (List ℕ))
+    (err err_again : Held) (report again : Report) → IsReady bytes old
+    → IsRun language [] env (point (Some old) out) (point (Some mid) out_mid) err report → report.end ≡ Done
+    → (state_of mid).children ≡ [] → (state_of mid).clock ≤ time
+    → IsRun language [] env (point (Some (edited mid newer time)) out_again) (point (Some new) out_after) err_again again
+    → again.end ≡ Done → IsCopied newer new
+
+-- The files at the beginning have one time, and all that happens, too, but for the second stamp.
+abbrev pub one_time : List ℕ → History
+one_time bytes = record {
+  base = record { path = codes "a"; bytes = bytes; time = 7 }
+      ∷ record { path = codes "b"; bytes = bytes; time = 7 } ∷ [];
+  events = Edit (codes "a") None 7 ∷ Edit (codes "b") None 7
+      ∷ Stamp (codes "t.meta") bytes 7 ∷ Put (codes "t.meta") bytes 7
+      ∷ Stamp (codes "u.meta") bytes 8 ∷ Put (codes "u.meta") bytes 8 ∷ [];
+}
+
+-- It may have come about so.
+abbrev pub ChangesMayShareATime : Type 0
+ChangesMayShareATime = (bytes : List ℕ) → IsLawful language (one_time bytes)

@@ -1,5 +1,5 @@
 //! What runs of the makefile leave.
-ghost use Rattle.mk_example.specs.Copies.{CopiesAreRight, EditedWorldsAreReady, NewWorldsAreReady};
+ghost use Rattle.mk_example.specs.Copies.{ChangesMayShareATime, CopiesAreRight, CopiesAreRightAgain, EditedWorldsAreReady, NewWorldsAreReady};
 
 /// Each run of the makefile that ends with all made leaves in its target the bytes of its source, and the makefile and the
 /// source as they were: by the contract of `run` and no other.
@@ -15,4 +15,14 @@ pub fn new_worlds_are_ready()
 /// Where the source is changed behind a run, the world is ready for the next one.
 pub fn edited_worlds_are_ready()
     ensures { EditedWorldsAreReady }
+{}
+
+/// A run, a change of the source and a second run leave a copy of the source as it was changed.
+pub fn copies_are_right_again()
+    ensures { CopiesAreRightAgain }
+{}
+
+/// Files may have one time, and so may changes: only stamps have each a later one.
+pub fn changes_may_share_a_time()
+    ensures { ChangesMayShareATime }
 {}

@@ -6,4 +6,7 @@
 
 mod law;
 
-pub use law::{copies_are_right, edited_worlds_are_ready, new_worlds_are_ready};
+pub use law::{
+    changes_may_share_a_time, copies_are_right, copies_are_right_again, edited_worlds_are_ready,
+    new_worlds_are_ready,
+};

@@ -19,7 +19,7 @@ use Rattle.mk_decision.specs.Decisions.{Work}
 use Rattle.mk_headline.proofs.GoodLemmas.{Good, sources-ready, waits-ready}
 use Rattle.mk_headline.proofs.LookLemmas.{AllLeave, leave-last, AllSeen, all-more, IsDated, SawWhen, saw-when, AllOf, of-last, seen_in, is_looked, first_look, first-other, first-before, first-now, seen-last}
 use Rattle.mk_headline.proofs.PastLemmas.{Past}
-use Rattle.mk_headline.proofs.PlanLemmas.{length-before, meta_path-is, job-among, job-has, clean-node, are-distinct, names-differ, node-is}
+use Rattle.mk_headline.proofs.PlanLemmas.{length-before, meta_path-is, job-among, job-has, clean-node, are-well-made, names-differ, node-is}
 use Rattle.mk_headline.proofs.StageLemmas.{may-append}
 use Rattle.mk_headline.proofs.TurnLemmas.{each-node, Turning, look-passed, look-taken}
 use Rattle.mk_headline.specs.Plans.{clean_plan, has_job, is_meta_path}
@@ -185,7 +185,7 @@ module _ (meaning : Meaning) (work : Work) (tasks : run.Tasks) (entry : Stand)
       begun =
           first
           ((steps_clean meaning plan (contents entry.files) declared
-          (are-distinct meaning work tasks (contents entry.files) well)
+          (are-well-made meaning work tasks (contents entry.files) well)
           (turns ++ turn.steps j deed ∷ []) may).begun j)
 
   -- so no step of another node's job changes the path of a node that is not decided yet

@@ -12,7 +12,7 @@ use Rattle.mk_headline.proofs.ApartLemmas.{keep_apart}
 use Rattle.mk_headline.proofs.FullLemmas.{makes-first, full_turns}
 use Rattle.mk_headline.proofs.KeepLemmas.{fits-parts}
 use Rattle.mk_headline.proofs.PastLemmas.{settled-at}
-use Rattle.mk_headline.proofs.PlanLemmas.{length-before, are-distinct, before-less, clean-node, job-has}
+use Rattle.mk_headline.proofs.PlanLemmas.{length-before, are-well-made, before-less, clean-node, job-has}
 use Rattle.mk_headline.specs.Laws.{BuildsAreClean, DoneBuildsAreClean, IsClean, IsReady}
 use Rattle.mk_headline.specs.Plans.{clean_plan}
 use Rattle.mk_headline.specs.Premises.{IsWellMade}
@@ -152,8 +152,8 @@ ends_clean meaning work tasks items old new ready makes happens last room over =
     over.over)) in
     let built = full_turns meaning work tasks items old new ready.lawful ready.idle ready.truth
     ready.well_made ready.mode ready.declared makes happens none over.failed in
-    let distinct = are-distinct meaning work tasks store ready.well_made in
-    let clean = builds_clean meaning plan store ready.declared distinct built.turns built.may
+    let well_made = are-well-made meaning work tasks store ready.well_made in
+    let clean = builds_clean meaning plan store ready.declared well_made built.turns built.may
     (λ one among.
     built.settled_are one.node
     (all-settled work tasks items ready.well_made makes room over one.node
@@ -162,7 +162,7 @@ ends_clean meaning work tasks items old new ready makes happens last room over =
     record {
       files = subst (HasCleanFiles meaning plan store) built.files clean;
       built = built;
-      steps_are = steps_clean meaning plan store ready.declared distinct built.turns built.may;
+      steps_are = steps_clean meaning plan store ready.declared well_made built.turns built.may;
       apart = apart;
       truth = meta_files_true meaning work tasks items old new ready.lawful ready.idle ready.truth makes happens
           last apart;

@@ -19,7 +19,7 @@ use Rattle.mk_trace.proofs.TrueChildren.{child_in-contains, step-child, end-chil
 use Rattle.mk_trace.proofs.TrueIdle.{idle-settled, idle-waits, idle-starts, idle-passes, idle-ends, idle-steps, idle-head}
 use Rattle.mk_trace.proofs.TrueRuns.{ended-open, taken-due}
 use Rattle.mk_trace.proofs.TrueStages.{Idle}
-use Rattle.mk_trace.proofs.TrueTexts.{clock-rises}
+use Rattle.mk_trace.proofs.TrueTexts.{stamps-rise}
 use Rattle.mk_trace.specs.Builds.{Build, Own, free, remove, begin, close, behind_look, MayLook, Makes, build_after, build_after_all, rules_of, with_collected, with_ticket}
 use Rattle.mk_trace.specs.Calls.{NoneLeft}
 use Rattle.mk_trace.specs.Collected.{begun as opens_at, has_meta, more_records, with_end}
@@ -294,11 +294,11 @@ module _ (meaning : Meaning) (work : Work) (tasks : run.Tasks) (entry : Stand)
 
   pub record Owned (build : Build) (stand : Stand) : Type 0 where
     pub child : (node : ℕ) → OwnsChild node build stand.children
-    pub begun : (node : ℕ) → owner_of build node ≤ stand.clock
+    pub begun : (node : ℕ) → owner_of build node ≤ stand.stamped
     pub differ : DifferOwners build
 
   owned-kept : (build later : Build) (stand then_stand : Stand)
-      → ((node : ℕ) → owner_of later node ≡ owner_of build node) → stand.clock ≤ then_stand.clock
+      → ((node : ℕ) → owner_of later node ≡ owner_of build node) → stand.stamped ≤ then_stand.stamped
       → ((node : ℕ) → OwnsChild node later then_stand.children) → Owned build stand → Owned later then_stand
   owned-kept build later stand then_stand same rises child owned = record {
     child = child;
@@ -339,7 +339,7 @@ module _ (meaning : Meaning) (work : Work) (tasks : run.Tasks) (entry : Stand)
       (stand_after stand (happened (starts n number ticket owner cmd)))
   owned-starts done build stand turns clean n number ticket owner cmd good owned makes may =
       owned-kept build later stand (stand_after stand (happened item)) (ticket-owner build.own n ticket)
-      (clock-rises meaning stand (happened item) may)
+      (stamps-rise meaning stand (happened item) may)
       (each-child n later (stand.children ++ new ∷ []) mine
       (λ node other.
       idle-child node item build later stand (stand.children ++ new ∷ []) owned
@@ -416,7 +416,7 @@ module _ (meaning : Meaning) (work : Work) (tasks : run.Tasks) (entry : Stand)
       → Owned build (stand_after stand (happened (steps ticket owner deed time)))
   owned-steps done build stand turns clean ticket owner time deed good owned may =
       owned-kept build build stand (stand_after stand (happened item)) (λ node. refl)
-      (clock-rises meaning stand (happened item) may)
+      (stamps-rise meaning stand (happened item) may)
       (each-child whose.node build (stepped ticket deed stand.children) mine
       (λ node other.
       idle-child node item build build stand (stepped ticket deed stand.children) owned
@@ -451,7 +451,7 @@ module _ (meaning : Meaning) (work : Work) (tasks : run.Tasks) (entry : Stand)
       (stand_after stand (happened (ends n number owner ended)))
   owned-ends done build stand turns clean n number owner ended good owned makes may fits =
       owned-kept build later stand (stand_after stand (happened item))
-      (λ node. collected-owner build.own n number node ended) (clock-rises meaning stand (happened item) may)
+      (λ node. collected-owner build.own n number node ended) (stamps-rise meaning stand (happened item) may)
       (each-child n later (without_child ended.ticket.0 stand.children)
       (λ one again here. absurd ((ended-open build.run n number n fails stops again).0 refl))
       (λ node other.
@@ -512,8 +512,8 @@ module _ (meaning : Meaning) (work : Work) (tasks : run.Tasks) (entry : Stand)
       then_build : Build
       then_build = build_after work tasks build item
 
-      later : stand.clock < time
-      later = may.0.0.0
+      later : stand.stamped < time
+      later = may.0.1
 
       mine : OwnsChild n then_build stand.children
       mine one has here =
@@ -551,7 +551,7 @@ module _ (meaning : Meaning) (work : Work) (tasks : run.Tasks) (entry : Stand)
   owned-next done build stand turns clean (looks n seen) good owned makes may fits none =
       owned-kept build (build_after work tasks build (looks n seen)) stand
       (stand_after stand (happened (looks n seen))) (λ node. refl)
-      (clock-rises meaning stand (happened (looks n seen)) may) owned.child owned
+      (stamps-rise meaning stand (happened (looks n seen)) may) owned.child owned
   owned-next done build stand turns clean (keeps n) good owned makes may fits none =
       owned-kept build (build_after work tasks build (keeps n)) stand stand (λ node. refl) (omega arith)
       (λ node.
@@ -581,21 +581,21 @@ module _ (meaning : Meaning) (work : Work) (tasks : run.Tasks) (entry : Stand)
   owned-next done build stand turns clean (changes n (gone path time)) good owned makes may fits none =
       owned-kept build (build_after work tasks build (changes n (gone path time))) stand
       (stand_after stand (happened (changes n (gone path time)))) (λ node. refl)
-      (clock-rises meaning stand (happened (changes n (gone path time))) may) owned.child owned
+      (stamps-rise meaning stand (happened (changes n (gone path time))) may) owned.child owned
   owned-next done build stand turns clean (changes n (head path bytes time)) good owned makes may fits none =
       owned-head build stand n time path bytes owned makes may
   owned-next done build stand turns clean (changes n (whole path bytes time)) good owned makes may fits none =
       owned-kept build (build_after work tasks build (changes n (whole path bytes time))) stand
       (stand_after stand (happened (changes n (whole path bytes time)))) (λ node. refl)
-      (clock-rises meaning stand (happened (changes n (whole path bytes time))) may) owned.child owned
+      (stamps-rise meaning stand (happened (changes n (whole path bytes time))) may) owned.child owned
   owned-next done build stand turns clean (changes n (cut_head path part time)) good owned makes may fits none =
       owned-kept build (build_after work tasks build (changes n (cut_head path part time))) stand
       (stand_after stand (happened (changes n (cut_head path part time)))) (λ node. refl)
-      (clock-rises meaning stand (happened (changes n (cut_head path part time))) may) owned.child owned
+      (stamps-rise meaning stand (happened (changes n (cut_head path part time))) may) owned.child owned
   owned-next done build stand turns clean (changes n (cut_whole path part time)) good owned makes may fits none =
       owned-kept build (build_after work tasks build (changes n (cut_whole path part time))) stand
       (stand_after stand (happened (changes n (cut_whole path part time)))) (λ node. refl)
-      (clock-rises meaning stand (happened (changes n (cut_whole path part time))) may) owned.child owned
+      (stamps-rise meaning stand (happened (changes n (cut_whole path part time))) may) owned.child owned
   owned-next done build stand turns clean (leaves ticket owner) good owned makes may fits none = absurd none
 
   -- the child of a step

@@ -8,7 +8,7 @@ use Rattle.std.proofs.lemmas.List.{get_or-map}
 use Rattle.std.specs.List.{list_any, list_all}
 use Rattle.mk_clean.specs.Clean.{CleanJob, DependsOn, source, through, IsAmong, StandsBefore, clean_jobs, after_job, clean_build, cleared}
 use Rattle.mk_clean.specs.Clean as clean
-use Rattle.mk_clean.specs.Declared.{AreDistinct}
+use Rattle.mk_clean.specs.Declared.{AreWellMade}
 use Rattle.mk_decision.specs.Decisions.{Work}
 use Rattle.mk_filemon.proofs.PathLemmas.{bytes_eq-same}
 use Rattle.mk_graph.specs.Closed.{Reaches, given, behind}
@@ -150,6 +150,25 @@ rising-once meaning plan (node ∷ nodes) store rises one other (inl here) = λ 
 rising-once meaning plan (node ∷ nodes) store rises one other (inr later) =
     rising-once meaning plan nodes (after_job meaning plan node store) rises.1 one other later
 
+rising-before : (meaning : Meaning) (plan : clean.Plan) (nodes : List ℕ) (store : Store) → AreRising nodes
+    → (one other : CleanJob) → IsAmong one (clean_jobs meaning plan nodes store)
+    → IsAmong other (clean_jobs meaning plan nodes store) → other.node < one.node
+    → StandsBefore other one (clean_jobs meaning plan nodes store)
+unfolding AreRising
+rising-before meaning plan [] store rises one other among also less = absurd among
+rising-before meaning plan (node ∷ nodes) store rises one other (inl here) (inl there) less =
+    let first : one.node ≡ node = ap (λ (job : CleanJob). job.node) here in
+    let second : other.node ≡ node = ap (λ (job : CleanJob). job.node) there in
+    absurd (omega (arith, less, first, second))
+rising-before meaning plan (node ∷ nodes) store rises one other (inl here) (inr later) less =
+    let first : one.node ≡ node = ap (λ (job : CleanJob). job.node) here in
+    let more = rises.0 other.node
+    (clean-node meaning plan nodes (after_job meaning plan node store) other later) in
+    absurd (omega (arith, less, first, more))
+rising-before meaning plan (node ∷ nodes) store rises one other (inr later) (inl there) less = inl (there, later)
+rising-before meaning plan (node ∷ nodes) store rises one other (inr later) (inr also) less =
+    inr (rising-before meaning plan nodes (after_job meaning plan node store) rises.1 one other later also less)
+
 -- names differ
 
 length-names : (nodes : List PlanNode) → length (plan_names nodes) ≡ length nodes
@@ -186,23 +205,6 @@ names-differ work well n other within also same = elim (cases_eq n other) [
       where
         below : nat_lt n other ≡ false → n ≢ other → other < n
         below not_less differs = grind (arith, nat_tests, common_steps)
-
-pub are-distinct : (meaning : Meaning) (work : Work) (tasks : Tasks) (store : Store) → IsWellMade work
-    → AreDistinct (clean_plan work tasks) (clean_build meaning (clean_plan work tasks) store)
-are-distinct meaning work tasks store well = record {
-  names = λ one other among also same.
-      let first = job-has work one.node (at one among) in
-      let second = job-has work other.node (at other also) in
-      names-differ work well one.node other.node first.0 second.0 same;
-  once = λ one other before.
-      rising-once meaning plan plan.order (cleared plan store) (jobs-rise 0 work.plan) one other before;
-}
-  where
-    plan : clean.Plan
-    plan = clean_plan work tasks
-
-    at : (one : CleanJob) → IsAmong one (clean_build meaning plan store) → IsAmong one.node (jobs_from 0 work.plan)
-    at one among = clean-node meaning plan plan.order (cleared plan store) one among
 
 -- the path of a node is one
 
@@ -284,6 +286,28 @@ depends-less work tasks well n other (through between one depends among) =
     let less = before-less work.plan 0 between one well.ordered
     (source-before work.plan between one well.sourced among) in
     omega (arith, first, less)
+
+-- the jobs of the clean build
+
+pub are-well-made : (meaning : Meaning) (work : Work) (tasks : Tasks) (store : Store) → IsWellMade work
+    → AreWellMade (clean_plan work tasks) (clean_build meaning (clean_plan work tasks) store)
+are-well-made meaning work tasks store well = record {
+  names = λ one other among also same.
+      let first = job-has work one.node (at one among) in
+      let second = job-has work other.node (at other also) in
+      names-differ work well one.node other.node first.0 second.0 same;
+  once = λ one other before.
+      rising-once meaning plan plan.order (cleared plan store) (jobs-rise 0 work.plan) one other before;
+  ordered = λ one other among also depends.
+      rising-before meaning plan plan.order (cleared plan store) (jobs-rise 0 work.plan) one other among also
+      (depends-less work tasks well one.node other.node depends);
+}
+  where
+    plan : clean.Plan
+    plan = clean_plan work tasks
+
+    at : (one : CleanJob) → IsAmong one (clean_build meaning plan store) → IsAmong one.node (jobs_from 0 work.plan)
+    at one among = clean-node meaning plan plan.order (cleared plan store) one among
 
 pub length-before : (nodes : List PlanNode) → length (predecessors nodes) ≡ length nodes
 length-before [] = refl

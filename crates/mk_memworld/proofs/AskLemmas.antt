@@ -9,7 +9,6 @@ use Rattle.mk_world.specs.declared.history.Happening.TheVariants.{Ask}
 use Rattle.mk_world.specs.declared.history.History.{History}
 use Rattle.mk_world.specs.declared.step.Ended.{Ended}
 use Rattle.mk_world.proofs.CallLemmas.{adds_nothing}
-use Rattle.mk_world.proofs.ChangeLemmas.{IsRising-steps}
 use Rattle.mk_world.proofs.TalkLemmas.{does-is, doings_equal}
 use Rattle.mk_commands.specs.Clock.{timed}
 use Rattle.mk_commands.specs.Meaning.{language}
@@ -17,7 +16,7 @@ use Rattle.mk_commands.specs.Rest.{answer_of, doing_of}
 use Rattle.mk_commands.specs.declared.rest.Rest.{Rest}
 use Rattle.mk_memworld.specs.Chronicle.{with_event}
 use Rattle.mk_memworld.specs.Running.{AddsSteps}
-use Rattle.mk_commands.proofs.TimeLemmas.{AreRising-timed, deeds-timed}
+use Rattle.mk_commands.proofs.TimeLemmas.{NotEarlier-timed, deeds-timed}
 use Rattle.mk_memworld.proofs.RunningLemmas.{AddsEvents-behind}
 use Rattle.mk_memworld.proofs.WorldLemmas.{adds_event}
 
@@ -72,11 +71,7 @@ pub adds_ask : (old new : History) (cmd : Cmd) (rest : Doing) (ended : Ended)
 adds_ask old new cmd rest ended same is answered =
     let clock = (state_of old).clock in
     let steps = timed clock rest.deeds in
-    let rising = AreRising-timed clock rest.deeds in
     adds_event (OwnAsk language cmd ended) old new (Ask cmd steps) is (
-      IsRising-steps clock steps rising,
-      (
-        deeds-timed clock rest.deeds ∙ ap (λ (doing : Doing). doing.deeds) same,
-        rising,
-      ),
+      NotEarlier-timed clock rest.deeds,
+      deeds-timed clock rest.deeds ∙ ap (λ (doing : Doing). doing.deeds) same,
     ) ((steps, refl), answers_as (does language cmd (files_of old)) rest ended same answered)

@@ -1,4 +1,4 @@
--- The files of a new world have times that rise.
+-- The files of a new world.
 use Rattle.std.proofs.Common.{◌≡◌, ◌∙◌, ◌⊎◌, ℕ, zero, suc, ◌+◌, ◌-◌, ◌<◌, ◌≤◌, Bool, true, false, not, ◌&&◌, ◌||◌, List, [], ◌∷◌, length, drop, get_or, Vec, Global, inl, inr, refl, sym, ap, subst, arith, drop-cons}
 use Rattle.std.proofs.lemmas.Bool.{false≢true}
 use Rattle.std.proofs.lemmas.List.Folds.{list_any-append}
@@ -8,20 +8,16 @@ use Rattle.std.specs.Str.{bytes_eq}
 use Rattle.indexmap.specs.IndexSet.{insert_key}
 use Rattle.mk_bytes.specs.Paths.{clean}
 use Rattle.mk_bytes.specs.declared.pair.Pair.{Pair}
-use Rattle.mk_world.specs.Lawful.{AreLaterThan, IsLawful}
+use Rattle.mk_world.specs.Lawful.{IsLawful}
 use Rattle.mk_world.specs.Talks.{Meaning}
 use Rattle.mk_world.specs.declared.history.History.{History}
-use Rattle.mk_memworld.specs.Base.{base_after, base_of, has_path, are_clean, Holds}
-
-later : (time : ℕ) (pairs : List Pair) → AreLaterThan time (base_after time pairs)
-later time [] = tt
-later time (pair ∷ pairs) = (omega arith, later (time + 1) pairs)
+use Rattle.mk_memworld.specs.Base.{base_of, has_path, are_clean, Holds}
 
 -- a history that begins so, and in which nothing has happened, is lawful
 pub fresh-lawful : (meaning : Meaning) (pairs : List Pair) (history : History)
     → history ≡ record { base = base_of pairs; events = [] } → IsLawful meaning history
 fresh-lawful meaning pairs history is =
-    subst (IsLawful meaning) (sym is) (record { base = later 0 pairs; events = tt })
+    subst (IsLawful meaning) (sym is) (record { events = tt })
 
 -- the files from a place on are the one there and those behind it
 next-file : (files : List Pair) (left : ℕ) (d : Pair) → 0 < left → left ≤ length files

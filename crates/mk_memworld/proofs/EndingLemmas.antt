@@ -117,11 +117,18 @@ others-steps state child (step ∷ steps) =
     others-steps (after state event) child steps
     ∙ without_child-stepped child.ticket step.deed state.children
 
+stamped-steps : (state : State) (child : Child) (steps : List Timed)
+    → (after_all state (steps_of child steps)).stamped ≡ state.stamped
+stamped-steps state child [] = refl
+stamped-steps state child (step ∷ steps) =
+    stamped-steps (after state (Step child.ticket child.owner step.deed step.time)) child steps
+
 -- how things stand after steps of a child and its end
 pub record AfterEnd (state new : State) (child : Child) (steps : List Timed) : Type 0 where
   pub files : effected_all state.files (timed_effects steps) ≡ new.files
   pub clock : last_time state.clock (timed_effects steps) ≡ new.clock
   pub children : without_child child.ticket state.children ≡ new.children
+  pub stamped : new.stamped ≡ state.stamped
 
 pub AfterEnd-is : (state : State) (child : Child) (steps : List Timed)
     → AfterEnd state
@@ -132,6 +139,7 @@ AfterEnd-is state child steps =
       files = sym (files-steps state child steps) ∙ ap (λ (s : State). s.files) now;
       clock = sym (clock-steps state child steps) ∙ ap (λ (s : State). s.clock) now;
       children = sym (others-steps state child steps) ∙ ap (λ (s : State). s.children) now;
+      stamped = ap (λ (s : State). s.stamped) (sym now) ∙ stamped-steps state child steps;
     }
 
 -- a history is the one after a child was taken in

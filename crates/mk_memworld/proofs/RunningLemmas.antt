@@ -14,7 +14,7 @@ use Rattle.mk_commands.specs.Clock.{time_of}
 use Rattle.mk_commands.specs.Meaning.{language}
 use Rattle.mk_memworld.specs.Chronicle.{with_event}
 use Rattle.mk_memworld.specs.Running.{AddsSteps}
-use Rattle.mk_commands.proofs.StepLemmas.{IsRising-step}
+use Rattle.mk_commands.proofs.StepLemmas.{NotEarlier-step}
 
 AreSteps-append : (first second : List Happening) → AreSteps first → AreSteps second
     → AreSteps (first ++ second)
@@ -72,7 +72,7 @@ pub may_step : (mid : History) (ticket : ℕ) (deed : Deed) (child : Child)
     → May language (state_of mid)
     (Step ticket child.owner deed (time_of (state_of mid).clock deed))
 may_step mid ticket deed child found step = (
-  IsRising-step (state_of mid).clock deed,
+  NotEarlier-step (state_of mid).clock deed,
   subst (MayStep language.next (contents (state_of mid).files) child.owner deed) (sym found) step,
 )
 

@@ -1,7 +1,7 @@
 -- What a write of a whole file changes, and adds to the history.
-use Rattle.std.proofs.Common.{◌≡◌, ℕ, ◌+◌, ◌<◌, ◌≤◌, List, [], ◌∷◌, ◌++◌, Option, Some, None, Result, Ok, Err, OnErr, take, drop, vec_len, vec_capacity, inl, inr, refl, sym, ◌∙◌, ap, subst, take-append-drop}
+use Rattle.std.proofs.Common.{◌≡◌, ℕ, ◌+◌, ◌<◌, ◌≤◌, List, [], ◌∷◌, ◌++◌, Option, Some, None, Result, Ok, Err, OnErr, take, drop, vec_len, vec_capacity, inl, inr, refl, sym, ◌∙◌, ap, subst, le_of_lt, lt_of_le_of_lt, take-append-drop}
 use Rattle.mk_world.specs.Calls.{AddsEvents}
-use Rattle.mk_world.specs.History.{Effect, State, May, children_after, effected, effected_all, effects, last_time, state_of}
+use Rattle.mk_world.specs.History.{Effect, NotEarlier, State, May, children_after, effected, effected_all, effects, last_time, state_of}
 use Rattle.mk_world.specs.declared.history.Child.{Child}
 use Rattle.mk_world.specs.declared.history.History.{History}
 use Rattle.mk_world.proofs.CallLemmas.{adds_nothing}
@@ -37,9 +37,9 @@ pub IsPresent-write : (t u : Inside) (writing : Writing) (path copy bytes text :
     → u.events.items ≡ t.events.items ++ event_of writing copy text time ∷ []
     → files_in u.files ≡ effected (files_in t.files) (written path bytes time)
     → vec_len u.events + vec_len u.children ≤ vec_capacity u.events
-    → u.base ≡ t.base → u.clock ≡ time → u.children.items ≡ t.children.items
+    → u.base ≡ t.base → u.clock ≡ time → t.clock ≤ time → u.children.items ≡ t.children.items
     → IsPresent u
-IsPresent-write t u writing path copy bytes text time present same_path same_bytes events files room base clock children =
+IsPresent-write t u writing path copy bytes text time present same_path same_bytes events files room base clock later children =
     let are = effects-write writing copy text time in
     let file : written path bytes time ≡ written copy text time =
     λ i. written (sym same_path i) (sym same_bytes i) time in
@@ -47,7 +47,8 @@ IsPresent-write t u writing path copy bytes text time present same_path same_byt
     (files ∙ ap (effected (files_in t.files)) file
     ∙ ap (effected_all (files_in t.files)) (sym are))
     (clock ∙ ap (last_time t.clock) (sym are))
-    (children ∙ sym (children-write writing copy text time t.children.items)) room
+    (children ∙ sym (children-write writing copy text time t.children.items))
+    (subst (NotEarlier t.clock) (sym are) (later, tt)) room
 
 -- the running children stay
 pub same_children : (old new : History) (writing : Writing) (path bytes : List ℕ) (time : ℕ)
@@ -59,20 +60,20 @@ same_children old new writing path bytes time is =
 
 -- a write at a later time may happen
 may_write : (writing : Writing) (path bytes : List ℕ) (time : ℕ) (state : State)
-    → state.clock < time → May language state (event_of writing path bytes time)
-may_write Stamp path bytes time state later = ((later, tt), tt)
-may_write Put path bytes time state later = ((later, tt), tt)
+    → state.stamped ≤ state.clock → state.clock < time → May language state (event_of writing path bytes time)
+may_write Stamp path bytes time state stamped later = ((le_of_lt later, tt), lt_of_le_of_lt stamped later)
+may_write Put path bytes time state stamped later = ((le_of_lt later, tt), tt)
 
 -- a write behind steps
 pub adds_write : (old mid new : History) (writing : Writing) (path bytes : List ℕ) (time : ℕ)
     → AddsSteps old mid → new ≡ with_event mid (event_of writing path bytes time)
-    → (state_of mid).clock < time
+    → (state_of mid).stamped ≤ (state_of mid).clock → (state_of mid).clock < time
     → AddsEvents language (λ _ own. own ≡ event_of writing path bytes time ∷ []) old new
-adds_write old mid new writing path bytes time steps is later =
+adds_write old mid new writing path bytes time steps is stamped later =
     let event = event_of writing path bytes time in
     AddsEvents-behind _ old mid new steps
     (adds_event (λ _ own. own ≡ event ∷ []) mid new event is
-    (may_write writing path bytes time (state_of mid) later) refl)
+    (may_write writing path bytes time (state_of mid) stamped later) refl)
 
 -- a refused write behind steps
 pub unwritten_behind : (writing : Writing) (path bytes : List ℕ) (old new : History)
@@ -91,16 +92,17 @@ unwritten_after (Err fault) writing path bytes old mid new steps same =
 -- a write of which a part stands, behind steps
 pub adds_part : (writing : Writing) (path bytes : List ℕ) (time : ℕ) (count : Option ℕ)
     (old mid new : History) → AddsSteps old mid
-    → new ≡ part_written mid writing path bytes time count → (state_of mid).clock < time
+    → new ≡ part_written mid writing path bytes time count
+    → (state_of mid).stamped ≤ (state_of mid).clock → (state_of mid).clock < time
     → AddsEvents language (OwnPartOf writing path bytes) old new
-adds_part writing path bytes time None old mid new steps is later =
+adds_part writing path bytes time None old mid new steps is stamped later =
     unwritten_behind writing path bytes old new (subst (AddsSteps old) (sym is) steps)
-adds_part writing path bytes time (Some count) old mid new steps is later =
+adds_part writing path bytes time (Some count) old mid new steps is stamped later =
     let part = take count bytes in
     let Own = OwnPartOf writing path bytes in
     AddsEvents-behind Own old mid new steps
     (adds_event Own mid new (event_of writing path part time) is
-    (may_write writing path part time (state_of mid) later)
+    (may_write writing path part time (state_of mid) stamped later)
     (inr (
       part,
       time,

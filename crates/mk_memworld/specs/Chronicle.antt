@@ -24,5 +24,7 @@ pub record IsPresent (t : Inside) : Type 0 where
   pub files : files_in t.files ≡ (state_of (told t)).files
   pub clock : t.clock ≡ (state_of (told t)).clock
   pub children : t.children.items ≡ (state_of (told t)).children
+  -- the last stamp is no later than the last change
+  pub stamped : (state_of (told t)).stamped ≤ t.clock
   -- each running child has room for the event that ends it
   pub room : vec_len t.events + vec_len t.children ≤ vec_capacity t.events

@@ -87,9 +87,10 @@ impl Chronicle {
         self.files.bytes(path)
     }
 
-    /// The time of the last change.
+    /// The time of the last change, than which the last stamp is no later.
     pub fn clock(&self) -> u64
-        ensures { result ≡ (state_of self.now).clock }
+        ensures time { result ≡ (state_of self.now).clock }
+        ensures stamped { (state_of self.now).stamped ≤ result }
     {
         self.clock
     }
@@ -160,7 +161,7 @@ impl Chronicle {
         Ok(())
     }
 
-    /// Make writes a whole file, at this time.
+    /// Make writes a whole file, at this time, which is not earlier than the last change.
     pub fn write(
         &mut self,
         writing: Writing,
@@ -168,6 +169,7 @@ impl Chronicle {
         bytes: &[u8],
         time: u64,
     ) -> Result<(), NoMemory>
+        requires { (state_of self.old).clock ≤ time }
         ensures ok { OnOk result
             (self.new ≡ with_event self.old (event_of writing path.now bytes.now time)) }
         ensures err { OnErr result (self.new ≡ self.old) }
@@ -190,6 +192,7 @@ impl Chronicle {
         time: u64,
         count: Option<usize>,
     ) -> Result<(), NoMemory>
+        requires { (state_of self.old).clock ≤ time }
         ensures ok { OnOk result
             (self.new ≡ part_written self.old writing path.now bytes.now time count) }
         ensures err { OnErr result (self.new ≡ self.old) }

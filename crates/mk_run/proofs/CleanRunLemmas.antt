@@ -243,6 +243,7 @@ clean-run meaning env order made flags nodes tasks items planned_at old planned_
           (turn.after_turns plan (turn.first_build (files_of old)) left.built.turns)) (sym jobs.0)
           (subst (λ s. DoesCleanSteps (clean_build meaning plan s) left.built.turns
           (turn.after_turns plan (turn.first_build s) left.built.turns)) start left.steps_are);
+      apart = left.apart;
       truth = left.truth;
     }
   where

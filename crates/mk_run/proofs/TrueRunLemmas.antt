@@ -12,11 +12,12 @@ use Rattle.mk_makefile.specs.Questions.{AreAsked, IsAsked, Question, bytes_of, t
 use Rattle.mk_query.specs.Looks.{Saw, look_of}
 use Rattle.mk_scopes.specs.declared.scopes.Env.{Env}
 use Rattle.mk_trace.proofs.AlongLemmas.{OnlyAsked, all-append, asked-none, asked-true, built-true}
+use Rattle.mk_trace.specs.Items.{Happened, Item, happened_all}
 use Rattle.mk_trace.specs.TrueBuilds.{IsQuestion}
-use Rattle.mk_world.proofs.CallLemmas.{MayAll-append, after_all-append}
+use Rattle.mk_world.proofs.CallLemmas.{MayAll-append, after_all-append, run_then}
 use Rattle.mk_world.specs.History.{State as Stand, MayAll, after_all, files_of, first_state, state_of}
 use Rattle.mk_world.specs.Looks.{Dated, DatesAll, OnlyLooks, Seen}
-use Rattle.mk_world.specs.Runs.{Same}
+use Rattle.mk_world.specs.Runs.{Run, Same}
 use Rattle.mk_world.specs.Talks.{Meaning}
 use Rattle.mk_world.specs.Told.{Told}
 use Rattle.mk_world.specs.declared.history.Happening.{Happening}
@@ -379,17 +380,91 @@ follows-clean meaning env order first last err went end old new at is well does 
         (questions-ask meaning does.reads.questions old read_then
         (told-at (AreAsked meaning does.reads.questions) at here does.reads.asked)) here is well does.goes
 
+-- what happened in a run
+
+happened-run : (meaning : Meaning) (items : List Item) (old new : History) → Happened meaning items old new
+    → Run meaning old new
+happened-run meaning items old new happens = record {
+  events = happened_all items;
+  base = happens.base;
+  longer = happens.events;
+  lawful = happens.lawful;
+}
+
+-- what follows the reading adds what may happen behind it
+goes-run : (meaning : Meaning) (meant : Meant) (old read : History) (first last : Point)
+    (went : Went) (new : History) → Run meaning old read → first.history ≡ Some read
+    → last.history ≡ Some new → Goes meaning meant first last went → Run meaning old new
+goes-run meaning (only outcome) old read first last went new before at is goes =
+    let same = told-at Same at is goes.same in
+    run_then before (asked-same meaning read new same.base same.events).run
+goes-run meaning (prints variables lists all) old read first last went new before at is goes =
+    run_then before (dates-ask meaning goes.looked read new (told-at (DatesAll goes.looked) at is goes.told)).run
+goes-run meaning (explains made flags) old read first last went new before at is goes =
+    run_then before (explained-asks meaning made flags first last went read new at is goes).run
+goes-run meaning (queries made flags) old read first last went new before at is goes =
+    run_then before (queried-asks meaning made flags first last went read new at is goes).run
+goes-run meaning (shows made flags) old read first last went new before at is (inl unplanned) =
+    run_then before (looks-ask meaning read new (told-at _ at is unplanned.refused).0).run
+goes-run meaning (shows made flags) old read first last went new before at is (inr shown) =
+    planned shown.planned_at refl
+  where
+    planned : (point_at : Option History) → shown.planned_at ≡ point_at → Run meaning old new
+    planned None here = absurd (told-before _ here is shown.shown.told)
+    planned (Some planned_then) here =
+        let told = told-at _ here is shown.shown.told in
+        run_then before
+        (run_then (looks-ask meaning read planned_then (told-at _ at here shown.planned).0).run
+        (happened-run meaning _ planned_then new told))
+goes-run meaning (builds made flags) old read first last went new before at is (inl unplanned) =
+    run_then before (looks-ask meaning read new (told-at _ at is unplanned.refused).0).run
+goes-run meaning (builds made flags) old read first last went new before at is (inr built) =
+    planned built.planned_at refl
+  where
+    planned : (point_at : Option History) → built.planned_at ≡ point_at → Run meaning old new
+    planned None here = absurd (told-before _ here is built.built.true_build.build.told)
+    planned (Some planned_then) here =
+        let told = told-at _ here is built.built.true_build.build.told in
+        run_then before
+        (run_then (looks-ask meaning read planned_then (told-at _ at here built.planned).0).run
+        (happened-run meaning _ planned_then new told))
+
+follows-run : (meaning : Meaning) (env : Env) (order : Order) (first last : Point) (err : Held)
+    (went : Went) (old new : History) → first.history ≡ Some old → last.history ≡ Some new
+    → Followed meaning env order first last err went → Run meaning old new
+follows-run meaning env order first last err went old new at is does = read does.read_at refl
+  where
+    read : (read_at : Option History) → does.read_at ≡ read_at → Run meaning old new
+    read None here =
+        absurd (goes-told meaning (by_reading order does.read) (point does.read_at first.out) last went new here
+        is does.goes)
+    read (Some read_then) here =
+        goes-run meaning (by_reading order does.read) old read_then (point does.read_at first.out) last went new
+        (questions-ask meaning does.reads.questions old read_then
+        (told-at (AreAsked meaning does.reads.questions) at here does.reads.asked)).run here is does.goes
+
 -- every run is one
 pub true-run : {meaning : Meaning} {words : List (List ℕ)} {env : Env} {order : Order} {first last : Point}
     {err : Held} {report : Report} → IsOrderRun meaning words env order first last err report
     → IsTrueOrderRun meaning words env order first last err report
 true-run {meaning} {words} {env} {order} {first} {last} {err} {report} run = record {
   run = run;
+  happened = ran first.history last.history refl refl;
   meta_files = told first.history last.history refl refl;
   clean = cleaned first.history last.history refl refl;
   complete = completes run;
 }
   where
+    ran : (before after : Option History) → first.history ≡ before → last.history ≡ after
+        → Told before after (Run meaning)
+    ran before None at is = tt
+    ran None (Some new) at is =
+        absurd (follows-told meaning env order first last
+        (record { before = err.before; after = run.err_at }) run.went new at is run.followed)
+    ran (Some old) (Some new) at is =
+        follows-run meaning env order first last
+        (record { before = err.before; after = run.err_at }) run.went old new at is run.followed
+
     told : (before after : Option History) → first.history ≡ before → last.history ≡ after
         → Told before after (StaysTrue meaning (build_of run))
     told before None at is = tt

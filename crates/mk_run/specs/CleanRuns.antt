@@ -30,7 +30,7 @@ use Rattle.mk_scopes.specs.declared.scopes.Env.{Env}
 use Rattle.mk_trace.specs.Builds.{command_of}
 use Rattle.mk_trace.specs.Items.{Item}
 use Rattle.mk_trace.specs.Runs.{Tasks}
-use Rattle.mk_trace.specs.TrueBuilds.{LeavesFiles, longer}
+use Rattle.mk_trace.specs.TrueBuilds.{IsApart, LeavesFiles, longer}
 use Rattle.mk_world.specs.Deeds.{Store, after_deeds}
 use Rattle.mk_world.specs.History.{files_of, state_of}
 use Rattle.mk_world.specs.Lawful.{IsLawful}
@@ -143,7 +143,7 @@ pub record IsReadyRun (meaning : Meaning) (env : Env) (order : Order) (planned_a
 -- A run leaves what the clean build leaves. In this each line of each job ran and went well. Each made file has the
 -- bytes that it gives it. Each step of a command of the run is a step of the same node's job in it, at every moment
 -- and in whatever order they are done: of each job none or the first ones, and where its node is settled none or all.
--- And each meta file that stands behind the run tells what happened.
+-- Its jobs have kept apart, and each meta file that stands behind the run tells what happened.
 pub record LeavesCleanFiles (meaning : Meaning) (work : Work) (tasks : Tasks) (items : List Item)
     (old new : History) (clean : Work) (files : Store) : Type 0
   where
@@ -156,4 +156,5 @@ pub record LeavesCleanFiles (meaning : Meaning) (work : Work) (tasks : Tasks) (i
     pub built : IsBuildOfTurns meaning work tasks items old new
     pub steps_are : DoesCleanSteps (clean_jobs_of meaning clean files) built.turns
         (turn.after_turns (clean_plan work tasks) (turn.first_build (files_of old)) built.turns)
+    pub apart : IsApart work tasks items
     pub truth : IsTrueHistory meaning.next new

@@ -13,6 +13,7 @@ use Rattle.mk_trace.specs.Runs.{Tasks}
 use Rattle.mk_trace.specs.TrueBuilds.{IsApart, LeavesFiles, behind, longer}
 use Rattle.mk_world.specs.History.{files_of, state_of}
 use Rattle.mk_world.specs.Lawful.{IsLawful}
+use Rattle.mk_world.specs.Runs.{Run}
 use Rattle.mk_world.specs.Talks.{Meaning}
 use Rattle.mk_world.specs.Told.{Told}
 use Rattle.mk_world.specs.declared.history.Happening.{Happening}
@@ -85,12 +86,14 @@ LeavesClean meaning env order (Some (build planned_at work tasks items)) end old
     → LeavesCleanFiles meaning work tasks items old new clean (bare work.plan (files_of old))
 
 -- A run, whose meta files tell what happened where those before it did: whatever it is that was built,
--- printed or refused, and however the run ended. Where it has built all, it leaves what the clean build leaves, and
--- where nothing is wrong it ends well.
+-- printed or refused, and however the run ended. What happened in it was added to the history, and each event may happen
+-- behind those before it, so that a history that may have come about is one behind the run, too. Where the run has built
+-- all, it leaves what the clean build leaves, and where nothing is wrong it ends well.
 pub record IsTrueOrderRun (meaning : Meaning) (words : List (List ℕ)) (env : Env) (order : Order)
     (first last : Point) (err : Held) (report : Report) : Type 0
   where
     pub run : IsOrderRun meaning words env order first last err report
+    pub happened : Told first.history last.history (Run meaning)
     pub meta_files : Told first.history last.history (StaysTrue meaning (build_of run))
     pub clean : Told first.history last.history (LeavesClean meaning env order (build_of run) report.end)
     pub complete : Completes run

@@ -37,7 +37,7 @@ use Rattle.mk_trace.proofs.TrueChildren.{contains-here, contains-mid, contains-m
 use Rattle.mk_trace.proofs.TrueIdle.{free-not, stop-not, idle-change, idle-looks, idle-settled, idle-waits, idle-starts, idle-passes, idle-ends, idle-steps, idle-head}
 use Rattle.mk_trace.proofs.TrueRuns.{IsShut, CanAct, shut-not, shut-all, start-acts, ended-open, IsFree, free-ended, taken-due}
 use Rattle.mk_trace.proofs.TrueStages.{JobOf, Idle, idle-kept, started, passed, taken, stepped-on, headed}
-use Rattle.mk_trace.proofs.TrueTexts.{clock-rises, stamp-between, no-head, AreTrue, true-same, true-changed}
+use Rattle.mk_trace.proofs.TrueTexts.{stamps-rise, stamp-between, no-head, AreTrue, true-same, true-changed}
 use Rattle.mk_trace.proofs.TrueWholes.{whole-true}
 use Rattle.mk_trace.specs.Builds.{Build, Own, free, close, stop, Makes, IsCommandOf, IsHead, IsWhole, first_build, build_after, build_after_all, rules_of, with_collected, with_ticket}
 use Rattle.mk_trace.specs.Calls.{AreLeaveItems, AreStepItems}
@@ -137,14 +137,14 @@ module _ (meaning : Meaning) (work : Work) (tasks : run.Tasks) (entry : Stand)
   -- each job was opened in this build, and no two began at one time
   record Owners (build : Build) (stand : Stand) : Type 0 where
     owned : (node : ℕ) → ((build.own node).collected.owner ≡ 0)
-        ⊎ ((entry.clock < (build.own node).collected.owner) × ((build.own node).collected.owner ≤ stand.clock))
+        ⊎ ((entry.stamped < (build.own node).collected.owner) × ((build.own node).collected.owner ≤ stand.stamped))
     differ : (node other : ℕ) → (build.own node).collected.owner ≡ (build.own other).collected.owner
         → (build.own node).collected.owner ≢ 0 → node ≡ other
 
   -- what began at a stamp is over
   record IsOver (build : Build) (stand : Stand) (stamp : ℕ) : Type 0 where
     later : 0 < stamp
-    within : stamp ≤ stand.clock
+    within : stamp ≤ stand.stamped
     shut : (node : ℕ) → (build.own node).collected.owner ≡ stamp → IsShut build.run.nodes node
 
   record Good (done : List Item) (build : Build) (stand : Stand) : Type 0 where
@@ -171,7 +171,7 @@ module _ (meaning : Meaning) (work : Work) (tasks : run.Tasks) (entry : Stand)
   -- the owners stay
   owners-kept : (build later : Build) (stand then_stand : Stand)
       → ((node : ℕ) → (later.own node).collected.owner ≡ (build.own node).collected.owner)
-      → stand.clock ≤ then_stand.clock → Owners build stand → Owners later then_stand
+      → stand.stamped ≤ then_stand.stamped → Owners build stand → Owners later then_stand
   owners-kept build later stand then_stand same rises owners = record {
     owned = λ node. by node (owners.owned node);
     differ = λ node other is real.
@@ -179,11 +179,11 @@ module _ (meaning : Meaning) (work : Work) (tasks : run.Tasks) (entry : Stand)
   }
     where
       by : (node : ℕ) → ((build.own node).collected.owner ≡ 0)
-          ⊎ ((entry.clock < (build.own node).collected.owner)
-          × ((build.own node).collected.owner ≤ stand.clock))
+          ⊎ ((entry.stamped < (build.own node).collected.owner)
+          × ((build.own node).collected.owner ≤ stand.stamped))
           → ((later.own node).collected.owner ≡ 0)
-          ⊎ ((entry.clock < (later.own node).collected.owner)
-          × ((later.own node).collected.owner ≤ then_stand.clock))
+          ⊎ ((entry.stamped < (later.own node).collected.owner)
+          × ((later.own node).collected.owner ≤ then_stand.stamped))
       by node (inl none) = inl (same node ∙ none)
       by node (inr within) =
           let is = same node in
@@ -191,7 +191,7 @@ module _ (meaning : Meaning) (work : Work) (tasks : run.Tasks) (entry : Stand)
 
   over-kept : (build later : Build) (stand then_stand : Stand) (stamp : ℕ)
       → ((node : ℕ) → (later.own node).collected.owner ≡ (build.own node).collected.owner)
-      → stand.clock ≤ then_stand.clock
+      → stand.stamped ≤ then_stand.stamped
       → ((node : ℕ) → IsShut build.run.nodes node → IsShut later.run.nodes node)
       → IsOver build stand stamp → IsOver later then_stand stamp
   over-kept build later stand then_stand stamp same rises shut over = record {
@@ -248,7 +248,7 @@ module _ (meaning : Meaning) (work : Work) (tasks : run.Tasks) (entry : Stand)
     steady = steady-all (rules_of work) tasks build.run (reported item) good.steady makes.0;
     free_due = free_due;
     owners = owners-kept build (build_after work tasks build item) stand (stand_after stand (happened item)) same
-        (clock-rises meaning stand (happened item) may) good.owners;
+        (stamps-rise meaning stand (happened item) may) good.owners;
     nodes = nodes;
     truth = truth;
   }
@@ -261,7 +261,7 @@ module _ (meaning : Meaning) (work : Work) (tasks : run.Tasks) (entry : Stand)
       → IsOver (build_after work tasks build item) (stand_after stand (happened item)) stamp
   over-more done build stand item good legal may same stamp over =
       over-kept build (build_after work tasks build item) stand (stand_after stand (happened item)) stamp same
-      (clock-rises meaning stand (happened item) may) (shut-kept build item good.steady legal) over
+      (stamps-rise meaning stand (happened item) may) (shut-kept build item good.steady legal) over
 
   -- an owner is that of its node's job alone
 
@@ -691,12 +691,12 @@ module _ (meaning : Meaning) (work : Work) (tasks : run.Tasks) (entry : Stand)
     where
       within : (stamp : ℕ) → 0 < stamp → (build.own node).collected.owner ≡ stamp
           → ((build.own node).collected.owner ≡ 0)
-          ⊎ ((entry.clock < (build.own node).collected.owner)
-          × ((build.own node).collected.owner ≤ stand.clock))
-          → stamp ≤ stand.clock
+          ⊎ ((entry.stamped < (build.own node).collected.owner)
+          × ((build.own node).collected.owner ≤ stand.stamped))
+          → stamp ≤ stand.stamped
       within stamp later owned (inl none) =
           let none_is : stamp ≡ 0 = sym owned ∙ none in absurd (omega (arith, later, none_is))
-      within stamp later owned (inr both) = subst (λ k. k ≤ stand.clock) owned both.1
+      within stamp later owned (inr both) = subst (λ k. k ≤ stand.stamped) owned both.1
 
   good-whole : (total rest : List Item) (apart : IsApart work tasks total)
       (node time : ℕ) (path bytes : List ℕ) (done : List Item) (build : Build) (stand : Stand)
@@ -780,12 +780,12 @@ module _ (meaning : Meaning) (work : Work) (tasks : run.Tasks) (entry : Stand)
       stand_then : Stand
       stand_then = stand_after stand (happened item)
 
-      rises : entry.clock ≤ stand.clock
-      rises = subst (λ (s : Stand). entry.clock ≤ s.clock) good.past.stand_at
-          (clock-rises meaning entry (happened_all done) good.past.happens)
+      rises : entry.stamped ≤ stand.stamped
+      rises = subst (λ (s : Stand). entry.stamped ≤ s.stamped) good.past.stand_at
+          (stamps-rise meaning entry (happened_all done) good.past.happens)
 
-      later : stand.clock < time
-      later = may.0.0.0
+      later : stand.stamped < time
+      later = may.0.1
 
       own_here : (n : ℕ) → n ≡ node → (build_then.own n).collected.owner ≡ time
       own_here n same =
@@ -797,18 +797,18 @@ module _ (meaning : Meaning) (work : Work) (tasks : run.Tasks) (entry : Stand)
 
       owned_other : (n : ℕ) → ((build.own n).collected.owner ≡ (build_then.own n).collected.owner)
           → ((build.own n).collected.owner ≡ 0)
-          ⊎ ((entry.clock < (build.own n).collected.owner) × ((build.own n).collected.owner ≤ stand.clock))
+          ⊎ ((entry.stamped < (build.own n).collected.owner) × ((build.own n).collected.owner ≤ stand.stamped))
           → ((build_then.own n).collected.owner ≡ 0)
-          ⊎ ((entry.clock < (build_then.own n).collected.owner)
-          × ((build_then.own n).collected.owner ≤ stand_then.clock))
+          ⊎ ((entry.stamped < (build_then.own n).collected.owner)
+          × ((build_then.own n).collected.owner ≤ stand_then.stamped))
       owned_other n same (inl none) = inl (sym same ∙ none)
       owned_other n same (inr both) =
           inr (omega (arith, both.0, same), omega (arith, both.1, same, later))
 
       owned : (n : ℕ) → (n ≡ node) ⊎ (n ≡ node → ⊥)
           → ((build_then.own n).collected.owner ≡ 0)
-          ⊎ ((entry.clock < (build_then.own n).collected.owner)
-          × ((build_then.own n).collected.owner ≤ stand_then.clock))
+          ⊎ ((entry.stamped < (build_then.own n).collected.owner)
+          × ((build_then.own n).collected.owner ≤ stand_then.stamped))
       owned n (inl same) =
           let is = own_here n same in
           inr (omega (arith, is, later, rises), omega (arith, is))
@@ -816,7 +816,7 @@ module _ (meaning : Meaning) (work : Work) (tasks : run.Tasks) (entry : Stand)
 
       -- no job began so late
       not-now : (n : ℕ) → ((build.own n).collected.owner ≡ 0)
-          ⊎ ((entry.clock < (build.own n).collected.owner) × ((build.own n).collected.owner ≤ stand.clock))
+          ⊎ ((entry.stamped < (build.own n).collected.owner) × ((build.own n).collected.owner ≤ stand.stamped))
           → (build.own n).collected.owner ≡ time → ⊥
       not-now n (inl none) is = absurd (omega (arith, none, is, later))
       not-now n (inr both) is = absurd (omega (arith, both.1, is, later))
@@ -1067,15 +1067,15 @@ good-first meaning work tasks old none lawful truth = record {
       (told.during ++ world.Put (meta_path meta.target) (meta_text meta) told.time ∷ told.since)
       (meta_path meta.target) told.first meta.stamp.0
       (subst (MayHappen meaning (first_state old.base)) told.all lawful.events) in
-      let clock : meta.stamp.0 ≤ (state_of old).clock =
-      subst (λ events. meta.stamp.0 ≤ (stand_after (first_state old.base) events).clock) (sym told.all)
+      let last : meta.stamp.0 ≤ (state_of old).stamped =
+      subst (λ events. meta.stamp.0 ≤ (stand_after (first_state old.base) events).stamped) (sym told.all)
       within.1 in
       let first = within.0 in
       let later : 0 < meta.stamp.0 = omega (arith, first) in (
         subst (IsTrue meaning.next meta) (sym (append-nil old.events)) told,
         record {
           later = later;
-          within = clock;
+          within = last;
           shut = λ node zero_is. absurd (omega (arith, later, zero_is));
         },
       );

@@ -1,6 +1,6 @@
 -- True meta files when something more happens.
 use Rattle.std.proofs.Common.{◌≡◌, ◌∙◌, ◌⊎◌, ℕ, ◌<◌, ◌≤◌, Bool, true, false, List, [], ◌∷◌, ◌++◌, codes, Option, Some, None, if◌then◌else◌}
-use Rattle.std.proofs.Common.{inl, inr, refl, sym, ap, subst, arith, append_assoc}
+use Rattle.std.proofs.Common.{inl, inr, refl, sym, ap, subst, arith, append_assoc, le_of_lt}
 use Rattle.std.proofs.lemmas.Bool.{false_from_ne_true}
 use Rattle.std.proofs.lemmas.List.Concat.{flat_map-append}
 use Rattle.std.proofs.lemmas.Slice.Eq.{bytes_eq-Decides}
@@ -13,10 +13,10 @@ use Rattle.mk_meta.specs.Reading.{meta_in}
 use Rattle.mk_meta.specs.Texts.{head, front, middle, records_lines, meta_text}
 use Rattle.mk_meta.specs.TrueHistory.{job_event, LeavesAlone, meta_path, IsTrue}
 use Rattle.mk_meta.specs.declared.meta.Meta.{Meta}
-use Rattle.mk_world.specs.History.{Effect, FileMap, Filed, State, effects, effected, effected_all, filed, contents, last_time, NotEarlier, IsRising, MayAll, after, after_all}
+use Rattle.mk_world.specs.History.{Effect, FileMap, Filed, State, effects, effected, effected_all, filed, contents, MayAll, MayNow, after, after_all}
 use Rattle.mk_world.specs.Talks.{Meaning, NextOf}
 use Rattle.mk_world.specs.declared.history.Happening.{Happening}
-use Rattle.mk_world.specs.declared.history.Happening.TheVariants.{Stamp, Put}
+use Rattle.mk_world.specs.declared.history.Happening.TheVariants.{Edit, Look, Stamp, Put, Gone, Ask, Start, Step, End, Left}
 
 -- texts
 
@@ -104,34 +104,38 @@ stands-behind files path other text bytes time is =
     true-false : true ≡ false → ⊥
     true-false is = absurd cc
 
--- the clock never goes back
+-- stamps rise
 
-pub not-back : (clock : ℕ) (all : List Effect) → NotEarlier clock all → clock ≤ last_time clock all
-not-back clock [] later = omega arith
-not-back clock (effect ∷ more) later =
-    let rest = not-back effect.time more later.1 in omega (arith, rest, later.0)
+stamp-rises : (meaning : Meaning) (state : State) (event : Happening) → MayNow meaning state event
+    → state.stamped ≤ (after state event).stamped
+stamp-rises meaning state (Stamp path bytes time) may = le_of_lt may
+stamp-rises meaning state (Edit path bytes time) may = omega arith
+stamp-rises meaning state (Look path) may = omega arith
+stamp-rises meaning state (Put path bytes time) may = omega arith
+stamp-rises meaning state (Gone path time) may = omega arith
+stamp-rises meaning state (Ask cmd steps) may = omega arith
+stamp-rises meaning state (Start ticket owner cmd) may = omega arith
+stamp-rises meaning state (Step ticket owner deed time) may = omega arith
+stamp-rises meaning state (End ticket owner) may = omega arith
+stamp-rises meaning state (Left ticket owner) may = omega arith
 
-pub rises : (clock : ℕ) (all : List Effect) → IsRising clock all → clock ≤ last_time clock all
-rises clock [] later = omega arith
-rises clock (effect ∷ more) later =
-    let rest = not-back effect.time more later.1 in omega (arith, rest, later.0)
-
-pub clock-rises : (meaning : Meaning) (state : State) (events : List Happening)
-    → MayAll meaning state events → state.clock ≤ (after_all state events).clock
-clock-rises meaning state [] may = omega arith
-clock-rises meaning state (event ∷ events) may =
-    let first = rises state.clock (effects event) may.0.0 in
-    let rest = clock-rises meaning (after state event) events may.1 in
+pub stamps-rise : (meaning : Meaning) (state : State) (events : List Happening)
+    → MayAll meaning state events → state.stamped ≤ (after_all state events).stamped
+stamps-rise meaning state [] may = omega arith
+stamps-rise meaning state (event ∷ events) may =
+    let first = stamp-rises meaning state event may.0.1 in
+    let rest = stamps-rise meaning (after state event) events may.1 in
     omega (arith, first, rest)
 
--- a stamp is later than what was before it, and no later than the clock behind it
+-- a stamp is later than those before it, and no later than the last behind it
 pub stamp-between : (meaning : Meaning) (state : State) (before after_it : List Happening)
     (path bytes : List ℕ) (time : ℕ) → MayAll meaning state (before ++ Stamp path bytes time ∷ after_it)
-    → (state.clock < time) × (time ≤ (after_all state (before ++ Stamp path bytes time ∷ after_it)).clock)
+    → (state.stamped < time)
+    × (time ≤ (after_all state (before ++ Stamp path bytes time ∷ after_it)).stamped)
 stamp-between meaning state [] after_it path bytes time may =
-    (may.0.0.0, clock-rises meaning (after state (Stamp path bytes time)) after_it may.1)
+    (may.0.1, stamps-rise meaning (after state (Stamp path bytes time)) after_it may.1)
 stamp-between meaning state (event ∷ before) after_it path bytes time may =
-    let first = rises state.clock (effects event) may.0.0 in
+    let first = stamp-rises meaning state event may.0.1 in
     let rest = stamp-between meaning (after state event) before after_it path bytes time may.1 in
     (omega (arith, first, rest.0), rest.1)
 

@@ -1,16 +1,16 @@
 -- The files after changes, and their times.
-use Rattle.std.proofs.Common.{◌≡◌, ℕ, Bool, true, false, cond, List, [], ◌∷◌, ◌++◌, map, Option, Some, None}
+use Rattle.std.proofs.Common.{◌≡◌, ℕ, ◌≤◌, Bool, true, false, cond, List, [], ◌∷◌, ◌++◌, map, Option, Some, None}
 use Rattle.std.proofs.Common.{refl, ◌∙◌, ap, arith}
 use Rattle.std.specs.Option.{option_map}
 use Rattle.std.specs.Str.{bytes_eq}
 use Rattle.mk_world.specs.Deeds.{Spot, after_deeds, changes, put, put_all}
-use Rattle.mk_world.specs.History.{FileMap, Filed, Effect, State, AreRising, IsRising, MayNow, NotEarlier}
+use Rattle.mk_world.specs.History.{FileMap, Filed, Effect, State, MayNow, NotEarlier}
 use Rattle.mk_world.specs.History.{after, at_time, contents, effected, effected_all, filed, files_of}
-use Rattle.mk_world.specs.History.{after_all, first_state, last_time, state_of, timed_effects}
+use Rattle.mk_world.specs.History.{after_all, effects, first_state, last_time, stamped_after, state_of, timed_effects}
 use Rattle.mk_world.specs.Talks.{Meaning, after_doing}
 use Rattle.mk_world.specs.declared.command.Cmd.{Cmd}
 use Rattle.mk_world.specs.declared.history.Happening.{Happening}
-use Rattle.mk_world.specs.declared.history.Happening.TheVariants.{Gone, Ask}
+use Rattle.mk_world.specs.declared.history.Happening.TheVariants.{Edit, Look, Stamp, Put, Gone, Ask, Start, Step, End, Left}
 use Rattle.mk_world.specs.declared.history.History.{History}
 use Rattle.mk_world.specs.declared.history.Timed.{Timed}
 use Rattle.mk_world.proofs.CallLemmas.{after_all-append}
@@ -72,7 +72,7 @@ pub contents-asked : (meaning : Meaning) (state : State) (cmd : Cmd) (steps : Li
     → MayNow meaning state (Ask cmd steps)
     → contents (after state (Ask cmd steps)).files ≡ after_doing meaning cmd (contents state.files)
 contents-asked meaning state cmd steps may =
-    contents-steps state.files steps ∙ ap (after_deeds (contents state.files)) may.0
+    contents-steps state.files steps ∙ ap (after_deeds (contents state.files)) may
 
 -- the bytes after a removal
 pub contents-gone : (state : State) (path : List ℕ) (time : ℕ)
@@ -106,25 +106,34 @@ files_of-gone old new path time base longer =
     ap (λ (s : State). contents s.files) (state_of-event old new (Gone path time) base longer)
     ∙ contents-gone (state_of old) path time
 
--- one rise behind another
-NotEarlier-append : (time : ℕ) (first second : List Effect) → NotEarlier time first
-    → IsRising (last_time time first) second → NotEarlier time (first ++ second)
-NotEarlier-append time [] [] rising then_rising = tt
-NotEarlier-append time [] (effect ∷ second) rising then_rising = (omega (arith, then_rising.0), then_rising.1)
+-- changes that are not earlier, behind others
+pub NotEarlier-append : (time : ℕ) (first second : List Effect) → NotEarlier time first
+    → NotEarlier (last_time time first) second → NotEarlier time (first ++ second)
+NotEarlier-append time [] second rising then_rising = then_rising
 NotEarlier-append time (effect ∷ first) second rising then_rising =
     (rising.0, NotEarlier-append effect.time first second rising.1 then_rising)
 
-IsRising-append : (time : ℕ) (first second : List Effect) → IsRising time first
-    → IsRising (last_time time first) second → IsRising time (first ++ second)
-IsRising-append time [] second rising then_rising = then_rising
-IsRising-append time (effect ∷ first) second rising then_rising =
-    (rising.0, NotEarlier-append effect.time first second rising.1 then_rising)
+-- the clock never goes back
+pub not-back : (clock : ℕ) (all : List Effect) → NotEarlier clock all → clock ≤ last_time clock all
+not-back clock [] later = omega arith
+not-back clock (effect ∷ more) later =
+    let rest = not-back effect.time more later.1 in omega (arith, rest, later.0)
 
--- steps that rise one after the other, as one event
-pub IsRising-steps : (time : ℕ) (steps : List Timed) → AreRising time steps
-    → IsRising time (timed_effects steps)
-IsRising-steps time [] rising = tt
-IsRising-steps time (step ∷ steps) rising =
-    let first = at_time step.time (changes step.deed) in
-    IsRising-append time first (timed_effects steps) rising.0
-    (IsRising-steps (last_time time first) steps rising.1)
+-- the last stamp is no later than the last change
+pub stamped-within : (clock stamped : ℕ) (event : Happening) → NotEarlier clock (effects event)
+    → stamped ≤ clock → stamped_after stamped event ≤ last_time clock (effects event)
+stamped-within clock stamped (Stamp path bytes time) rises within = omega arith
+stamped-within clock stamped (Edit path bytes time) rises within =
+    let back = not-back clock (effects (Edit path bytes time)) rises in omega (arith, within, back)
+stamped-within clock stamped (Look path) rises within = within
+stamped-within clock stamped (Put path bytes time) rises within =
+    let back = not-back clock (effects (Put path bytes time)) rises in omega (arith, within, back)
+stamped-within clock stamped (Gone path time) rises within =
+    let back = not-back clock (effects (Gone path time)) rises in omega (arith, within, back)
+stamped-within clock stamped (Ask cmd steps) rises within =
+    let back = not-back clock (effects (Ask cmd steps)) rises in omega (arith, within, back)
+stamped-within clock stamped (Start ticket owner cmd) rises within = within
+stamped-within clock stamped (Step ticket owner deed time) rises within =
+    let back = not-back clock (effects (Step ticket owner deed time)) rises in omega (arith, within, back)
+stamped-within clock stamped (End ticket owner) rises within = within
+stamped-within clock stamped (Left ticket owner) rises within = within

@@ -2,7 +2,7 @@
 use Rattle.std.proofs.Common.{List, ◌++◌, subst, sym}
 use Rattle.mk_world.specs.Calls.{AddsEvents}
 use Rattle.mk_world.specs.History.{State, MayAll, first_state}
-use Rattle.mk_world.specs.Lawful.{AreLaterThan, IsLawful, RunsStayLawful}
+use Rattle.mk_world.specs.Lawful.{IsLawful, RunsStayLawful}
 use Rattle.mk_world.specs.Talks.{Meaning}
 use Rattle.mk_world.specs.declared.history.Happening.{Happening}
 use Rattle.mk_world.specs.declared.history.History.{History}
@@ -10,7 +10,6 @@ use Rattle.mk_world.proofs.CallLemmas.{MayAll-append}
 
 pub runs_stay_lawful : (meaning : Meaning) → RunsStayLawful meaning
 runs_stay_lawful meaning old new run lawful = record {
-  base = subst (λ base. AreLaterThan 0 base) (sym run.base) lawful.base;
   events = subst (λ base. MayAll meaning (first_state base) new.events) (sym run.base)
       (subst (λ events. MayAll meaning (first_state old.base) events) (sym run.longer)
       (MayAll-append meaning (first_state old.base) old.events run.events lawful.events run.lawful));

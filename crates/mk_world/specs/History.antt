@@ -70,10 +70,12 @@ abbrev pub last_time : ℕ → List Effect → ℕ
 last_time time [] = time
 last_time time (effect ∷ more) = last_time effect.time more
 
--- how things stand: the files, the time of the last change, and the children that run
+-- how things stand: the files, the time of the last change, that of the last stamp, and the children
+-- that run
 pub record State : Type 0 where
   pub files : FileMap
   pub clock : ℕ
+  pub stamped : ℕ
   pub children : List Child
 
 abbrev pub child_in : List Child → ℕ → Option Child
@@ -106,10 +108,24 @@ children_after children (Put path bytes time) = children
 children_after children (Gone path time) = children
 children_after children (Ask cmd steps) = children
 
+-- the time of the last stamp behind an event
+abbrev pub stamped_after : ℕ → Happening → ℕ
+stamped_after stamped (Stamp path bytes time) = time
+stamped_after stamped (Edit path bytes time) = stamped
+stamped_after stamped (Look path) = stamped
+stamped_after stamped (Put path bytes time) = stamped
+stamped_after stamped (Gone path time) = stamped
+stamped_after stamped (Ask cmd steps) = stamped
+stamped_after stamped (Start ticket owner cmd) = stamped
+stamped_after stamped (Step ticket owner deed time) = stamped
+stamped_after stamped (End ticket owner) = stamped
+stamped_after stamped (Left ticket owner) = stamped
+
 abbrev pub after : State → Happening → State
 after state event = record {
   files = effected_all state.files (effects event);
   clock = last_time state.clock (effects event);
+  stamped = stamped_after state.stamped event;
   children = children_after state.children event;
 }
 
@@ -124,6 +140,7 @@ abbrev pub first_state : List File → State
 first_state base = record {
   files = effected_all (λ path. None) (map of_file base);
   clock = last_time 0 (map of_file base);
+  stamped = 0;
   children = [];
 }
 
@@ -138,21 +155,10 @@ tickets_of children = map (λ child. child.ticket) children
 abbrev pub files_of : History → Store
 files_of history = contents (state_of history).files
 
--- the first change is later than a time, and the others are no earlier
+-- no change is earlier than a time, or than one before it
 abbrev pub NotEarlier : ℕ → List Effect → Type 0
 NotEarlier time [] = Unit {0}
 NotEarlier time (effect ∷ more) = (time ≤ effect.time) × NotEarlier effect.time more
-
-abbrev pub IsRising : ℕ → List Effect → Type 0
-IsRising time [] = Unit {0}
-IsRising time (effect ∷ more) = (time < effect.time) × NotEarlier effect.time more
-
--- the changes of each step have a time later than all before them
-abbrev pub AreRising : ℕ → List Timed → Type 0
-AreRising time [] = Unit {0}
-AreRising time (step ∷ steps) =
-    IsRising time (at_time step.time (changes step.deed))
-    × AreRising (last_time time (at_time step.time (changes step.deed))) steps
 
 -- a step is that of a running child of this owner: it is what the child asks for next, by what
 -- stands there, and it tells what stands there
@@ -178,13 +184,13 @@ abbrev pub MayLeave : ℕ → Option Child → Type 0
 MayLeave owner None = ⊥
 MayLeave owner (Some child) = child.owner ≡ owner
 
--- what may happen, beside the times: no edit falls while a child runs, a started ticket is free,
--- and the steps of an asked command are its doing on the files at that moment, one after the other
+-- what may happen, beside the times of changes: no edit falls while a child runs, a started ticket is
+-- free, the steps of an asked command are its doing on the files at that moment, one after the other,
+-- and a stamp is later than each stamp before it
 abbrev pub MayNow : Meaning → State → Happening → Type 0
 MayNow meaning state (Edit path bytes time) = state.children ≡ []
 MayNow meaning state (Ask cmd steps) =
-    (map (λ step. step.deed) steps ≡ (does meaning cmd (contents state.files)).deeds)
-    × AreRising state.clock steps
+    map (λ step. step.deed) steps ≡ (does meaning cmd (contents state.files)).deeds
 MayNow meaning state (Start ticket owner cmd) = child_in state.children ticket ≡ None
 MayNow meaning state (Step ticket owner deed time) =
     MayStep meaning.next (contents state.files) owner deed (child_in state.children ticket)
@@ -192,13 +198,14 @@ MayNow meaning state (End ticket owner) =
     MayEnd meaning.next owner (child_in state.children ticket)
 MayNow meaning state (Left ticket owner) = MayLeave owner (child_in state.children ticket)
 MayNow meaning state (Look path) = Unit {0}
-MayNow meaning state (Stamp path bytes time) = Unit {0}
+MayNow meaning state (Stamp path bytes time) = state.stamped < time
 MayNow meaning state (Put path bytes time) = Unit {0}
 MayNow meaning state (Gone path time) = Unit {0}
 
--- An event may happen: it may now, and its changes have times later than all before.
+-- An event may happen: it may now, and none of its changes is earlier than one before it. Changes of
+-- one time are allowed, since the clocks of file systems go in steps.
 abbrev pub May : Meaning → State → Happening → Type 0
-May meaning state event = IsRising state.clock (effects event) × MayNow meaning state event
+May meaning state event = NotEarlier state.clock (effects event) × MayNow meaning state event
 
 abbrev pub MayAll : Meaning → State → List Happening → Type 0
 MayAll meaning state [] = Unit {0}

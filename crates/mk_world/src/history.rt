@@ -11,7 +11,7 @@ pub struct File {
     pub time: u64,
 }
 
-/// Files, in the order of their times.
+/// Files, each with its time.
 pub type Bases = Items<File>;
 
 /// A step and its time.
@@ -24,7 +24,8 @@ pub struct Timed {
 /// Steps with their times, in order.
 pub type Timeds = Items<Timed>;
 
-/// One thing that happened. Each change has a time that is later than all before it.
+/// One thing that happened. No change has an earlier time than one before it, and each stamp has a later
+/// time than the stamps before it.
 #[derive(Drop)]
 pub enum Happening {
     /// Somebody else changed a file, to these bytes or to missing.

@@ -16,7 +16,7 @@ invariant_of-self-in-None c =
     IsPresent-more c.self.inside _ event c.self.invariant refl items
     (c.remove.ensures.files time ∙ ap (λ p. effected files
     (record { path = p; bytes = None; time = time })) (sym c.in_ok-copy.ensures))
-    refl refl (search rules)
+    refl refl (omega arith, tt) (search rules)
 
 pub invariant_of-self-in-Some : goal.invariant_of-self-in-Some
 invariant_of-self-in-Some c =
@@ -33,4 +33,4 @@ invariant_of-self-in-Some c =
     ∙ ap (λ b. effected files
     (record { path = c.in_ok-copy.copy; bytes = Some b; time = time }))
     (sym c.in_ok-text-in-Some.ensures))
-    refl refl (search rules)
+    refl refl (omega arith, tt) (search rules)

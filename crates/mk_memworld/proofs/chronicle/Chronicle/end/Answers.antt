@@ -47,7 +47,8 @@ invariant_of-self-2 c =
     (c.take_child.ensures.others
     ∙ ap (λ one. without_child one t.children.items) (sym named)
     ∙ ap (without_child child.ticket) c.self.invariant.children ∙ after.children)
-    (search rules)
+    (let within = c.self.invariant.stamped in
+    let same = after.stamped in omega (arith, within, same)) (search rules)
 
 pub returns-clause-ok : goal.returns-clause-ok
 returns-clause-ok c =

@@ -21,4 +21,4 @@ invariant_of-self c =
     IsPresent-more c.self.inside _ event c.self.invariant refl items refl refl
     (c.remove-child.ensures.items
     ∙ without_child-read c.self.inside.children.items child some c.remove-child.ensures.value)
-    (search rules)
+    tt (search rules)

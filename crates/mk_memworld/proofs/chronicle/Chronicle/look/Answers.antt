@@ -9,4 +9,4 @@ invariant_of-self-2 c =
     let event = Look c.in_ok-path.path in
     let items : c.push.new.self.items ≡ c.self.inside.events.items ++ event ∷ [] =
     grind (arith, common_steps) in
-    IsPresent-more c.self.inside _ event c.self.invariant refl items refl refl refl (search rules)
+    IsPresent-more c.self.inside _ event c.self.invariant refl items refl refl refl tt (search rules)

@@ -16,4 +16,4 @@ invariant_of-self-2 c =
     IsPresent-more c.self.inside _ event c.self.invariant refl items
     (c.remove.ensures.files time ∙ ap (λ p. effected files
     (record { path = p; bytes = None; time = time })) (sym c.in_ok-copy.ensures))
-    refl refl (search rules)
+    refl refl (omega arith, tt) (search rules)

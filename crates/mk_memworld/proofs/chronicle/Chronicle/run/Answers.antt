@@ -1,10 +1,10 @@
-use Rattle.std.proofs.Common.{rules, ◌≡◌, ◌+◌, [], ◌∷◌, ◌++◌, refl, sym, ap, ◌∙◌, arith}
+use Rattle.std.proofs.Common.{rules, ◌≡◌, ◌+◌, [], ◌∷◌, ◌++◌, refl, sym, ap, ◌∙◌, subst, arith}
 use Rattle.std.proofs.lemmas.Grind.{common_steps}
-use Rattle.mk_world.specs.History.{effected_all, last_time, timed_effects}
+use Rattle.mk_world.specs.History.{NotEarlier, effected_all, last_time, timed_effects}
 use Rattle.mk_world.specs.declared.history.Happening.TheVariants.{Ask}
 use Rattle.mk_commands.specs.Clock.{numbers, timed}
 use Rattle.mk_commands.specs.Files.{files_in}
-use Rattle.mk_commands.proofs.TimeLemmas.{last_time-timed}
+use Rattle.mk_commands.proofs.TimeLemmas.{NotEarlier-timed, last_time-timed}
 use Rattle.mk_memworld.proofs.ChronicleLemmas.{IsPresent-more}
 use Rattle.mk_memworld.proofs.chronicle.Chronicle.run.Goals as goal
 
@@ -25,4 +25,5 @@ invariant_of-self-2 c =
     IsPresent-more t _ event c.self.invariant refl items
     (c.in_ok-apply_all.ensures.ok
     ∙ ap (λ s. effected_all (files_in t.files) (timed_effects s)) c.as_slice-2.ensures.value)
-    clock refl (search rules)
+    clock refl
+    (subst (λ s. NotEarlier t.clock (timed_effects s)) (sym are) (NotEarlier-timed t.clock deeds)) (search rules)

@@ -16,4 +16,4 @@ invariant_of-self-2 c =
     (more ∙ ap (λ (one : Child). c.self.inside.children.items ++ one ∷ []) (c.in_ok-child.ensures
     ∙ ap (λ cmd. record { ticket = c.args.ticket; owner = c.args.owner; cmd = cmd; deeds = [] })
     (sym c.in_ok-cmd.ensures)))
-    (search rules)
+    tt (search rules)

@@ -1,7 +1,7 @@
 use Rattle.std.proofs.Common.{rules, ◌≡◌, ◌+◌, [], ◌∷◌, ◌++◌, refl, sym, ap, ◌∙◌, arith}
 use Rattle.std.proofs.lemmas.Grind.{common_steps}
 use Rattle.mk_world.specs.declared.history.Happening.TheVariants.{Step}
-use Rattle.mk_commands.proofs.StepLemmas.{last_time-taken}
+use Rattle.mk_commands.proofs.StepLemmas.{NotEarlier-taken, last_time-taken}
 use Rattle.mk_memworld.proofs.ChronicleLemmas.{IsPresent-more}
 use Rattle.mk_memworld.proofs.chronicle.Chronicle.step.Goals as goal
 
@@ -20,4 +20,5 @@ invariant_of-self-in-Ok c =
     copied ∙ ap (λ d. t.events.items ++ Step ticket owner d time ∷ []) c.in_ok-copy.ensures in
     IsPresent-more t _ event c.self.invariant refl items c.in-Ok.ensures.files
     (sym (last_time-taken t.clock c.numbers_taken.result deed c.numbers_taken.ensures))
-    c.in-Ok.ensures.children (search rules)
+    c.in-Ok.ensures.children (NotEarlier-taken t.clock c.numbers_taken.result deed c.numbers_taken.ensures)
+    (search rules)
