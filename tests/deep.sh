@@ -164,11 +164,6 @@ row shows='a chain of 1,024 modifiers of 4 MiB in less than 64 MiB' memory=65536
     words='-v "\${C12$(times 512 ":tu:tl")}" | wc -c' out=$'4194305\n' \
     makefile='echo "C0=$(times 1024 x)"; lines 12 "C+=\${C%}\${C%}"'
 
-row shows='200 open references with chains of 4 MiB in less than 1,536 MiB' memory=1572864 \
-    words='-V "\${R:[#]}"' out="$one" \
-    makefile='echo "C0=$(times 1024 x)"; lines 12 "C+=\${C%}\${C%}"
-        echo "R=$(around 200 "\${C12:tu:S/q/" x "/}")"'
-
 row shows='200,000 suffixes in a line' words='-v A' out="$one" \
     makefile='echo ".SUFFIXES: \${:U:range=200000:S/^/./}"; echo A=1'
 
