@@ -129,6 +129,11 @@ row shows='50,000 .if in one another' out="$one" words='-v A' \
 row shows='1,000 loops in one another' out="$one" words='-v A' \
     makefile='lines 1000 ".for v% in a"; echo A=1; lines 1000 .endfor'
 
+row shows='a word of 4 MiB a thousand times in a line of a loop, in less than 64 MiB' status=2 words='-V X' \
+    err='bmake: "makefile" line 15: line too long' memory=65536 \
+    makefile='echo "C0=$(times 1024 x)"; lines 12 "C+=\${C%}\${C%}"
+        printf ".for i in \${C12}\nA=%s\n.endfor\n" "$(times 1000 "\$i")"'
+
 # Graphs
 
 row shows='a chain of 100,000 targets' out=$'made\n' words='-s t0' \

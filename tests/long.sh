@@ -71,6 +71,17 @@ refused 'a zero byte behind it' 1 'line too long' < <(letters $((limit + 1)); pr
 fine 'a line at the limit between others' < <(printf '#\n#'; letters $((limit - 1)); printf '\n#\n')
 fine 'two backslashes end a line' < <(printf '#\\\\\n#'; letters $((limit - 1)))
 
+# The one line of a loop's body, which has seven bytes beside the loop's word.
+turned() {
+    printf 'B='
+    letters "$1"
+    printf '\n.for i in ${B}\nA=$i\n.endfor\n'
+}
+row 'a turned line at the limit' $'1\n' '' 0 -V '${A:[#]}' < <(turned $((limit - 7)))
+refused 'a turned line of one byte more' 3 'line too long' < <(turned $((limit - 6)))
+refused 'a backslash counts that quotes a byte' 3 'line too long' < <(
+    printf 'B='; times $((limit / 2 - 2)) '$$'; printf '\n.for i in ${B}\nA=$i\n.endfor\n')
+
 row 'a value of more than 4194304 bytes' '' $'bmake: value too long\n' 2 \
     -V '${a:L:range=1000000}' <<<''
 row 'a value with one byte between its words' $'600000\n' '' 0 \

@@ -1,6 +1,8 @@
 -- The faults of files, with their places.
 use Rattle.std.specs.Prelude.{ℕ, List, [], Result, Ok, Err}
 use Rattle.std.specs.Result.{result_and}
+use Rattle.mk_for.specs.declared.substitution.TurnFault.{TurnFault}
+use Rattle.mk_for.specs.declared.substitution.TurnFault.TheVariants as in_turn
 use Rattle.mk_lines.specs.Faults.{checked}
 use Rattle.mk_lines.specs.Lines.{lines_from}
 use Rattle.mk_lines.specs.declared.fault.LineFault.{LineFault}
@@ -23,6 +25,13 @@ in_place name number outcome = record {
   acts = outcome.acts;
   answer = located name number outcome.answer;
 }
+
+-- a text that a loop has turned, or the fault of its line; memory does not run out here
+abbrev pub turn_located : {W F : Type 0} → List ℕ → ℕ → Result (List ℕ) TurnFault
+    → Result (List ℕ) (FileFault W F)
+turn_located name number (Ok text) = Ok text
+turn_located name number (Err in_turn.TooLong) = Err (Bad name number wrong.TooLong)
+turn_located name number (Err in_turn.NoMemory) = Err NoMemory
 
 -- the fault of a file's lines; memory does not run out here
 abbrev pub line_fault : {W F : Type 0} → List ℕ → LineFault → FileFault W F

@@ -1,19 +1,25 @@
 -- The meaning of makefiles over a language of single lines.
 use Rattle.std.specs.Prelude.{ℕ, zero, suc, Bool, true, false, List, [], ◌∷◌, ◌++◌, Option, Some}
-use Rattle.std.specs.Prelude.{None}
+use Rattle.std.specs.Prelude.{None, Result}
 use Rattle.mk_lines.specs.Lines.{lines_from}
 use Rattle.mk_lines.specs.declared.line.LogLine.{LogLine}
 use Rattle.mk_turns.specs.Turns.{Turn, in_turns}
 use Rattle.mk_blocks.specs.Blocks.{Block, Branches, parse}
 use Rattle.mk_blocks.specs.Blocks as tree
-use Rattle.mk_blocks.specs.FileFaults.{file_checked, in_place}
+use Rattle.mk_blocks.specs.FileFaults.{file_checked, in_place, turn_located}
 use Rattle.mk_blocks.specs.Languages.{LineMeaning, Question}
 use Rattle.mk_blocks.specs.Outcomes.{done, refused, silent, ◌>>=◌}
 use Rattle.mk_blocks.specs.Runs.{After, Files, Reads, Run, all_turns, counted, counted_if, goes_on}
 use Rattle.mk_blocks.specs.Runs.{max_files, next, run_at, stops}
+use Rattle.mk_blocks.specs.declared.fault.FileFault.{FileFault}
 use Rattle.mk_blocks.specs.declared.fault.FileFault.TheVariants.{TooManyFiles}
 use Rattle.mk_blocks.specs.declared.kind.LineKind.{LineKind}
 use Rattle.mk_blocks.specs.declared.language.IncludedFile.{IncludedFile}
+
+-- the text of a line inside these turns, in a file of this name
+abbrev pub in_turns_of : {W F : Type 0} → List ℕ → List Turn → LogLine
+    → Result (List ℕ) (FileFault W F)
+in_turns_of name turns l = turn_located name l.first (in_turns turns l.text)
 
 abbrev pub with_state : {A S : Type 0} → Run S → A × S → A × Run S
 with_state r given = (given.0, run_at given.1 r.count)
@@ -28,11 +34,13 @@ module _ {S W F : Type 0} where
   opened_if files (None, r) = done r
   opened_if files (Some file, r) = opened files file r
 
-  -- What the language answers of a line inside these turns, in a file of this name.
+  -- What the language answers of a line inside these turns, in a file of this name. Where a loop
+  -- makes the line too long, that is its fault, and the language is not asked.
   abbrev pub asked : {A : Type 0} → Question A S W → List ℕ → List Turn → LogLine → Run S
       → Reads W F (A × Run S)
   asked question name turns l r =
-      in_place name l.first (question name l.first (in_turns turns l.text) r.state)
+      silent (in_turns_of name turns l)
+      >>= (λ text. in_place name l.first (question name l.first text r.state))
       >>= λ given. done (with_state r given)
 
   -- the one or the other

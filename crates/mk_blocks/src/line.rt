@@ -1,15 +1,20 @@
 //! Questions about single lines.
-ghost use Rattle.std.specs.Prelude.{◌≡◌, ℕ, ◌≤◌, OnOk, OnErr};
+ghost use Rattle.std.specs.Prelude.{◌≡◌, ◌⊎◌, ℕ, ◌≤◌, OnOk, OnErr, Err};
+ghost use Rattle.mk_bytes.specs.Agrees.{Agrees};
 ghost use Rattle.mk_turns.specs.OpenLoops.{turns_in};
+ghost use Rattle.mk_turns.specs.Texts.{text_or};
 ghost use Rattle.mk_turns.specs.Turns.{loop_turns};
-ghost use Rattle.mk_blocks.specs.Meaning.{asked};
+ghost use Rattle.mk_blocks.specs.FileFaults.{turn_located};
+ghost use Rattle.mk_blocks.specs.Meaning.{asked, in_turns_of};
 ghost use Rattle.mk_blocks.specs.Runs.{IsCounted, max_lines, run_at};
 ghost use Rattle.mk_blocks.specs.Outcomes.{done};
 ghost use Rattle.mk_blocks.specs.Ties.{Does, Placed, sorted};
+ghost use Rattle.mk_blocks.specs.declared.fault.FileFault.TheVariants.{NoMemory as no_memory};
 
 use crate::fault::{FileFault, LanguageFault, OverLimit, Wrong};
 use crate::language::{IncludedFile, Language};
 use mk_bytes::Text;
+use mk_for::TurnFault;
 use mk_lines::LineRef;
 use mk_turns::{Loop, OpenLoop, Stack, changed_text, text_or};
 use std::alloc::Global;
@@ -57,6 +62,35 @@ fn placed<W: Drop, F>(
     }
 }
 
+// The fault of a line in a turn, with its place.
+fn turn_fault<W, F>(file: &OpenFile<'_>, number: u32, fault: TurnFault) -> FileFault<W, F>
+    ensures { (result ≡ no_memory)
+        ⊎ (turn_located {W = W} {F = F} file.now.name.now number (Err fault) ≡ Err result) }
+{
+    match fault {
+        TurnFault::TooLong => match Text::from_bytes(file.alloc, file.name) {
+            Ok(name) => FileFault::Bad(name, number, Wrong::TooLong),
+            Err(_) => FileFault::NoMemory,
+        },
+        TurnFault::NoMemory => FileFault::NoMemory,
+    }
+}
+
+// What a line becomes in the turns that are being read, or `None` where it stays as it is.
+fn in_turns<W, F>(
+    file: &OpenFile<'_>,
+    loops: &Stack<OpenLoop<'_>>,
+    line: &LineRef<'_>,
+) -> Result<Option<Text>, FileFault<W, F>>
+    ensures { Agrees no_memory (λ changed. text_or changed line.now.text) result
+        (in_turns_of file.now.name.now (turns_in loops.now) line.now) }
+{
+    match changed_text(file.alloc, loops, line.bytes()) {
+        Ok(changed) => Ok(changed),
+        Err(fault) => Err(turn_fault(file, line.first(), fault)),
+    }
+}
+
 /// Processes a plain line.
 pub fn step<L: Language>(
     file: &OpenFile<'_>,
@@ -69,9 +103,8 @@ pub fn step<L: Language>(
         (λ answers. asked (L.ties.meaning answers).step file.now.name.now (turns_in loops.now)
         line.now (run_at (L.ties.state language.old) count)) }
 {
-    let whole = line.bytes();
-    let changed = changed_text(file.alloc, loops, whole)?;
-    let text = text_or(&changed, whole);
+    let changed = in_turns::<L::What, L::Failure>(file, loops, line)?;
+    let text = text_or(&changed, line.bytes());
     match language.step(file.alloc, file.name, line.first(), text) {
         Ok(given) => Ok(given),
         Err(fault) => Err(placed(file, line.first(), fault)),
@@ -90,9 +123,8 @@ pub fn condition<L: Language>(
         (λ answers. asked (L.ties.meaning answers).condition file.now.name.now (turns_in loops.now)
         line.now (run_at (L.ties.state language.old) count)) }
 {
-    let whole = line.bytes();
-    let changed = changed_text(file.alloc, loops, whole)?;
-    let text = text_or(&changed, whole);
+    let changed = in_turns::<L::What, L::Failure>(file, loops, line)?;
+    let text = text_or(&changed, line.bytes());
     match language.condition(file.alloc, file.name, line.first(), text) {
         Ok(given) => Ok(given),
         Err(fault) => Err(placed(file, line.first(), fault)),
@@ -114,9 +146,8 @@ pub fn turns<L: Language>(
         (λ answers. asked (L.ties.meaning answers).turns file.now.name.now (turns_in loops.now)
         line.now (run_at (L.ties.state language.old) count)) }
 {
-    let whole = line.bytes();
-    let changed = changed_text(file.alloc, loops, whole)?;
-    let text = text_or(&changed, whole);
+    let changed = in_turns::<L::What, L::Failure>(file, loops, line)?;
+    let text = text_or(&changed, line.bytes());
     match language.turns(file.alloc, file.name, line.first(), text) {
         Ok(given) => Ok(given),
         Err(fault) => Err(placed(file, line.first(), fault)),
@@ -135,9 +166,8 @@ pub fn included<L: Language>(
         (λ answers. asked (L.ties.meaning answers).included file.now.name.now (turns_in loops.now)
         line.now (run_at (L.ties.state language.old) count)) }
 {
-    let whole = line.bytes();
-    let changed = changed_text(file.alloc, loops, whole)?;
-    let text = text_or(&changed, whole);
+    let changed = in_turns::<L::What, L::Failure>(file, loops, line)?;
+    let text = text_or(&changed, line.bytes());
     match language.included(file.alloc, file.name, line.first(), text) {
         Ok(given) => Ok(given),
         Err(fault) => Err(placed(file, line.first(), fault)),

@@ -1,3 +1,4 @@
+pub mod LimitLemmas
 mod Rows
 mod SubstitutionLemmas
 mod TurnLemmas

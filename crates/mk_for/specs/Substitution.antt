@@ -1,13 +1,16 @@
 -- How the references to a loop's names are replaced in a line (make(1), the directive `.for`).
 use Rattle.std.specs.Prelude.{ℕ, zero, suc, ◌+◌, ◌==◌, ◌||◌, ◌&&◌, Bool, false, nat_eq, List, []}
 use Rattle.std.specs.Prelude.{◌∷◌, ◌++◌, length, drop, position, flat_map, slice_index_or, codes}
-use Rattle.std.specs.Prelude.{Option, Some, None, if◌then◌else◌}
+use Rattle.std.specs.Prelude.{Option, Some, None, if◌then◌else◌, ◌≡◌, ◌⊎◌, ◌<◌, nat_lt, Result, Ok}
+use Rattle.std.specs.Prelude.{Err}
 use Rattle.std.specs.Option.{option_map, option_or}
 use Rattle.std.specs.List.{starts_with}
 use Rattle.mk_bytes.specs.Bytes.{dollar, round_open, round_close, colon, backslash, curly_open}
 use Rattle.mk_bytes.specs.Bytes.{curly_close}
 use Rattle.mk_for.specs.declared.form.Form.{Form}
 use Rattle.mk_for.specs.declared.form.Form.TheVariants.{Curly, Round, Short}
+use Rattle.mk_for.specs.declared.substitution.TurnFault.{TurnFault}
+use Rattle.mk_for.specs.declared.substitution.TurnFault.TheVariants.{TooLong, NoMemory}
 
 -- The byte that closes what is written in place of a reference.
 abbrev pub closer : Form → ℕ
@@ -110,3 +113,12 @@ replaced_behind names words zero (byte ∷ text) =
 -- A text in which each reference to one of these names stands for the word at the name's place.
 abbrev pub replaced : List (List ℕ) → List (List ℕ) → List ℕ → List ℕ
 replaced names words text = replaced_behind names words 0 text
+
+-- A text that may have so many bytes at most.
+abbrev pub within : ℕ → List ℕ → Result (List ℕ) TurnFault
+within limit text = if nat_lt limit (length text) then Err TooLong else Ok text
+
+-- why a text is not written: it is too long for this limit, or memory ran out
+abbrev pub Refuses : TurnFault → ℕ → List ℕ → Type 0
+Refuses fault limit text =
+    (fault ≡ NoMemory) ⊎ ((fault ≡ TooLong) × (limit < length text))

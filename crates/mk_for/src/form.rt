@@ -1,5 +1,6 @@
 //! The forms of a reference to a loop's name.
-ghost use Rattle.std.specs.Prelude.{◌≡◌, ◌^◌, ◌<◌, ◌++◌, length, OnOk};
+ghost use Rattle.std.specs.Prelude.{◌≡◌, ◌^◌, ◌<◌, ◌≤◌, ◌++◌, length, OnOk};
+ghost use Rattle.std.specs.List.{count_by};
 ghost use Rattle.mk_for.specs.Substitution as spec;
 
 use mk_bytes::{NoMemory, Text};
@@ -85,6 +86,22 @@ fn push_quoted(out: &mut Text, form: Form, byte: u8) -> Result<(), NoMemory>
         return out.push(&[b'\\', byte]);
     }
     out.push(&[byte])
+}
+
+// How many bytes of a word are quoted.
+fn special_count(form: Form, word: &[u8]) -> usize
+    ensures count { result ≡ count_by (spec.is_special form) word.now }
+    ensures within { result ≤ length word.now }
+{
+    word.iter().filter(|byte| is_special(form, **byte)).count()
+}
+
+/// How many bytes a reference in this form becomes, without its own end where it has one.
+pub fn written_len(form: Form, word: &[u8]) -> usize
+    requires { length word.now < 2 ^ 32 }
+    ensures { result ≡ length (spec.written form word.now) }
+{
+    opening(form).len() + word.len() + special_count(form, word) + closing(form).len()
 }
 
 /// Writes what a reference in this form becomes, up to its own end where it has one.

@@ -8,5 +8,5 @@ mod form;
 mod substitution;
 mod unrolling;
 
-pub use substitution::substitute;
+pub use substitution::{TurnFault, substitute, substitute_within};
 pub use unrolling::{Bodies, ForFault, turn, unroll};

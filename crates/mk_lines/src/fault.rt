@@ -8,7 +8,8 @@ use crate::physical::{PhysicalLines, is_continued};
 use memchr::{memchr, memrchr};
 use mk_bytes::{NoMemory, without_blanks_before};
 
-const MAX_LEN: usize = 1_048_576;
+/// The most bytes that a logical line may have.
+pub const MAX_LEN: usize = 1_048_576;
 
 /// Why a text has no logical lines.
 #[derive(Clone, Copy, PartialEq, Eq)]

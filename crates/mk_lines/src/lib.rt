@@ -13,5 +13,5 @@ mod line;
 mod physical;
 
 pub use comment::cut_comment;
-pub use fault::{LineFault, check};
+pub use fault::{LineFault, MAX_LEN, check};
 pub use line::{LineCursor, LineRef, LogLine, LogLines, logical_lines};

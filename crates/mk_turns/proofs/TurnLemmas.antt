@@ -1,11 +1,13 @@
 -- Texts in the turns of loops.
 use Rattle.std.proofs.Common.{◌≡◌, ℕ, suc, ◌+◌, ◌-◌, ◌<◌, ◌≤◌, Bool, true, false, List, [], ◌∷◌}
-use Rattle.std.proofs.Common.{◌++◌, map, reverse, refl, sym, ap, ◌∙◌, arith, add-one, ◌||◌}
+use Rattle.std.proofs.Common.{◌++◌, map, reverse, refl, sym, ap, ◌∙◌, arith, add-one, ◌||◌, Ok}
+use Rattle.std.proofs.Common.{length, nat_lt}
 use Rattle.std.proofs.lemmas.Bool.Decides.{nat_tests}
 use Rattle.std.specs.List.{list_any}
 use Rattle.std.proofs.lemmas.Grind.{reverse_onto}
 use Rattle.std.proofs.lemmas.List.{map-append}
-use Rattle.mk_for.specs.Substitution.{is_dollar, replaced, replaced_behind}
+use Rattle.mk_lines.specs.Faults.{max_len}
+use Rattle.mk_for.specs.Substitution.{is_dollar, replaced, replaced_behind, within}
 use Rattle.mk_turns.specs.OpenLoops.{has_next, IsNext, turn_of, turns_behind, turns_in}
 use Rattle.mk_turns.specs.Turns.{Turn, in_turns, loop_turns, turn_at, turn_count, turns_from}
 use Rattle.mk_turns.specs.declared.loops.OpenLoop.{OpenLoop}
@@ -23,11 +25,17 @@ replaced-plain names words (byte ∷ text) none =
     let both = neither (is_dollar byte) (list_any is_dollar text) none in
     rw (both.0, replaced-plain names words text both.1) refl
 
+-- a text within the limit
+pub within-short : (limit : ℕ) (text : List ℕ) → length text ≤ limit → within limit text ≡ Ok text
+within-short limit text short =
+    let fits : nat_lt limit (length text) ≡ false = grind (arith, nat_tests) in rw fits refl
+
 pub in_turns-plain : (turns : List Turn) (text : List ℕ)
-    → list_any is_dollar text ≡ false → in_turns turns text ≡ text
-in_turns-plain [] text none = refl
-in_turns-plain (turn ∷ turns) text none =
-    rw (replaced-plain turn.names turn.words text none) (in_turns-plain turns text none)
+    → list_any is_dollar text ≡ false → length text ≤ max_len → in_turns turns text ≡ Ok text
+in_turns-plain [] text none short = refl
+in_turns-plain (turn ∷ turns) text none short =
+    rw (replaced-plain turn.names turn.words text none, within-short max_len text short)
+    (in_turns-plain turns text none short)
 
 -- the turns that are read, in the order in which their loops were begun
 pub turns_in-reverse : (loops : List OpenLoop) → turns_in loops ≡ map turn_of (reverse loops)

@@ -1,6 +1,9 @@
 -- The turns of loops, and lines in them.
-use Rattle.std.specs.Prelude.{ℕ, zero, suc, ◌/◌, List, [], ◌∷◌, length}
-use Rattle.mk_for.specs.Substitution.{replaced}
+use Rattle.std.specs.Prelude.{ℕ, zero, suc, ◌/◌, List, [], ◌∷◌, length, Result, Ok}
+use Rattle.mk_bytes.specs.Agrees.{◌>>=◌}
+use Rattle.mk_lines.specs.Faults.{max_len}
+use Rattle.mk_for.specs.Substitution.{replaced, within}
+use Rattle.mk_for.specs.declared.substitution.TurnFault.{TurnFault}
 use Rattle.mk_for.specs.Turns.{words_of}
 
 -- the names of a loop, with the words that they stand for in one turn
@@ -8,10 +11,11 @@ pub record Turn : Type 0 where
   pub names : List (List ℕ)
   pub words : List (List ℕ)
 
--- A text inside these turns, the outermost first.
-abbrev pub in_turns : List Turn → List ℕ → List ℕ
-in_turns [] text = text
-in_turns (turn ∷ turns) text = in_turns turns (replaced turn.names turn.words text)
+-- A text inside these turns, the outermost first. In each of them it keeps to what a line may have.
+abbrev pub in_turns : List Turn → List ℕ → Result (List ℕ) TurnFault
+in_turns [] text = Ok text
+in_turns (turn ∷ turns) text =
+    within max_len (replaced turn.names turn.words text) >>= in_turns turns
 
 -- the turn of a loop at this place, counted from 0
 abbrev pub turn_at : List (List ℕ) → List (List ℕ) → ℕ → Turn

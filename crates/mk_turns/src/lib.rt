@@ -2,7 +2,8 @@
 //! the directive `.for`).
 //!
 //! In each turn the names of a loop stand for as many of its words, in order. In a line inside
-//! several loops the names are replaced one loop after the other, the outermost first.
+//! several loops the names are replaced one loop after the other, the outermost first, and behind
+//! each the line has at most as many bytes as a logical line.
 #![tactic(auto)]
 
 mod loops;

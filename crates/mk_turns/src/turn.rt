@@ -1,6 +1,9 @@
 //! Lines in the turns of loops.
-ghost use Rattle.std.specs.Prelude.{◌≡◌, ◌<◌, length, true, IfOk};
-ghost use Rattle.mk_for.specs.Substitution.{replaced, is_dollar};
+ghost use Rattle.std.specs.Prelude.{◌≡◌, ◌<◌, ◌≤◌, length, true, false, IsTrue};
+ghost use Rattle.mk_bytes.specs.Agrees.{Agrees};
+ghost use Rattle.mk_for.specs.Substitution.{replaced, is_dollar, within};
+ghost use Rattle.mk_for.specs.declared.substitution.TurnFault.TheVariants.{NoMemory as no_memory};
+ghost use Rattle.mk_lines.specs.Faults.{max_len};
 ghost use Rattle.mk_for.specs.Turns.{words_of};
 ghost use Rattle.std.specs.List.{list_any};
 ghost use Rattle.mk_turns.specs.OpenLoops.{has_next, IsNext, turn_of, turns_in};
@@ -9,8 +12,9 @@ ghost use Rattle.mk_turns.specs.Texts.{text_or};
 
 use crate::loops::{Loop, OpenLoop};
 use crate::stack::Stack;
-use mk_bytes::{NoMemory, Text};
-use mk_for::substitute;
+use mk_bytes::Text;
+use mk_for::{TurnFault, substitute_within};
+use mk_lines::MAX_LEN;
 use std::alloc::Global;
 
 /// How many turns a loop has.
@@ -30,18 +34,21 @@ fn turn_words<'t>(header: &'t Loop, turn: usize) -> &'t [Text]
 }
 
 // A text in the turn of a loop that is being read.
-fn in_turn(alloc: Global, entered: &OpenLoop<'_>, text: &[u8]) -> Result<Text, NoMemory>
-    ensures { IfOk result (λ text_in_turn. text_in_turn
-        ≡ replaced (turn_of entered.now).names (turn_of entered.now).words text.now) }
+fn in_turn(alloc: Global, entered: &OpenLoop<'_>, text: &[u8]) -> Result<Text, TurnFault>
+    ensures { Agrees no_memory (λ text_in_turn. text_in_turn) result
+        (within max_len
+        (replaced (turn_of entered.now).names (turn_of entered.now).words text.now)) }
 {
     let words = turn_words(&entered.header, entered.turn);
-    substitute(alloc, entered.header.names.as_slice(), words, text)
+    substitute_within(alloc, entered.header.names.as_slice(), words, text, MAX_LEN)
 }
 
-fn has_dollar(text: &[u8]) -> bool
-    ensures { result ≡ list_any is_dollar text.now }
+// Whether a text is the same in each turn, and no longer than a line may be.
+fn stays(text: &[u8]) -> bool
+    ensures plain { IsTrue result → list_any is_dollar text.now ≡ false }
+    ensures short { IsTrue result → length text.now ≤ max_len }
 {
-    text.contains(&b'$')
+    text.len() <= MAX_LEN && !text.contains(&b'$')
 }
 
 /// The text that stands for another one, or that one where none does.
@@ -54,20 +61,21 @@ pub fn text_or<'t>(changed: &'t Option<Text>, text: &'t [u8]) -> &'t [u8]
     }
 }
 
-/// What a text becomes in the turns that are being read, or `None` where it stays as it is.
-/// `NoMemory` where memory ran out.
+/// What a text becomes in the turns that are being read, or `None` where it stays as it is;
+/// `TooLong` where a loop makes it longer than 1,048,576 bytes, which a line may have. `NoMemory`
+/// where memory ran out.
 pub fn changed_text(
     alloc: Global,
     loops: &Stack<OpenLoop<'_>>,
     text: &[u8],
-) -> Result<Option<Text>, NoMemory>
-    ensures { IfOk result (λ changed.
-        text_or changed text.now ≡ spec.in_turns (turns_in loops.now) text.now) }
+) -> Result<Option<Text>, TurnFault>
+    ensures { Agrees no_memory (λ changed. text_or changed text.now) result
+        (spec.in_turns (turns_in loops.now) text.now) }
 {
     if loops.as_slice().is_empty() {
         return Ok(None);
     }
-    if !has_dollar(text) {
+    if stays(text) {
         return Ok(None);
     }
     let mut changed = None;
