@@ -54,7 +54,7 @@ left-child : (owner : ℕ) (found : Option Child) → MayLeave owner found → (
 left-child owner None may = absurd may
 left-child owner (Some child) may = (child, refl)
 
-none-left : (meaning : Meaning) (work : Work) (tasks : run.Tasks) (entry : Stand)
+pub none-left : (meaning : Meaning) (work : Work) (tasks : run.Tasks) (entry : Stand)
     → entry.children ≡ [] → (front left late : List Item) → NoneLeft front → AreLeaveItems left
     → AreStepItems late → Makes work tasks (first_build work) (front ++ (left ++ late))
     → MayHappen meaning entry (happened_all (front ++ (left ++ late)))
@@ -117,7 +117,7 @@ stand-behind work well node one among =
 no-event : (next : Option Event) → None ≡ run.or_next None next → next ≡ None
 no-event next is = sym is
 
-all-settled : (work : Work) (tasks : run.Tasks) (items : List Item) → IsWellMade work
+pub all-settled : (work : Work) (tasks : run.Tasks) (items : List Item) → IsWellMade work
     → Makes work tasks (first_build work) items → 0 < jobs_of work
     → IsOver work None (build_after_all work tasks (first_build work) items) → (n : ℕ)
     → n < length work.plan

@@ -298,8 +298,13 @@ impl<R: Files<File = File> + Processes + Clock + AllocGlobal + Clone + Drop> Wor
     }
 
     /// Ends and takes in the shells of all children, and not what these started themselves. Their logs
-    /// are removed, and then the directory of these.
-    fn abandon(&mut self, kids: &mut Kids<RealKid<R::Started>>) {
+    /// are removed, and then the directory of these. A call that is refused stays the last one.
+    fn abandon(&mut self, kids: &mut Kids<RealKid<R::Started>>)
+        ensures none { kids.new.tickets ≡ [] }
+        ensures same_room { kids.new.room ≡ kids.old.room }
+        ensures faults { self.new.faults ≡ self.old.faults }
+        ensures stopped { self.new.stopped ≡ self.old.stopped }
+    {
         while !kids.is_empty() {
             let (_, kid) = kids.take(0);
             kid.give_up(&self.system.rt);

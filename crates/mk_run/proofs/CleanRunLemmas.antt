@@ -79,19 +79,19 @@ questions-leave state (world.End ticket owner ∷ events) are leave = absurd are
 questions-leave state (world.Left ticket owner ∷ events) are leave = absurd are.0
 
 -- how things stand behind questions
-asked-state : (meaning : Meaning) (old planned : History) (asked : OnlyAsked meaning old planned)
+pub asked-state : (meaning : Meaning) (old planned : History) (asked : OnlyAsked meaning old planned)
     → state_of planned ≡ after_all (state_of old) asked.run.events
 asked-state meaning old planned asked =
     ap (λ b. after_all (first_state b) planned.events) asked.run.base
     ∙ (ap (after_all (first_state old.base)) asked.run.longer
     ∙ after_all-append (first_state old.base) old.events asked.run.events)
 
-asked-history : (meaning : Meaning) (old planned : History) (asked : OnlyAsked meaning old planned)
+pub asked-history : (meaning : Meaning) (old planned : History) (asked : OnlyAsked meaning old planned)
     → longer old asked.run.events ≡ planned
 asked-history meaning old planned asked =
     same-history (longer old asked.run.events) planned (sym asked.run.base) (sym asked.run.longer)
 
-asked-files : (meaning : Meaning) (old planned : History) (asked : OnlyAsked meaning old planned)
+pub asked-files : (meaning : Meaning) (old planned : History) (asked : OnlyAsked meaning old planned)
     → AllByRecursion LeavesFiles asked.run.events → files_of planned ≡ files_of old
 asked-files meaning old planned asked leave =
     ap (λ (s : Stand). contents s.files) (asked-state meaning old planned asked)
@@ -145,7 +145,7 @@ abbrev one_job : ℕ → Store → List Doing → CleanJob
 one_job node files doings = record { node = node; before = files; doings = doings }
 
 -- the jobs, and the files behind them, are those of the clean build of the run's plan
-same-jobs : (meaning : Meaning) (clean work : Work) (tasks : Tasks) (nodes : List ℕ) (files : Store)
+pub same-jobs : (meaning : Meaning) (clean work : Work) (tasks : Tasks) (nodes : List ℕ) (files : Store)
     → ((n : ℕ) → IsAmong n nodes → has_job (node_at work.plan n) ≡ true)
     → ((one : CleanJob) → IsAmong one (jobs_on meaning clean nodes files) → HasSameTask clean work tasks one)
     → (jobs_on meaning clean nodes files ≡ clean_jobs meaning (clean_plan work tasks) nodes files)
@@ -196,7 +196,7 @@ plan-ordered files made requested query nodes is =
     subst (λ l. are_ordered 0 l ≡ true) (sym reached.2.nodes_are)
     (nodes_of-ordered reached.0 query reached.2.order reached.2.whole.order_is)
 
-well-made : (files : Store) (made : Made) (flags : Flags) (nodes : List PlanNode)
+pub well-made : (files : Store) (made : Made) (flags : Flags) (nodes : List PlanNode)
     → planned files made flags.requested flags.query ≡ Ok nodes → AreDistinct (graph.names_of made.graph)
     → IsWellMade (work_on nodes made flags)
 well-made files made flags nodes is differ = record {

@@ -46,7 +46,7 @@ state-longer old mid events base is =
     ∙ (ap (after_all (first_state old.base)) is
     ∙ after_all-append (first_state old.base) old.events events)
 
-asked-then : (meaning : Meaning) (old mid new : History) → OnlyAsked meaning old mid
+pub asked-then : (meaning : Meaning) (old mid new : History) → OnlyAsked meaning old mid
     → OnlyAsked meaning mid new → OnlyAsked meaning old new
 asked-then meaning old mid new first second = record {
   run = record {
@@ -93,7 +93,7 @@ asked-here : (meaning : Meaning) (old new : History) → new ≡ old → OnlyAsk
 asked-here meaning old new is =
     asked-same meaning old new (ap (λ (h : History). h.base) is) (ap (λ (h : History). h.events) is)
 
-questions-ask : (meaning : Meaning) (questions : List Question) (old new : History)
+pub questions-ask : (meaning : Meaning) (questions : List Question) (old new : History)
     → AreAsked meaning questions old new → OnlyAsked meaning old new
 questions-ask meaning [] old new are = asked-here meaning old new are
 questions-ask meaning (question ∷ more) old new are =
@@ -116,7 +116,7 @@ paths-are : (paths : List (List ℕ)) → AllByRecursion IsQuestion (map (λ pat
 paths-are [] = tt
 paths-are (path ∷ paths) = (tt, paths-are paths)
 
-looks-ask : (meaning : Meaning) (old new : History) → OnlyLooks old new → OnlyAsked meaning old new
+pub looks-ask : (meaning : Meaning) (old new : History) → OnlyLooks old new → OnlyAsked meaning old new
 looks-ask meaning old new only_looks = record {
   run = record {
     events = map (λ path. Look path) only_looks.looks;
@@ -308,7 +308,7 @@ goes-clean meaning env order (builds made flags) end old read first last went ne
         ready
 
 -- what tells behind a part of a run told before it
-goes-told : (meaning : Meaning) (meant : Meant) (first last : Point) (went : Went) (new : History)
+pub goes-told : (meaning : Meaning) (meant : Meant) (first last : Point) (went : Went) (new : History)
     → first.history ≡ None → last.history ≡ Some new → Goes meaning meant first last went → ⊥
 goes-told meaning (only outcome) first last went new at is goes = told-before Same at is goes.same
 goes-told meaning (prints variables lists all) first last went new at is goes = told-before (DatesAll goes.looked) at is goes.told

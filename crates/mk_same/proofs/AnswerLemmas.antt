@@ -45,215 +45,215 @@ answered answers c = record c { answers = answers }
 abbrev pub IsByAnswers : Answers → Answers → Finder → Type 0
 IsByAnswers one other find =
     (c : Context) (p : Progress) (reference : Part)
-    → Same other p.asked (find (answered one c) p reference) (find (answered other c) p reference)
+    → Same one other p.asked (find (answered one c) p reference) (find (answered other c) p reference)
 
 module _ (one other : Answers) (find : Finder) (finds : IsByAnswers one other find) where
   -- Trees
 
   reference_value : (c : Context) (p : Progress) (reference : Part)
-      → Same other p.asked (joint.reference_value find (answered one c) p reference)
+      → Same one other p.asked (joint.reference_value find (answered one c) p reference)
       (joint.reference_value find (answered other c) p reference)
   reference_value c p reference =
-      Same-then other _ _ _ _ _ (finds c p reference) (λ v. Same-gives other _ _)
+      Same-then one other _ _ _ _ _ (finds c p reference) (λ v. Same-gives one other _ _)
 
   part_value : (c : Context) (p : Progress) (one_part : Part)
-      → Same other p.asked (joint.part_value find (answered one c) p one_part)
+      → Same one other p.asked (joint.part_value find (answered one c) p one_part)
       (joint.part_value find (answered other c) p one_part)
-  part_value c p (plain bytes) = Same-gives other _ _
-  part_value c p (escaped byte) = Same-gives other _ _
-  part_value c p double = Same-gives other _ _
-  part_value c p lone = Same-gives other _ _
+  part_value c p (plain bytes) = Same-gives one other _ _
+  part_value c p (escaped byte) = Same-gives one other _ _
+  part_value c p double = Same-gives one other _ _
+  part_value c p lone = Same-gives one other _ _
   part_value c p (short byte) = reference_value c p (short byte)
   part_value c p (ref round name mods) = reference_value c p (ref round name mods)
 
   part_appended : (c : Context) (p : Progress) (text : List ℕ) (one_part : Part)
-      → Same other p.asked (joint.part_appended find (answered one c) p text one_part)
+      → Same one other p.asked (joint.part_appended find (answered one c) p text one_part)
       (joint.part_appended find (answered other c) p text one_part)
   part_appended c p text one_part =
-      Same-then other _ _ _ _ _ (part_value c p one_part) (λ v. Same-tried other _ _)
+      Same-then one other _ _ _ _ _ (part_value c p one_part) (λ v. Same-tried one other _ _)
 
   joined : (c : Context) (p : Progress) (text : List ℕ) (tree : Tree)
-      → Same other p.asked (joint.joined find (answered one c) p text tree)
+      → Same one other p.asked (joint.joined find (answered one c) p text tree)
       (joint.joined find (answered other c) p text tree)
   unfolding joint.joined
-  joined c p text end = Same-gives other _ _
+  joined c p text end = Same-gives one other _ _
   joined c p text (part one_part tree) =
-      Same-then other _ _ _ _ _ (part_appended c p text one_part) (λ v. joined c v.1 v.0 tree)
+      Same-then one other _ _ _ _ _ (part_appended c p text one_part) (λ v. joined c v.1 v.0 tree)
 
   tree_value : (c : Context) (p : Progress) (tree : Tree)
-      → Same other p.asked (joint.tree_value find (answered one c) p tree)
+      → Same one other p.asked (joint.tree_value find (answered one c) p tree)
       (joint.tree_value find (answered other c) p tree)
   tree_value c p tree = joined c p [] tree
 
   text_value : (c : Context) (p : Progress) (text : List ℕ)
-      → Same other p.asked (joint.text_value find (answered one c) p text)
+      → Same one other p.asked (joint.text_value find (answered one c) p text)
       (joint.text_value find (answered other c) p text)
   text_value c p text =
-      Same-then other _ _ _ _ _ (Same-tried other (parsed text) p) (λ v. tree_value c v.1 v.0)
+      Same-then one other _ _ _ _ _ (Same-tried one other (parsed text) p) (λ v. tree_value c v.1 v.0)
 
   -- Conditions
 
   answer_of : (c : Context) (p : Progress) (fun : Fun) (text : List ℕ)
-      → Same other p.asked (cond.answer_of (answered one c) p fun text)
+      → Same one other p.asked (cond.answer_of (answered one c) p fun text)
       (cond.answer_of (answered other c) p fun text)
-  answer_of c p Defined text = Same-looking other _ (trimmed text) _ _ (Same-gives other _ _)
-  answer_of c p Empty text = Same-gives other _ _
-  answer_of c p Make text = Same-gives other _ _
-  answer_of c p Exists text = Same-asked other one p (clean c.cwd (trimmed text))
-  answer_of c p Target text = Same-gives other _ _
-  answer_of c p Commands text = Same-gives other _ _
+  answer_of c p Defined text = Same-looking one other _ (trimmed text) _ _ (Same-gives one other _ _)
+  answer_of c p Empty text = Same-gives one other _ _
+  answer_of c p Make text = Same-gives one other _ _
+  answer_of c p Exists text = Same-asked one other p (clean c.cwd (trimmed text))
+  answer_of c p Target text = Same-gives one other _ _
+  answer_of c p Commands text = Same-gives one other _ _
 
   test_truth : (c : Context) (p : Progress) (fun : Fun) (argument : Tree)
-      → Same other p.asked (cond.test_truth find (answered one c) p fun argument)
+      → Same one other p.asked (cond.test_truth find (answered one c) p fun argument)
       (cond.test_truth find (answered other c) p fun argument)
   test_truth c p fun argument =
-      Same-then other _ _ _ _ _ (tree_value c p argument) (λ v. answer_of c v.1 fun v.0)
+      Same-then one other _ _ _ _ _ (tree_value c p argument) (λ v. answer_of c v.1 fun v.0)
 
   unquoted_value : (c : Context) (p : Progress) (tree : Tree) (reference : Option Part)
-      → Same other p.asked (cond.unquoted_value find (answered one c) p tree reference)
+      → Same one other p.asked (cond.unquoted_value find (answered one c) p tree reference)
       (cond.unquoted_value find (answered other c) p tree reference)
   unquoted_value c p tree None = tree_value c p tree
   unquoted_value c p tree (Some reference) =
-      Same-then other _ _ _ _ _ (finds c p reference) (λ v. Same-tried other _ _)
+      Same-then one other _ _ _ _ _ (finds c p reference) (λ v. Same-tried one other _ _)
 
   side_value : (c : Context) (p : Progress) (side : Side)
-      → Same other p.asked (cond.side_value find (answered one c) p side)
+      → Same one other p.asked (cond.side_value find (answered one c) p side)
       (cond.side_value find (answered other c) p side)
   side_value c p side =
-      Same-either other _ side.quoted _ _ _ _ (tree_value c p side.text)
+      Same-either one other _ side.quoted _ _ _ _ (tree_value c p side.text)
       (unquoted_value c p side.text (lone_reference side.text))
 
   alone_truth : (c : Context) (p : Progress) (side : Side)
-      → Same other p.asked (cond.alone_truth find (answered one c) p side)
+      → Same one other p.asked (cond.alone_truth find (answered one c) p side)
       (cond.alone_truth find (answered other c) p side)
   alone_truth c p side =
-      Same-then other _ _ _ _ _ (side_value c p side) (λ v. Same-gives other _ _)
+      Same-then one other _ _ _ _ _ (side_value c p side) (λ v. Same-gives one other _ _)
 
   both_truth : (c : Context) (p : Progress) (left : Side) (op : CmpOp) (right : Side)
-      → Same other p.asked (cond.both_truth find (answered one c) p left op right)
+      → Same one other p.asked (cond.both_truth find (answered one c) p left op right)
       (cond.both_truth find (answered other c) p left op right)
   both_truth c p left op right =
-      Same-then other _ _ _ _ _ (side_value c p left)
-      (λ l. Same-then other _ _ _ _ _ (side_value c l.1 right) (λ r. Same-tried other _ _))
+      Same-then one other _ _ _ _ _ (side_value c p left)
+      (λ l. Same-then one other _ _ _ _ _ (side_value c l.1 right) (λ r. Same-tried one other _ _))
 
   mutual
     unfolding cond.truth_of cond.any_truth cond.all_truth
 
     truth_of : (c : Context) (p : Progress) (one_cond : Cond)
-        → Same other p.asked (cond.truth_of find (answered one c) p one_cond)
+        → Same one other p.asked (cond.truth_of find (answered one c) p one_cond)
         (cond.truth_of find (answered other c) p one_cond)
     truth_of c p (any conds) = any_truth c p conds
     truth_of c p (all conds) = all_truth c p conds
     truth_of c p (negate inner) =
-        Same-then other _ _ _ _ _ (truth_of c p inner) (λ v. Same-gives other _ _)
+        Same-then one other _ _ _ _ _ (truth_of c p inner) (λ v. Same-gives one other _ _)
     truth_of c p (test fun argument) = test_truth c p fun argument
     truth_of c p (alone side) = alone_truth c p side
     truth_of c p (both left op right) = both_truth c p left op right
 
     any_truth : (c : Context) (p : Progress) (conds : Conds)
-        → Same other p.asked (cond.any_truth find (answered one c) p conds)
+        → Same one other p.asked (cond.any_truth find (answered one c) p conds)
         (cond.any_truth find (answered other c) p conds)
-    any_truth c p no_more = Same-gives other _ _
+    any_truth c p no_more = Same-gives one other _ _
     any_truth c p (cond_then first conds) =
-        Same-then other _ _ _ _ _ (truth_of c p first)
-        (λ v. Same-either other _ v.0 _ _ _ _ (Same-gives other _ _) (any_truth c v.1 conds))
+        Same-then one other _ _ _ _ _ (truth_of c p first)
+        (λ v. Same-either one other _ v.0 _ _ _ _ (Same-gives one other _ _) (any_truth c v.1 conds))
 
     all_truth : (c : Context) (p : Progress) (conds : Conds)
-        → Same other p.asked (cond.all_truth find (answered one c) p conds)
+        → Same one other p.asked (cond.all_truth find (answered one c) p conds)
         (cond.all_truth find (answered other c) p conds)
-    all_truth c p no_more = Same-gives other _ _
+    all_truth c p no_more = Same-gives one other _ _
     all_truth c p (cond_then first conds) =
-        Same-then other _ _ _ _ _ (truth_of c p first)
-        (λ v. Same-either other _ v.0 _ _ _ _ (all_truth c v.1 conds) (Same-gives other _ _))
+        Same-then one other _ _ _ _ _ (truth_of c p first)
+        (λ v. Same-either one other _ v.0 _ _ _ _ (all_truth c v.1 conds) (Same-gives one other _ _))
 
   -- Modifiers
 
   with_text : (c : Context) (p : Progress) (text : Tree) (make : List ℕ → Mod)
-      → Same other p.asked (chain.with_text find (answered one c) p text make)
+      → Same one other p.asked (chain.with_text find (answered one c) p text make)
       (chain.with_text find (answered other c) p text make)
   with_text c p text make =
-      Same-then other _ _ _ _ _ (tree_value c p text) (λ v. Same-gives other _ _)
+      Same-then one other _ _ _ _ _ (tree_value c p text) (λ v. Same-gives one other _ _)
 
   mod_of : (c : Context) (p : Progress) (m : tree.Mod)
-      → Same other p.asked (chain.mod_of find (answered one c) p m)
+      → Same one other p.asked (chain.mod_of find (answered one c) p m)
       (chain.mod_of find (answered other c) p m)
   mod_of c p (tree.keep pattern) = with_text c p pattern Keep
   mod_of c p (tree.without pattern) = with_text c p pattern Without
   mod_of c p (tree.subst delim from to flags) =
-      Same-then other _ _ _ _ _ (tree_value c p (without_anchors from))
-      (λ old. Same-then other _ _ _ _ _ (tree_value c old.1 (old_in_tree old.0 to))
-      (λ new. Same-gives other _ _))
+      Same-then one other _ _ _ _ _ (tree_value c p (without_anchors from))
+      (λ old. Same-then one other _ _ _ _ _ (tree_value c old.1 (old_in_tree old.0 to))
+      (λ new. Same-gives one other _ _))
   mod_of c p (tree.select places) = with_text c p places Select
   mod_of c p (tree.range_to number) = with_text c p number Range
   mod_of c p (tree.suffix from to) =
-      Same-then other _ _ _ _ _ (tree_value c p from)
-      (λ old. Same-then other _ _ _ _ _ (tree_value c old.1 to) (λ new. Same-gives other _ _))
-  mod_of c p m = Same-gives other _ _
+      Same-then one other _ _ _ _ _ (tree_value c p from)
+      (λ old. Same-then one other _ _ _ _ _ (tree_value c old.1 to) (λ new. Same-gives one other _ _))
+  mod_of c p m = Same-gives one other _ _
 
   given : (asked : List Asked) (so_far : Chain) (first second : Counted (List ℕ))
-      → Same other asked first second
-      → Same other asked (chain.given so_far first) (chain.given so_far second)
-  given asked so_far first second is = Same-then other _ _ _ _ _ is (λ v. Same-gives other _ _)
+      → Same one other asked first second
+      → Same one other asked (chain.given so_far first) (chain.given so_far second)
+  given asked so_far first second is = Same-then one other _ _ _ _ _ is (λ v. Same-gives one other _ _)
 
   if_undefined : (c : Context) (p : Progress) (so_far : Chain) (text : Tree)
-      → Same other p.asked (chain.if_undefined find (answered one c) p so_far text)
+      → Same one other p.asked (chain.if_undefined find (answered one c) p so_far text)
       (chain.if_undefined find (answered other c) p so_far text)
   if_undefined c p so_far text =
-      Same-either other _ so_far.defined _ _ _ _ (Same-gives other _ _)
+      Same-either one other _ so_far.defined _ _ _ _ (Same-gives one other _ _)
       (given _ so_far _ _ (tree_value c p text))
 
   if_defined : (c : Context) (p : Progress) (so_far : Chain) (text : Tree)
-      → Same other p.asked (chain.if_defined find (answered one c) p so_far text)
+      → Same one other p.asked (chain.if_defined find (answered one c) p so_far text)
       (chain.if_defined find (answered other c) p so_far text)
   if_defined c p so_far text =
       given _ so_far _ _
-      (Same-either other _ so_far.defined _ _ _ _ (tree_value c p text) (Same-gives other _ _))
+      (Same-either one other _ so_far.defined _ _ _ _ (tree_value c p text) (Same-gives one other _ _))
 
   chosen : (c : Context) (p : Progress) (name : List ℕ) (first second : Tree)
-      → Same other p.asked (chain.chosen find (answered one c) p name first second)
+      → Same one other p.asked (chain.chosen find (answered one c) p name first second)
       (chain.chosen find (answered other c) p name first second)
   chosen c p name first second =
-      Same-then other _ _ _ _ _ (Same-tried other (name_condition name) p)
-      (λ v. Same-then other _ _ _ _ _ (truth_of c v.1 v.0) (λ t. tree_value c t.1 _))
+      Same-then one other _ _ _ _ _ (Same-tried one other (name_condition name) p)
+      (λ v. Same-then one other _ _ _ _ _ (truth_of c v.1 v.0) (λ t. tree_value c t.1 _))
 
   each_behind : (c : Context) (p : Progress) (name : List ℕ) (body : Tree) (results : State)
       (words : List (List ℕ))
-      → Same other p.asked (chain.each_behind find (answered one c) p name body results words)
+      → Same one other p.asked (chain.each_behind find (answered one c) p name body results words)
       (chain.each_behind find (answered other c) p name body results words)
   unfolding chain.each_behind
-  each_behind c p name body results [] = Same-gives other _ _
+  each_behind c p name body results [] = Same-gives one other _ _
   each_behind c p name body results (word ∷ words) =
-      Same-then other _ _ _ _ _ (tree_value (while_bound c name word) p body)
-      (λ v. Same-then other _ _ _ _ _
-      (Same-tried other (with_fault (with_result results v.0)) v.1)
+      Same-then one other _ _ _ _ _ (tree_value (while_bound c name word) p body)
+      (λ v. Same-then one other _ _ _ _ _
+      (Same-tried one other (with_fault (with_result results v.0)) v.1)
       (λ more. each_behind c more.1 name body more.0 words))
 
   each : (c : Context) (p : Progress) (so_far : Chain) (name : List ℕ) (body : Tree)
-      → Same other p.asked (chain.each find (answered one c) p so_far name body)
+      → Same one other p.asked (chain.each find (answered one c) p so_far name body)
       (chain.each find (answered other c) p so_far name body)
   each c p so_far name body =
-      Same-then other _ _ _ _ _
+      Same-then one other _ _ _ _ _
       (each_behind c p name body (no_results so_far.state) (words_of so_far.state))
-      (λ v. Same-gives other _ _)
+      (λ v. Same-gives one other _ _)
 
   word_modified : (c : Context) (p : Progress) (so_far : Chain) (m : tree.Mod)
-      → Same other p.asked (chain.word_modified find (answered one c) p so_far m)
+      → Same one other p.asked (chain.word_modified find (answered one c) p so_far m)
       (chain.word_modified find (answered other c) p so_far m)
   word_modified c p so_far m =
-      Same-then other _ _ _ _ _ (mod_of c p m)
-      (λ v. Same-then other _ _ _ _ _ (Same-tried other (applied v.0 so_far.state) v.1)
-      (λ s. Same-gives other _ _))
+      Same-then one other _ _ _ _ _ (mod_of c p m)
+      (λ v. Same-then one other _ _ _ _ _ (Same-tried one other (applied v.0 so_far.state) v.1)
+      (λ s. Same-gives one other _ _))
 
   given_modified : (c : Context) (p : Progress) (name : List ℕ) (so_far : Chain) (m : tree.Mod)
-      → Same other p.asked (chain.given_modified find (answered one c) p name so_far m)
+      → Same one other p.asked (chain.given_modified find (answered one c) p name so_far m)
       (chain.given_modified find (answered other c) p name so_far m)
   given_modified c p name so_far (tree.if_undefined text) = if_undefined c p so_far text
   given_modified c p name so_far (tree.if_defined text) = if_defined c p so_far text
-  given_modified c p name so_far tree.name_of = Same-gives other _ _
+  given_modified c p name so_far tree.name_of = Same-gives one other _ _
   given_modified c p name so_far m = word_modified c p so_far m
 
   modified : (c : Context) (p : Progress) (name : List ℕ) (so_far : Chain) (m : tree.Mod)
-      → Same other p.asked (chain.modified find (answered one c) p name so_far m)
+      → Same one other p.asked (chain.modified find (answered one c) p name so_far m)
       (chain.modified find (answered other c) p name so_far m)
   modified c p name so_far (tree.choose first second) =
       given _ so_far _ _ (chosen c p name first second)
@@ -261,70 +261,70 @@ module _ (one other : Answers) (find : Finder) (finds : IsByAnswers one other fi
   modified c p name so_far m = given_modified c p name so_far m
 
   all_modified : (c : Context) (p : Progress) (name : List ℕ) (so_far : Chain) (mods : Mods)
-      → Same other p.asked (chain.all_modified find (answered one c) p name so_far mods)
+      → Same one other p.asked (chain.all_modified find (answered one c) p name so_far mods)
       (chain.all_modified find (answered other c) p name so_far mods)
   unfolding chain.all_modified
-  all_modified c p name so_far no_mods = Same-gives other _ _
+  all_modified c p name so_far no_mods = Same-gives one other _ _
   all_modified c p name so_far (mod_then m mods) =
-      Same-then other _ _ _ _ _ (modified c p name so_far m)
+      Same-then one other _ _ _ _ _ (modified c p name so_far m)
       (λ v. all_modified c v.1 name v.0 mods)
 
   chained : (c : Context) (p : Progress) (name : List ℕ) (found : Found) (mods : Mods)
-      → Same other p.asked (chain.chained find (answered one c) p name found mods)
+      → Same one other p.asked (chain.chained find (answered one c) p name found mods)
       (chain.chained find (answered other c) p name found mods)
   chained c p name found mods =
-      Same-then other _ _ _ _ _ (all_modified c p name (chain_of found) mods)
-      (λ v. Same-gives other _ _)
+      Same-then one other _ _ _ _ _ (all_modified c p name (chain_of found) mods)
+      (λ v. Same-gives one other _ _)
 
   -- References
 
   expanded : (c : Context) (p : Progress) (name : List ℕ) (raw : Option (List ℕ))
-      → Same other p.asked (value.expanded find (answered one c) p name raw)
+      → Same one other p.asked (value.expanded find (answered one c) p name raw)
       (value.expanded find (answered other c) p name raw)
-  expanded c p name None = Same-gives other _ _
+  expanded c p name None = Same-gives one other _ _
   expanded c p name (Some raw) =
-      Same-then other _ _ _ _ _ (text_value (while_open c name) p raw)
-      (λ v. Same-gives other _ _)
+      Same-then one other _ _ _ _ _ (text_value (while_open c name) p raw)
+      (λ v. Same-gives one other _ _)
 
   variable : (c : Context) (p : Progress) (name : List ℕ)
-      → Same other p.asked (value.variable find (answered one c) p name)
+      → Same one other p.asked (value.variable find (answered one c) p name)
       (value.variable find (answered other c) p name)
   variable c p name =
-      Same-looking other _ name _ _
-      (Same-either other _ (is_among c.open_names name) _ _ _ _
-      (Same-tried other (Err (Recursive name)) p)
-      (Same-then other _ _ _ _ _ (Same-tried other (raw_of c name) p) (λ v. expanded c v.1 name v.0)))
+      Same-looking one other _ name _ _
+      (Same-either one other _ (is_among c.open_names name) _ _ _ _
+      (Same-tried one other (Err (Recursive name)) p)
+      (Same-then one other _ _ _ _ _ (Same-tried one other (raw_of c name) p) (λ v. expanded c v.1 name v.0)))
 
   reference : (c : Context) (p : Progress) (name : Tree) (mods : Mods)
-      → Same other p.asked (value.reference find (answered one c) p name mods)
+      → Same one other p.asked (value.reference find (answered one c) p name mods)
       (value.reference find (answered other c) p name mods)
   reference c p name mods =
-      Same-then other _ _ _ _ _ (tree_value (in_name c) p name)
-      (λ n. Same-then other _ _ _ _ _ (variable c n.1 n.0)
+      Same-then one other _ _ _ _ _ (tree_value (in_name c) p name)
+      (λ n. Same-then one other _ _ _ _ _ (variable c n.1 n.0)
       (λ v. chained (in_name c) v.1 n.0 v.0 mods))
 
   found : (c : Context) (p : Progress) (one_part : Part)
-      → Same other p.asked (value.found find (answered one c) p one_part)
+      → Same one other p.asked (value.found find (answered one c) p one_part)
       (value.found find (answered other c) p one_part)
   found c p (short byte) = variable c p (byte ∷ [])
   found c p (ref round name mods) = reference c p name mods
-  found c p (plain bytes) = Same-gives other _ _
-  found c p (escaped byte) = Same-gives other _ _
-  found c p double = Same-gives other _ _
-  found c p lone = Same-gives other _ _
+  found c p (plain bytes) = Same-gives one other _ _
+  found c p (escaped byte) = Same-gives one other _ _
+  found c p double = Same-gives one other _ _
+  found c p lone = Same-gives one other _ _
 
 -- and so it is in all that references refer to
 found_is : (one other : Answers) (room : ℕ) → IsByAnswers one other (found_at room)
 unfolding found_at
-found_is one other zero = λ c p reference. Same-tried other {A = Found} (Err TooDeep) p
+found_is one other zero = λ c p reference. Same-tried one other {A = Found} (Err TooDeep) p
 found_is one other (suc room) = λ c p reference.
-    Same-either other _ (nat_lt p.references max_references) _ _ _ _
+    Same-either one other _ (nat_lt p.references max_references) _ _ _ _
     (found one other (found_at room) (found_is one other room) c (with_reference p) reference)
-    (Same-tried other {A = Found} (Err TooManyReferences) p)
+    (Same-tried one other {A = Found} (Err TooManyReferences) p)
 
 pub tree-same : (variables : Variables) (locals : Locals) (lists : Lists) (one other : Answers) (keep : Bool)
     (asked : List Asked) (tree : Tree)
-    → Same other asked (of_tree variables locals lists one keep asked tree)
+    → Same one other asked (of_tree variables locals lists one keep asked tree)
     (of_tree variables locals lists other keep asked tree)
 tree-same variables locals lists one other keep asked tree =
     tree_value one other finder (found_is one other max_open) (context variables locals lists one keep)

@@ -1,10 +1,10 @@
 -- Tasks are by the answers to what they ask.
-use Rattle.std.proofs.Common.{◌≡◌, ◌∙◌, ℕ, ◌+◌, false, not, List, [], ◌∷◌, ◌++◌, Result, Ok, Err}
-use Rattle.std.proofs.Common.{refl, sym, ap, subst}
+use Rattle.std.proofs.Common.{◌≡◌, ◌⊎◌, ◌∙◌, ℕ, ◌+◌, false, not, List, [], ◌∷◌, ◌++◌, Result, Ok, Err}
+use Rattle.std.proofs.Common.{refl, sym, ap, subst, inl, inr}
 use Rattle.mk_ast.specs.Tree.{Tree}
 use Rattle.mk_bytes.specs.Agrees.{◌>>=◌}
-use Rattle.mk_values.specs.Evaluators.{Answer}
-use Rattle.mk_values.specs.Facts.{AnsweredBy, Answers}
+use Rattle.mk_values.specs.Evaluators.{Answer, Counted}
+use Rattle.mk_values.specs.Facts.{AnsweredBy, Answers, AsksMore}
 use Rattle.mk_values.specs.Texts.{parsed}
 use Rattle.mk_values.specs.Value.{of_tree, questions_of, value, with_asked}
 use Rattle.mk_values.specs.declared.facts.Asked.{Asked}
@@ -17,7 +17,8 @@ use Rattle.mk_plan.specs.declared.fault.TaskFault.{TaskFault}
 use Rattle.mk_plan.specs.declared.tasks.Manner.{Manner}
 use Rattle.mk_world.specs.declared.command.TaskLine.{TaskLine}
 use Rattle.mk_same.proofs.AnswerLemmas.{tree-same}
-use Rattle.mk_same.specs.Answered.{TasksAreByAnswers, with_answers}
+use Rattle.mk_same.proofs.SameLemmas.{asks-same, asks-then, part-longer}
+use Rattle.mk_same.specs.Answered.{PartAtQuestion, TasksAreByAnswers, TasksPartAtQuestions, with_answers}
 
 same-ok : {A E : Type 0} (one other : A) → ◌≡◌ {A = Result A E} (Ok one) (Ok other) → one ≡ other
 same-ok one other is = cc
@@ -109,3 +110,135 @@ tasks_are_by_answers k other suffixes nodes n newer mode flags asked task is ans
     ap (λ (it : Result (List TaskLine × List Asked) TaskFault). it
     >>= λ (lines : List TaskLine × List Asked). Ok (task_with k.variables mode.exports (node_at nodes n).name lines.0, lines.1))
     same.0 ∙ made.2
+
+-- Parts of tasks by any answers: both ask more than before, and they are the same, or part at a question.
+
+record Parted (answers : Answers) (asked : List Asked) {A : Type 0} (first second : A × List Asked) : Type 0 where
+  pub first_more : AsksMore asked first.1
+  pub second_more : AsksMore asked second.1
+  pub parts : (second ≡ first) ⊎ PartAtQuestion answers first.1 second.1
+
+abbrev ArePart : {A E : Type 0} → Answers → List Asked → Result (A × List Asked) E → Result (A × List Asked) E → Type 0
+ArePart {A} {E} answers asked one again =
+    (first second : A × List Asked) → one ≡ Ok first → again ≡ Ok second → Parted answers asked first second
+
+answers-part : {A : Type 0} (answers : Answers) (asked : List Asked) (one again : Answer A)
+    → AsksMore asked (questions_of one) → AsksMore asked (questions_of again)
+    → (again ≡ one) ⊎ PartAtQuestion answers (questions_of one) (questions_of again)
+    → ArePart answers asked (with_asked one) (with_asked again)
+answers-part {A} answers asked (Ok v) (Ok w) more other_more parts first second is other_is =
+    subst (λ it. Parted answers asked it second) (same-ok (v.0, v.1.asked) first is)
+    (subst (λ it. Parted answers asked (v.0, v.1.asked) it) (same-ok (w.0, w.1.asked) second other_is)
+    (record { first_more = more; second_more = other_more; parts = found parts }))
+  where
+    found : (◌≡◌ {A = Answer A} (Ok w) (Ok v)) ⊎ PartAtQuestion answers v.1.asked w.1.asked
+        → ((w.0, w.1.asked) ≡ (v.0, v.1.asked)) ⊎ PartAtQuestion answers v.1.asked w.1.asked
+    found (inl same) = inl (ap (λ it. (it.0, it.1.asked)) (same-ok w v same))
+    found (inr part) = inr part
+answers-part answers asked (Ok v) (Err fault) more other_more parts first second is other_is = absurd cc
+answers-part answers asked (Err fault) again more other_more parts first second is other_is = absurd cc
+
+mapped-part : {A B E : Type 0} (answers : Answers) (asked : List Asked) (one again : Result (A × List Asked) E) (f : A → B)
+    → ArePart answers asked one again
+    → ArePart answers asked (one >>= λ (v : A × List Asked). Ok (f v.0, v.1)) (again >>= λ (v : A × List Asked). Ok (f v.0, v.1))
+mapped-part {A} {B} {E} answers asked (Ok v) (Ok w) f part first second is other_is =
+    subst (λ it. Parted answers asked it second) (same-ok (f v.0, v.1) first is)
+    (subst (λ it. Parted answers asked (f v.0, v.1) it) (same-ok (f w.0, w.1) second other_is)
+    (mapped (part v w refl refl)))
+  where
+    both : (w ≡ v) ⊎ PartAtQuestion answers v.1 w.1 → ((f w.0, w.1) ≡ (f v.0, v.1)) ⊎ PartAtQuestion answers v.1 w.1
+    both (inl same) = inl (ap (λ it. (f it.0, it.1)) same)
+    both (inr apart) = inr apart
+    mapped : Parted answers asked v w → Parted answers asked (f v.0, v.1) (f w.0, w.1)
+    mapped is = record { first_more = is.first_more; second_more = is.second_more; parts = both is.parts }
+mapped-part answers asked (Ok v) (Err fault) f part first second is other_is = absurd cc
+mapped-part answers asked (Err fault) again f part first second is other_is = absurd cc
+
+tree-part : (k : Setting) (other : Answers) (locals : Locals) (manner : Manner) (asked : List Asked) (tree : Tree)
+    → ArePart k.answers asked (line_of_tree k locals manner asked tree)
+    (line_of_tree (with_answers other k) locals manner asked tree)
+tree-part k other locals manner asked tree =
+    let same = tree-same k.variables locals k.lists k.answers other false asked tree in
+    mapped-part k.answers asked (value k.variables locals k.lists k.answers false asked tree)
+    (value k.variables locals k.lists other false asked tree) (line_as manner (not (refers tree)))
+    (answers-part k.answers asked (of_tree k.variables locals k.lists k.answers false asked tree).answer
+    (of_tree k.variables locals k.lists other false asked tree).answer same.first_more same.second_more
+    (answered same.parts))
+  where
+    answered : {A : Type 0} {one again : Counted A}
+        → (again ≡ one) ⊎ PartAtQuestion k.answers (questions_of one.answer) (questions_of again.answer)
+        → (again.answer ≡ one.answer) ⊎ PartAtQuestion k.answers (questions_of one.answer) (questions_of again.answer)
+    answered (inl same) = inl (ap (λ counted. counted.answer) same)
+    answered (inr part) = inr part
+
+text-part : (k : Setting) (other : Answers) (locals : Locals) (manner : Manner) (asked : List Asked) (raw : List ℕ)
+    → ArePart k.answers asked (line_of k locals manner asked raw) (line_of (with_answers other k) locals manner asked raw)
+text-part k other locals manner asked raw = by (parsed raw)
+  where
+    by : (tree : Result Tree ExpandFault)
+        → ArePart k.answers asked (tree >>= line_of_tree k locals manner asked)
+        (tree >>= line_of_tree (with_answers other k) locals manner asked)
+    by (Ok tree) = tree-part k other locals manner asked tree
+    by (Err fault) = λ first second is other_is. absurd cc
+
+numbered-part : (answers : Answers) (number : ℕ) (asked : List Asked) (one again : Result (TaskLine × List Asked) ExpandFault)
+    → ArePart answers asked one again → ArePart answers asked (at_line number one) (at_line number again)
+numbered-part answers number asked (Ok v) (Ok w) part first second is other_is =
+    part first second (ap Ok (same-ok v first is)) (ap Ok (same-ok w second other_is))
+numbered-part answers number asked (Ok v) (Err fault) part first second is other_is = absurd cc
+numbered-part answers number asked (Err fault) again part first second is other_is = absurd cc
+
+lines-part : (k : Setting) (other : Answers) (locals : Locals) (manner : Manner) (lines : List TaskLine) (number : ℕ)
+    (asked : List Asked) (raws : List (List ℕ))
+    → ArePart k.answers asked (lines_from k locals manner lines number asked raws)
+    (lines_from (with_answers other k) locals manner lines number asked raws)
+unfolding lines_from
+lines-part k other locals manner lines number asked [] first second is other_is =
+    subst (λ it. Parted k.answers asked it second) (same-ok (lines, asked) first is)
+    (subst (λ it. Parted k.answers asked (lines, asked) it) (same-ok (lines, asked) second other_is)
+    (record { first_more = asks-same asked; second_more = asks-same asked; parts = inl refl }))
+lines-part k other locals manner lines number asked (raw ∷ raws) first second is other_is =
+    let one = bound (at_line number (line_of k locals manner asked raw))
+    (λ line. lines_from k locals manner (lines ++ line.0 ∷ []) (number + 1) line.1 raws) first is in
+    let two = bound (at_line number (line_of (with_answers other k) locals manner asked raw))
+    (λ line. lines_from (with_answers other k) locals manner (lines ++ line.0 ∷ []) (number + 1) line.1 raws) second
+    other_is in
+    behind one.0 two.0 one.2 two.2
+    (numbered-part k.answers number asked (line_of k locals manner asked raw) (line_of (with_answers other k) locals manner asked raw)
+    (text-part k other locals manner asked raw) one.0 two.0 one.1 two.1)
+  where
+    behind : (line again : TaskLine × List Asked)
+        → lines_from k locals manner (lines ++ line.0 ∷ []) (number + 1) line.1 raws ≡ Ok first
+        → lines_from (with_answers other k) locals manner (lines ++ again.0 ∷ []) (number + 1) again.1 raws ≡ Ok second
+        → Parted k.answers asked line again → Parted k.answers asked first second
+    behind line again goes other_goes parted = by parted.parts
+      where
+        own : AsksMore line.1 first.1
+        own = (lines-part k k.answers locals manner (lines ++ line.0 ∷ []) (number + 1) line.1 raws first first goes goes).first_more
+        others : AsksMore again.1 second.1
+        others = (lines-part (with_answers other k) other locals manner (lines ++ again.0 ∷ []) (number + 1) again.1 raws
+            second second other_goes other_goes).first_more
+        by : (again ≡ line) ⊎ PartAtQuestion k.answers line.1 again.1 → Parted k.answers asked first second
+        by (inl same) =
+            let rest = lines-part k other locals manner (lines ++ line.0 ∷ []) (number + 1) line.1 raws first second goes
+            (subst (λ (it : TaskLine × List Asked). lines_from (with_answers other k) locals manner (lines ++ it.0 ∷ [])
+            (number + 1) it.1 raws ≡ Ok second) same other_goes) in
+            record {
+              first_more = asks-then parted.first_more rest.first_more;
+              second_more = asks-then parted.first_more rest.second_more;
+              parts = rest.parts;
+            }
+        by (inr part) = record {
+          first_more = asks-then parted.first_more own;
+          second_more = asks-then parted.second_more others;
+          parts = inr (part-longer part own others);
+        }
+
+pub tasks_part_at_questions : TasksPartAtQuestions
+tasks_part_at_questions k other suffixes nodes n newer mode flags asked task again is other_is =
+    let locals = locals_of suffixes nodes n newer in
+    let manner = manner_of mode flags (node_at nodes n).marks in
+    (mapped-part k.answers asked (lines_from k locals manner [] 1 asked (node_at nodes n).commands)
+    (lines_from (with_answers other k) locals manner [] 1 asked (node_at nodes n).commands)
+    (task_with k.variables mode.exports (node_at nodes n).name)
+    (lines-part k other locals manner [] 1 asked (node_at nodes n).commands) task again is other_is).parts

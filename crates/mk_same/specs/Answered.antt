@@ -1,5 +1,5 @@
 -- An evaluation is by the answers to the paths that it asks `exists` of.
-use Rattle.std.specs.Prelude.{◌≡◌, ℕ, Bool, List, Ok}
+use Rattle.std.specs.Prelude.{◌≡◌, ◌⊎◌, ℕ, Bool, not, List, ◌∷◌, ◌++◌, length, Ok}
 use Rattle.mk_ast.specs.Tree.{Tree}
 use Rattle.mk_cond.specs.Cond.{Cond}
 use Rattle.mk_values.specs.Facts.{AnsweredBy, Answers, Lists}
@@ -44,3 +44,24 @@ TasksAreByAnswers =
     (newer : List (List ℕ)) (mode : Mode) (flags : Flags) (asked : List Asked) (task : Task × List Asked)
     → task_of k suffixes nodes n newer mode flags asked ≡ Ok task → AnsweredBy other task.1
     → task_of (with_answers other k) suffixes nodes n newer mode flags asked ≡ Ok task
+
+-- Two evaluations part at a question: what they asked before it is the same, with the same answers; they ask it of
+-- one path, and are answered differently, the first by these answers.
+pub record PartAtQuestion (answers : Answers) (one other : List Asked) : Type 0 where
+  pub common : List Asked
+  pub path : List ℕ
+  pub answer : Bool
+  pub rest : List Asked
+  pub other_rest : List Asked
+  pub is : one ≡ common ++ record { path = path; answer = answer } ∷ rest
+  pub other_is : other ≡ common ++ record { path = path; answer = not answer } ∷ other_rest
+  pub answered : answer ≡ answers (length common) path
+
+-- Two tasks of a node by any answers are the same, with the same questions, or they part at a question.
+abbrev pub TasksPartAtQuestions : Type 0
+TasksPartAtQuestions =
+    (k : Setting) (other : Answers) (suffixes : List (List ℕ)) (nodes : List PlanNode) (n : ℕ)
+    (newer : List (List ℕ)) (mode : Mode) (flags : Flags) (asked : List Asked) (task again : Task × List Asked)
+    → task_of k suffixes nodes n newer mode flags asked ≡ Ok task
+    → task_of (with_answers other k) suffixes nodes n newer mode flags asked ≡ Ok again
+    → (again ≡ task) ⊎ PartAtQuestion k.answers task.1 again.1

@@ -1,5 +1,5 @@
 //! What evaluations, judgements and explanations are by.
-ghost use Rattle.mk_same.specs.Answered.{TasksAreByAnswers, ValuesAreByAnswers};
+ghost use Rattle.mk_same.specs.Answered.{TasksAreByAnswers, TasksPartAtQuestions, ValuesAreByAnswers};
 ghost use Rattle.mk_same.specs.Judged.{ExplanationsAreByFiles, JudgementsAreByFiles};
 ghost use Rattle.mk_same.specs.Shown.{ShownAreExplained};
 ghost use Rattle.mk_same.specs.ShownRuns.{ShownRunsAreExplained};
@@ -12,6 +12,11 @@ pub fn values_are_by_their_answers()
 /// And so is the task of a node.
 pub fn tasks_are_by_their_answers()
     ensures { TasksAreByAnswers }
+{}
+
+/// And where the answers are any, two tasks of a node are the same up to a question that is answered differently.
+pub fn tasks_part_at_questions()
+    ensures { TasksPartAtQuestions }
 {}
 
 /// Two judgements of a node by looks at the same files have the same task and the same reason to make it, or none.

@@ -1,0 +1,5 @@
+pub mod AgreeLemmas
+pub mod KnownLemmas
+pub mod SourceLemmas
+pub mod WalkLemmas
+pub mod RunLemmas

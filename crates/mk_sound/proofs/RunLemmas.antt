@@ -1,0 +1,293 @@
+-- A run whose clean build is sound is ready, and so leaves what the clean build leaves.
+use Rattle.std.proofs.Common.{◌≡◌, ◌⊎◌, ◌∙◌, ℕ, ◌<◌, Bool, true, false, not, ◌&&◌, List, [], ◌∷◌, length, Option, Some, None, Result, Ok, slice_get, if◌then◌else◌}
+use Rattle.std.proofs.Common.{inl, inr, refl, sym, ap, subst}
+use Rattle.std.proofs.lemmas.Bool.{false≢true}
+use Rattle.std.specs.List.{AllByRecursion}
+use Rattle.mk_clean.specs.Clean.{CleanJob, DependsOn, source, through, IsAmong, IsWell, AllWell}
+use Rattle.mk_clean.specs.Declared.{IsDeclared, IsMadeBefore, IsOwn, IsPrivate, IsSource}
+use Rattle.mk_cli.specs.declared.order.Order.{Order}
+use Rattle.mk_decision.specs.Decisions.{Work}
+use Rattle.mk_decision.specs.Makers.{work_on}
+use Rattle.mk_flags.specs.declared.Flags.{Flags}
+use Rattle.mk_graph.specs.Nodes as graph
+use Rattle.mk_graph.specs.declared.Made.{Made}
+use Rattle.mk_headline.proofs.EndLemmas.{all-settled, none-left}
+use Rattle.mk_headline.proofs.PlanLemmas.{job-among, job-has}
+use Rattle.mk_headline.specs.Plans.{clean_plan, has_job, jobs_from, lines_of, makes_file}
+use Rattle.mk_headline.specs.Premises.{GoesByMetaMode, IsWellMade}
+use Rattle.mk_makefile.specs.Questions.{AreAsked}
+use Rattle.mk_makefile.specs.declared.fault.ReadFault.{ReadFault}
+use Rattle.mk_meta.specs.Jobs.{working}
+use Rattle.mk_meta.specs.TrueHistory.{IsTrueHistory}
+use Rattle.mk_modes.specs.Building.{IsBuilt, Point, point}
+use Rattle.mk_modes.specs.Meaning.{Meant, only, prints, explains, queries, shows, builds, by_reading}
+use Rattle.mk_modes.specs.Modes.{Followed, Goes, Held}
+use Rattle.mk_modes.specs.declared.building.Went.{Went}
+use Rattle.mk_modes.specs.declared.report.End.{End}
+use Rattle.mk_modes.specs.declared.report.End.TheVariants.{Done}
+use Rattle.mk_plan.specs.Plans.{node_at, planned}
+use Rattle.mk_plan.specs.Tasks.{task_with}
+use Rattle.mk_plan.specs.declared.plan.NodeState.TheVariants.{Settled}
+use Rattle.mk_plan.specs.declared.plan.PlanNode.{PlanNode}
+use Rattle.mk_pool.specs.Pool.{AreDistinct}
+use Rattle.mk_run.proofs.CleanRunLemmas.{asked-files, asked-history, asked-state, done-before, done-build, same-jobs, well-made}
+use Rattle.mk_run.proofs.TrueRunLemmas.{asked-then, goes-told, looks-ask, questions-ask, told-at, told-before}
+use Rattle.mk_run.specs.CleanRuns.{ArePlansAlike, HasSameTask, IsReadyRun, LeavesCleanFiles, bare, clean_files_of, clean_jobs_of, jobs_on, left_by, task_on}
+use Rattle.mk_run.specs.TrueRuns.{Built, IsTrueOrderRun, LeavesClean, build, build_of, built_in, dry}
+use Rattle.mk_scopes.specs.declared.scopes.Env.{Env}
+use Rattle.mk_sound.proofs.SourceLemmas.{job-of}
+use Rattle.mk_sound.proofs.WalkLemmas.{have_clean_tasks}
+use Rattle.mk_sound.specs.Sound.{HasItsTask, IsSound, IsSoundRun, LeavesWhatIsSound, RunsLeaveCleanFiles, SoundRunsLeaveClean}
+use Rattle.mk_trace.proofs.AlongLemmas.{OnlyAsked, questions-children}
+use Rattle.mk_trace.proofs.QuestionLemmas.{questions-keep-truth}
+use Rattle.mk_trace.specs.Builds.{IsBuild, Makes, build_after_all, first_build, moment, rules_of}
+use Rattle.mk_trace.specs.Calls.{GivesUpLast, NoneLeft}
+use Rattle.mk_trace.specs.Ends.{IsOver, StandsBy, is_cut}
+use Rattle.mk_trace.specs.Items.{FitsAll, Happened, Item, happened_all}
+use Rattle.mk_trace.specs.Runs as run
+use Rattle.mk_trace.specs.TrueBuilds.{LeavesFiles}
+use Rattle.mk_trace.specs.declared.result.BuildResult.{BuildResult}
+use Rattle.mk_trace.specs.declared.result.BuildResult.TheVariants as result
+use Rattle.mk_values.specs.declared.facts.Asked.{Asked}
+use Rattle.mk_world.proofs.LawLemmas.{runs_stay_lawful}
+use Rattle.mk_world.specs.Deeds.{Store}
+use Rattle.mk_world.specs.History.{State as Stand, MayAll as MayHappen, files_of, state_of}
+use Rattle.mk_world.specs.Lawful.{IsLawful}
+use Rattle.mk_world.specs.Talks.{Meaning}
+use Rattle.mk_world.specs.Told.{Told}
+use Rattle.mk_world.specs.declared.command.TaskLine.{TaskLine}
+use Rattle.mk_world.specs.declared.history.History.{History}
+
+-- a plan with other lines of its jobs
+
+module _ (work : Work) (lines tasks : run.Tasks) (all : List CleanJob)
+    (same : (one : CleanJob) → IsAmong one all → tasks one.node ≡ lines one.node)
+  where
+  depends-too : (node other : ℕ) → DependsOn (clean_plan work lines) node other
+      → DependsOn (clean_plan work tasks) node other
+  depends-too node other (source on among) = source other among
+  depends-too node other (through between on depends among) =
+      through between other (depends-too node between depends) among
+
+  source-too : (path : List ℕ) → IsSource (clean_plan work lines) all path → IsSource (clean_plan work tasks) all path
+  source-too path is = record { alone = is.alone; no_made = is.no_made; no_meta = is.no_meta }
+
+  reads-too : (one : CleanJob) (path : List ℕ)
+      → IsSource (clean_plan work lines) all path ⊎ IsMadeBefore (clean_plan work lines) all one path
+      → IsSource (clean_plan work tasks) all path ⊎ IsMadeBefore (clean_plan work tasks) all one path
+  reads-too one path (inl is) = inl (source-too path is)
+  reads-too one path (inr is) = inr (record {
+    maker = is.maker;
+    among = is.among;
+    made = is.made;
+    name = is.name;
+    depends = depends-too one.node is.maker.node is.depends;
+  })
+
+  changes-too : (one : CleanJob) (path : List ℕ)
+      → IsOwn (clean_plan work lines) one path ⊎ IsPrivate (clean_plan work lines) all one path
+      → IsOwn (clean_plan work tasks) one path ⊎ IsPrivate (clean_plan work tasks) all one path
+  changes-too one path (inl is) = inl (record { made = is.made; name = is.name })
+  changes-too one path (inr is) = inr (record { no_node = is.no_node; alone = is.alone })
+
+  lines-same : (one : CleanJob) → IsAmong one all → lines_of work tasks one.node ≡ lines_of work lines one.node
+  lines-same one among =
+      ap (λ (l : List TaskLine). if has_job (node_at work.plan one.node) then working l else []) (same one among)
+
+  declared-too : IsDeclared (clean_plan work lines) all → IsDeclared (clean_plan work tasks) all
+  declared-too is = record {
+    reads = λ one among path reads. reads-too one path (is.reads one among path reads);
+    changes = λ one among path changes. changes-too one path (is.changes one among path changes);
+    leaves = λ one among well made.
+        let left = is.leaves one among (subst (λ (l : List TaskLine). AllWell l one.doings) (lines-same one among) well)
+        made in
+        record { bytes = left.bytes; is = left.is };
+    no_meta = is.no_meta;
+  }
+
+-- a node that makes a file has a job
+makes-has : (node : PlanNode) → makes_file node ≡ true → has_job node ≡ true
+makes-has node is = by (has_job node) is
+  where
+    by : (has : Bool) → (has && not node.marks.phony) ≡ true → has ≡ true
+    by true both = refl
+    by false both = absurd (false≢true both)
+
+-- a build that is over gave no child up
+over-none : (meaning : Meaning) (work : Work) (tasks : run.Tasks) (items : List Item) (old new : History)
+    → (state_of old).children ≡ [] → Makes work tasks (first_build work) items → Happened meaning items old new
+    → GivesUpLast items → IsOver work None (build_after_all work tasks (first_build work) items) → NoneLeft items
+over-none meaning work tasks items old new idle makes happens last over =
+    subst NoneLeft (sym last.are)
+    (none-left meaning work tasks (state_of old) idle last.front last.left last.late last.none last.left_are
+    last.late_are (subst (Makes work tasks (first_build work)) last.are makes)
+    (subst (λ l. MayHappen meaning (state_of old) (happened_all l)) last.are happens.lawful)
+    (subst (FitsAll meaning (state_of old)) last.are happens.fits)
+    (subst (λ l. run.IsOver (rules_of work) (build_after_all work tasks (first_build work) l).run) last.are over.over))
+
+-- a run of a sound clean build is ready
+sound-ready : (meaning : Meaning) (env : Env) (order : Order) (made : Made) (flags : Flags) (nodes : List PlanNode)
+    (tasks lines : run.Tasks) (items : List Item) (planned_at : Option History) (old planned_then new : History)
+    (files : Store) → planned_at ≡ Some planned_then → OnlyAsked meaning old planned_then
+    → planned files made flags.requested flags.query ≡ Ok nodes → AreDistinct (graph.names_of made.graph)
+    → Makes (work_on nodes made flags) tasks (first_build (work_on nodes made flags)) items
+    → Happened meaning items planned_then new → GivesUpLast items
+    → IsOver (work_on nodes made flags) None
+    (build_after_all (work_on nodes made flags) tasks (first_build (work_on nodes made flags)) items)
+    → IsSoundRun meaning env order planned_at (work_on nodes made flags) lines old
+    → IsReadyRun meaning env order planned_at (work_on nodes made flags) tasks old (work_on nodes made flags)
+sound-ready meaning env order made flags nodes tasks lines items planned_at old planned_then new files here asked is
+    differ makes happens last over ready = record {
+      lawful = ready.lawful;
+      idle = ready.idle;
+      truth = ready.truth;
+      asks = ready.asks;
+      mode = record {
+        by_records = ready.sound.mode.by_records;
+        compared = λ node is_made.
+            subst (AllByRecursion (λ (line : TaskLine). line.compared ≡ true))
+            (sym (same node (makes-has (node_at work.plan node) is_made))) (ready.sound.mode.compared node is_made);
+        none_ignored = ready.sound.mode.none_ignored;
+        no_meta_names = ready.sound.mode.no_meta_names;
+      };
+      alike = record {
+        planned = ready.planned;
+        plan = refl;
+        same_tasks = λ one among.
+            let its = ready.sound.tasks_are one among in (
+              its.asked,
+              subst (λ (l : List TaskLine). task_on work one.node one.before
+                  ≡ Ok (task_with work.variables work.mode.exports (node_at work.plan one.node).name l, its.asked))
+                  (sym (same-job one among)) its.task,
+            );
+      };
+      declared = declared-too work lines tasks (clean_jobs_of meaning work (bare work.plan (files_of old))) same-job
+          ready.sound.declared;
+    }
+  where
+    work : Work
+    work = work_on nodes made flags
+
+    leave : AllByRecursion LeavesFiles asked.run.events
+    leave = ready.asks asked.run.events (here ∙ ap (λ h. Some h) (sym (asked-history meaning old planned_then asked)))
+
+    start : files_of planned_then ≡ files_of old
+    start = asked-files meaning old planned_then asked leave
+
+    lawful : IsLawful meaning planned_then
+    lawful = runs_stay_lawful meaning old planned_then asked.run ready.lawful
+
+    idle : (state_of planned_then).children ≡ []
+    idle = ap (λ (s : Stand). s.children) (asked-state meaning old planned_then asked)
+        ∙ (questions-children (state_of old) asked.run.events asked.questions ∙ ready.idle)
+
+    truth : IsTrueHistory meaning.next planned_then
+    truth = subst (IsTrueHistory meaning.next) (asked-history meaning old planned_then asked)
+        (questions-keep-truth meaning old asked.run.events asked.questions leave ready.truth)
+
+    well : IsWellMade work
+    well = well-made files made flags nodes is differ
+
+    -- the nodes with jobs have the lines of the clean build
+    same : (node : ℕ) → has_job (node_at work.plan node) ≡ true → tasks node ≡ lines node
+    same node has =
+        have_clean_tasks meaning work lines tasks items planned_then new lawful idle truth well
+        (subst (IsSound meaning work lines) (sym start) ready.sound) makes happens
+        (over-none meaning work tasks items planned_then new idle makes happens last over) over.failed node has
+        (all-settled work tasks items well makes ready.room over node (job-has work node (job-among work node has)).0)
+
+    job-node : (ns : List ℕ) (store : Store) (one : CleanJob) → IsAmong one (jobs_on meaning work ns store)
+        → IsAmong one.node ns
+    job-node [] store one among = absurd among
+    job-node (n ∷ ns) store one (inl at) = inl (ap (λ (job : CleanJob). job.node) at)
+    job-node (n ∷ ns) store one (inr among) = inr (job-node ns (left_by meaning work n store) one among)
+
+    same-job : (one : CleanJob) → IsAmong one (clean_jobs_of meaning work (bare work.plan (files_of old)))
+        → tasks one.node ≡ lines one.node
+    same-job one among =
+        same one.node (job-has work one.node
+        (job-node (jobs_from 0 work.plan) (bare work.plan (files_of old)) one among)).1
+
+-- what follows the reading
+goes-sound : (meaning : Meaning) (env : Env) (order : Order) (meant : Meant) (end : End) (old read : History)
+    (first last : Point) (went : Went) (new : History) → OnlyAsked meaning old read → first.history ≡ Some read
+    → last.history ≡ Some new → (end ≡ Done → went.end ≡ Done) → (goes : Goes meaning meant first last went)
+    → LeavesClean meaning env order (built_in meaning meant first last went goes) end old new
+    → LeavesWhatIsSound meaning env order (built_in meaning meant first last went goes) end old new
+goes-sound meaning env order (only outcome) end old read first last went new asked at is well goes clean = tt
+goes-sound meaning env order (prints variables lists all) end old read first last went new asked at is well goes clean =
+    tt
+goes-sound meaning env order (explains made flags) end old read first last went new asked at is well goes clean = tt
+goes-sound meaning env order (queries made flags) end old read first last went new asked at is well goes clean = tt
+goes-sound meaning env order (shows made flags) end old read first last went new asked at is well (inl unplanned) clean =
+    tt
+goes-sound meaning env order (shows made flags) end old read first last went new asked at is well (inr shown) clean = tt
+goes-sound meaning env order (builds made flags) end old read first last went new asked at is well (inl unplanned)
+    clean = tt
+goes-sound meaning env order (builds made flags) end old read first last went new asked at is well (inr built) clean =
+    planned_from built.planned_at refl
+  where
+    work : Work
+    work = work_on built.nodes made flags
+    one : IsBuild meaning work (is_cut built.result) (moment built.planned_at first.out [])
+        (moment last.history last.out went.events) (StandsBy work built.result)
+    one = built.built.true_build.build
+    planned_from : (point_at : Option History) → built.planned_at ≡ point_at
+        → LeavesWhatIsSound meaning env order (Some (build built.planned_at work one.tasks one.items)) end old new
+    planned_from None here = absurd (told-before _ here is one.told)
+    planned_from (Some planned_then) here = λ done lines ready.
+        let looked = told-at _ at here built.planned in
+        clean done work
+        (sound-ready meaning env order made flags built.nodes one.tasks lines one.items built.planned_at old
+        planned_then new (files_of read) here
+        (asked-then meaning old read planned_then asked (looks-ask meaning read planned_then looked.0)) looked.1
+        built.names_differ one.makes (told-at _ here is one.told) one.gives_up
+        (subst (λ r. StandsBy work r (build_after_all work one.tasks (first_build work) one.items))
+        (done-build built.nodes built.result went.end (well done) built.end) one.stands) ready)
+
+follows-sound : (meaning : Meaning) (env : Env) (order : Order) (first last : Point) (err : Held)
+    (went : Went) (end : End) (old new : History) → first.history ≡ Some old → last.history ≡ Some new
+    → (end ≡ Done → went.end ≡ Done) → (does : Followed meaning env order first last err went)
+    → LeavesClean meaning env order
+    (built_in meaning (by_reading order does.read) (point does.read_at first.out) last went does.goes) end old new
+    → LeavesWhatIsSound meaning env order
+    (built_in meaning (by_reading order does.read) (point does.read_at first.out) last went does.goes) end old new
+follows-sound meaning env order first last err went end old new at is well does clean = read_from does.read_at refl
+  where
+    read_from : (read_at : Option History) → does.read_at ≡ read_at
+        → LeavesWhatIsSound meaning env order
+        (built_in meaning (by_reading order does.read) (point does.read_at first.out) last went does.goes) end old
+        new
+    read_from None here =
+        absurd (goes-told meaning (by_reading order does.read) (point does.read_at first.out) last went new here
+        is does.goes)
+    read_from (Some read_then) here =
+        goes-sound meaning env order (by_reading order does.read) end old read_then
+        (point does.read_at first.out) last went new
+        (questions-ask meaning does.reads.questions old read_then
+        (told-at (AreAsked meaning does.reads.questions) at here does.reads.asked)) here is well does.goes clean
+
+pub runs_leave_clean : SoundRunsLeaveClean
+runs_leave_clean meaning words env order first last err report run = by first.history last.history refl refl run.clean
+  where
+    by : (before after : Option History) → first.history ≡ before → last.history ≡ after
+        → Told before after (LeavesClean meaning env order (build_of run.run) report.end)
+        → Told before after (LeavesWhatIsSound meaning env order (build_of run.run) report.end)
+    by before None at is clean = tt
+    by None (Some new) at is clean = absurd clean
+    by (Some old) (Some new) at is clean =
+        follows-sound meaning env order first last (record { before = err.before; after = run.run.err_at }) run.run.went
+        report.end old new at is (done-before words run.run.went.end report.end _ run.run.closed) run.run.followed clean
+
+pub runs_leave_files : RunsLeaveCleanFiles
+runs_leave_files meaning words env order first last err report run old new planned_at work lines tasks items at is built
+    done ready node makes =
+    let left = subst (λ b. LeavesWhatIsSound meaning env order b report.end old new) built
+    (told-at (LeavesWhatIsSound meaning env order (build_of run.run) report.end) at is
+    (runs_leave_clean meaning words env order first last err report run)) done lines ready in
+    let cleared = bare work.plan (files_of old) in
+    let job = job-of meaning work (jobs_from 0 work.plan) cleared node
+    (job-among work node (makes-has (node_at work.plan node) makes)) in
+    subst (λ n. files_of new (node_at work.plan n).name ≡ clean_files_of meaning work cleared (node_at work.plan n).name)
+    job.2
+    (left.same job.0 job.1 (subst (λ n. makes_file (node_at work.plan n) ≡ true) (sym job.2) makes))

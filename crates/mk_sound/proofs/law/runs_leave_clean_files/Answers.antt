@@ -1,0 +1,5 @@
+use Rattle.mk_sound.proofs.RunLemmas.{runs_leave_files}
+use Rattle.mk_sound.proofs.law.runs_leave_clean_files.Goals as goal
+
+pub returns : goal.returns
+returns c = runs_leave_files

@@ -1,0 +1,20 @@
+//! What follows from the clean build.
+ghost use Rattle.mk_sound.specs.Sound.{BuildsHaveCleanTasks, RunsLeaveCleanFiles, SoundRunsLeaveClean};
+
+/// A build has the tasks of the clean build, in whatever order its jobs run and whatever it keeps, as far as nothing
+/// has failed.
+pub fn builds_have_clean_tasks()
+    ensures { BuildsHaveCleanTasks }
+{}
+
+/// A run that ends with all made leaves what the clean build leaves, where that is sound: what is asked of tasks is
+/// asked of the clean build alone.
+pub fn sound_runs_leave_clean()
+    ensures { SoundRunsLeaveClean }
+{}
+
+/// The theorem in one sentence: when a run has built all, and its clean build is sound, each made file that the requested
+/// targets need has the bytes that the clean build gives it.
+pub fn runs_leave_clean_files()
+    ensures { RunsLeaveCleanFiles }
+{}

@@ -1,0 +1,8 @@
+//! That what the theorem asks of a run may be asked of the clean build alone.
+//!
+//! No code stands here but the laws, each the contract of a function.
+#![tactic(auto)]
+
+mod law;
+
+pub use law::{builds_have_clean_tasks, runs_leave_clean_files, sound_runs_leave_clean};
