@@ -9,13 +9,15 @@ use Rattle.std.specs.Str.{bytes_eq}
 use Rattle.mk_depline.specs.Names.{is_among}
 use Rattle.mk_graph.specs.Nodes.{Node}
 use Rattle.mk_suffix.specs.Chains.{Suffixes, first_of, extended, first_found, chain_of}
-use Rattle.mk_suffix.specs.Chains.{placed_chain, with_source}
-use Rattle.mk_suffix.specs.Found.{is_there}
+use Rattle.mk_suffix.specs.Chains.{placed_chain, with_source, choice}
+use Rattle.mk_suffix.specs.Found.{Seeking, is_there, place_of}
+use Rattle.mk_suffix.specs.Names.{suffix_of, without_end}
 use Rattle.mk_suffix.specs.Extends.{Extends, IsHit, Found}
 use Rattle.mk_suffix.specs.Search.{Way, own_way, way_at, chains_of, reached, Leads, first_chains}
 use Rattle.mk_suffix.specs.Search.{is_source}
 use Rattle.mk_suffix.specs.SearchView.{way_of, made_by}
 use Rattle.mk_suffix.specs.declared.chain.Chain.{Chain}
+use Rattle.mk_world.specs.Deeds.{Store}
 use Rattle.mk_suffix.specs.declared.step.Hit.{Hit}
 use Rattle.mk_suffix.specs.declared.step.Step.{Step}
 use Rattle.mk_suffix.proofs.AmongLemmas.{among-head, same_bytes}
@@ -125,3 +127,12 @@ module _ (nodes : List Node) (known : List (List ℕ)) (own : List ℕ) where
   answer-none place base ways at behind leads none =
       ap (option_map (placed_chain place nodes base))
       (first_found-none (is_there place) base ways at behind leads none)
+
+-- the chain that is chosen for a name with a suffix
+pub choice-own : (files : Store) (nodes : List Node) (seeking : Seeking) (name own base : List ℕ)
+    (chain : Option Chain) → suffix_of seeking.suffixes name ≡ Some own → base ≡ without_end name own
+    → option_map (placed_chain (place_of files nodes seeking) nodes base)
+    (first_found (is_there (place_of files nodes seeking)) nodes seeking.suffixes base own) ≡ chain
+    → choice files nodes seeking name ≡ chain
+choice-own files nodes seeking name own base chain suffix_is base_is is =
+    rw suffix_is (rw base_is at is)

@@ -66,7 +66,7 @@ IsFor-placed nodes base way source chain made is =
         → length (source ∷ drop 1 (map (λ suffix. base ++ suffix) suffixes)) ≡ length way.rules + 1
     many [] as_many = absurd (omega (arith, as_many))
     many (suffix ∷ more) as_many =
-        ap suc (length-map (λ one. base ++ one) more) ∙ as_many
+        ap suc (length-map more (λ one. base ++ one)) ∙ as_many
 
 -- the first of several names is another one
 pub set_first : (names : List (List ℕ)) (source : List ℕ) → 0 < length names

@@ -171,5 +171,6 @@ pub fn resolve<W: World>(
     let Some(own) = suffix_of(rules.suffixes().as_slice(), name) else {
         return Ok(None);
     };
-    first_found(alloc, rules, without_end(name, own), own, world)
+    let chain = first_found(alloc, rules, without_end(name, own), own, world)?;
+    Ok(chain)
 }
