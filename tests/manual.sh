@@ -160,7 +160,7 @@ done
 count 'lines that are refused' "$wrong"
 wrong=''
 wanted=made
-for name in .PATH .OBJDIR .SHELL .MAKEFLAGS .POSIX .INTERRUPT .ERROR .STALE .Phony; do
+for name in .PATH.c .OBJDIR .SHELL .MAKEFLAGS .POSIX .INTERRUPT .ERROR .STALE .Phony; do
     printf '%s: x\nx:\nall:\n\t@echo made\n' "$name" >makefile
     refused all
     printf '%s:\nall:\n\t@echo made\n' "$name" >makefile

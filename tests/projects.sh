@@ -135,6 +135,10 @@ touch short.passed'
 project name=architectures edit='rm -f out.vax/size' \
     wanted='grep -c bits out.vax/config.h >out.vax/size'
 
+project name=directories edit='echo more >>common/text.txt' \
+    wanted='tr a-z A-Z <common/text.txt >text.upper
+cat title.upper text.upper common/license >book'
+
 project name=environment edit='echo c >>words' wanted='sort words >sorted.txt'
 
 project name=version edit='echo 1.5 >VERSION' \

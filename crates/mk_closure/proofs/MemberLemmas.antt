@@ -3,9 +3,9 @@ use Rattle.std.proofs.Common.{◌≡◌, ◌∙◌, ℕ, zero, suc, ◌+◌, ◌
 use Rattle.std.proofs.Common.{length, map, get_or, not, Option, Some, None, Result, Ok, Err, IfOk, refl, sym, ap, append_assoc, length-append, arith}
 use Rattle.std.proofs.lemmas.List.{append-nil, length-map}
 use Rattle.mk_closure.specs.Members.{is_planned, planned_of, numbers_in, number_onto, numbers_from}
-use Rattle.mk_closure.specs.Members.{preds_in, all_preds, sources_in}
+use Rattle.mk_closure.specs.Members.{preds_in, all_preds, sources_in, stands_for}
 use Rattle.mk_closure.specs.Names.{number_in}
-use Rattle.mk_closure.specs.Parts.{State, part_at, open_part, is_dropped_way}
+use Rattle.mk_closure.specs.Parts.{State, part_at, open_part, is_left_out_way}
 use Rattle.mk_closure.specs.declared.part.Part.{Part}
 use Rattle.mk_graph.specs.Nodes.{node_at}
 use Rattle.mk_graph.specs.Numbers.{AreBelow, EachBelow}
@@ -79,7 +79,7 @@ planned_of-below s (n ∷ nodes) = one (is_planned s n) refl (planned_of-below s
     one true is others =
         rw is (
           met-below s.parts n
-              (left-true (part_at s n).met (not (is_dropped_way (part_at s n).way)) is),
+              (left-true (part_at s n).met (not (is_left_out_way (part_at s n).way)) is),
           others,
         )
     one false is others = rw is others
@@ -100,8 +100,9 @@ pub all_preds-below : (s : State) (numbers : List ℕ)
     → EachBelow (length s.parts) (map (preds_in s) numbers)
 all_preds-below s [] = tt
 all_preds-below s (n ∷ numbers) = (
-  AreBelow-append (length s.parts) (planned_of s (sources_in s n))
-      (planned_of s (node_at s.nodes n).ordered) (planned_of-below s (sources_in s n))
+  AreBelow-append (length s.parts) (planned_of s (map (stands_for s) (sources_in s n)))
+      (planned_of s (node_at s.nodes n).ordered)
+      (planned_of-below s (map (stands_for s) (sources_in s n)))
       (planned_of-below s (node_at s.nodes n).ordered),
   all_preds-below s numbers,
 )

@@ -9,7 +9,7 @@ use Rattle.std.specs.List.{position_or_len}
 use Rattle.std.specs.Str.{bytes_eq}
 use Rattle.mk_bytes.specs.Agrees.{◌>>=◌}
 use Rattle.mk_closure.specs.ClosureLaws.{all_names, IsNamed, ClosuresAreNamed}
-use Rattle.mk_closure.specs.Deciding.{Walk, linked_to, linked, missing, decided, has_default, is_optional}
+use Rattle.mk_closure.specs.Deciding.{Walk, linked_to, linked, placed, missing, decided, has_default, is_optional}
 use Rattle.mk_closure.specs.Means.{means_of}
 use Rattle.mk_closure.specs.Members.{sources_in}
 use Rattle.mk_closure.specs.Names.{or_behind, number_in, name_in, numbered_as, numbered, is_frame}
@@ -21,12 +21,13 @@ use Rattle.mk_closure.specs.declared.means.Means.{Means}
 use Rattle.mk_closure.specs.declared.means.Means.TheVariants as mean
 use Rattle.mk_closure.specs.declared.part.Part.{Part}
 use Rattle.mk_closure.specs.declared.part.Way.{Way}
-use Rattle.mk_closure.specs.declared.part.Way.TheVariants.{Open, Own, Rule, Default, Dropped}
+use Rattle.mk_closure.specs.declared.part.Way.TheVariants.{Open, Own, Rule, Placed, Default, Dropped}
 use Rattle.mk_graph.specs.Nodes.{Node, names_of, node_at, number_of}
 use Rattle.mk_pool.proofs.PoolLemmas.{AreDistinct-append}
 use Rattle.mk_pool.specs.Pool.{AreDistinct, is_held}
 use Rattle.mk_pool.specs.declared.pool.TheConstants.{MAX_NAMES}
 use Rattle.mk_suffix.specs.declared.chain.Chain.{Chain}
+use Rattle.mk_suffix.specs.Found.{Seeking}
 use Rattle.mk_world.specs.Deeds.{Store}
 
 -- one step behind another
@@ -220,20 +221,31 @@ named-missing nodes s n later is named =
     (λ drops made. let same : with_way s n Dropped ≡ later = cc in
     subst (IsNamed nodes) same (named-way nodes s n Dropped named)) (λ needs made. cc) given) is
 
+named-placed : (nodes : List Node) (s : State) (n : ℕ) (place : List ℕ) (later : State)
+    → placed s n place ≡ Ok later → IsNamed nodes s → IsNamed nodes later
+named-placed nodes s n place later is named =
+    both_ok (numbered s place) (λ one. Ok (with_way one.0 n (Placed one.1))) later
+    (IsNamed nodes later) is
+    (λ one here rest.
+    let same : with_way one.0 n (Placed one.1) ≡ later = cc in
+    subst (IsNamed nodes) same
+    (named-way nodes one.0 n (Placed one.1) (named-numbered nodes s place one here named)))
+
 named-decided : (nodes : List Node) (s : State) (n : ℕ) (means : Means) (later : State)
     → decided s n means ≡ Ok later → IsNamed nodes s → IsNamed nodes later
 named-decided nodes s n mean.Own later is named =
     let same : with_way s n Own ≡ later = cc in subst (IsNamed nodes) same (named-way nodes s n Own named)
 named-decided nodes s n (mean.Chained chain) later is named =
     named-linked nodes s n chain (length chain.rules) later is named
+named-decided nodes s n (mean.Placed place) later is named = named-placed nodes s n place later is named
 named-decided nodes s n mean.Missing later is named = named-missing nodes s n later is named
 
-named-entered : (files : Store) (suffixes : List (List ℕ)) (nodes : List Node) (s : State) (n : ℕ)
-    (later : State) → entered files suffixes s n ≡ Ok later → is_frame (name_in s n) ≡ false
+named-entered : (files : Store) (seeking : Seeking) (nodes : List Node) (s : State) (n : ℕ)
+    (later : State) → entered files seeking s n ≡ Ok later → is_frame (name_in s n) ≡ false
     → IsNamed nodes s → IsNamed nodes later
-named-entered files suffixes nodes s n later is inner named =
+named-entered files seeking nodes s n later is inner named =
     let met = named-part nodes s n (record { way = (part_at s n).way; met = true }) (λ _. inner) named in
-    let means = means_of files s.nodes suffixes (name_in s n) n in
+    let means = means_of files s.nodes seeking (name_in s n) n in
     cond_both (is_open s n) (decided (with_met s n) n means) (Ok (with_met s n))
     (λ (r : Walk). r ≡ Ok later → IsNamed nodes later)
     (λ opened given. named-decided nodes (with_met s n) n means later given met)
@@ -317,7 +329,7 @@ named-first nodes distinct =
     }
 
 pub closures_named : ClosuresAreNamed
-closures_named files nodes suffixes wanted s distinct is =
-    named-all nodes (entered files suffixes) (first_state nodes) wanted s
-    (λ one n later here inner known. named-entered files suffixes nodes one n later here inner known) is
+closures_named files nodes seeking wanted s distinct is =
+    named-all nodes (entered files seeking) (first_state nodes) wanted s
+    (λ one n later here inner known. named-entered files seeking nodes one n later here inner known) is
     (named-first nodes distinct)

@@ -15,7 +15,7 @@ use Rattle.mk_bytes.specs.Agrees.{◌>>=◌}
 use Rattle.mk_closure.proofs.NamedLemmas.{both_ok, none-passes, number-none, part-pushed, get-front, neither, or-right-false, part-below, none-met}
 use Rattle.mk_closure.proofs.PartLemmas.{met_count-same, met_count-more, met_count-push, met_count-le}
 use Rattle.mk_closure.specs.ClosureLaws.{IsNeeded, by_name, as_source, ClosuresAreNeeded}
-use Rattle.mk_closure.specs.Deciding.{Walk, linked_to, linked, missing, decided, has_default, is_optional}
+use Rattle.mk_closure.specs.Deciding.{Walk, linked_to, linked, placed, missing, decided, has_default, is_optional}
 use Rattle.mk_closure.specs.Means.{means_of, means_by, chain_for, has_commands, is_phony}
 use Rattle.mk_closure.specs.Members.{sources_in, sources_by}
 use Rattle.mk_closure.specs.Names.{or_behind, number_in, name_in, numbered_as, numbered, is_frame}
@@ -27,14 +27,14 @@ use Rattle.mk_closure.specs.declared.means.Means.{Means}
 use Rattle.mk_closure.specs.declared.means.Means.TheVariants as mean
 use Rattle.mk_closure.specs.declared.part.Part.{Part}
 use Rattle.mk_closure.specs.declared.part.Way.{Way}
-use Rattle.mk_closure.specs.declared.part.Way.TheVariants.{Open, Own, Rule, Default, Dropped}
+use Rattle.mk_closure.specs.declared.part.Way.TheVariants.{Open, Own, Rule, Placed, Default, Dropped}
 use Rattle.mk_graph.specs.Nodes.{Node, IsGraph, AreLinked, names_of, node_at, number_of, new_node}
 use Rattle.mk_graph.specs.Numbers.{AreBelow}
 use Rattle.mk_graph.specs.Walks.{is_among}
 use Rattle.mk_pool.specs.Pool.{is_held}
 use Rattle.mk_pool.specs.declared.pool.TheConstants.{MAX_NAMES}
-use Rattle.mk_suffix.specs.Chains.{Suffixes, extended, all_extended, chains_to, rules_of, chain_of, first_found, choice_at, choice, may_precede, first_of}
-use Rattle.mk_suffix.specs.Found.{is_found}
+use Rattle.mk_suffix.specs.Chains.{Suffixes, extended, all_extended, chains_to, rules_of, chain_of, with_source, placed_chain, first_found, choice_at, choice, may_precede, first_of}
+use Rattle.mk_suffix.specs.Found.{Seeking, is_there, place_of}
 use Rattle.mk_suffix.specs.Names.{suffix_of, without_end}
 use Rattle.mk_suffix.specs.declared.chain.Chain.{Chain}
 use Rattle.mk_world.specs.Deeds.{Store}
@@ -96,53 +96,65 @@ some-rules nodes [] long = absurd (omega (arith, long))
 some-rules nodes (from ∷ []) long = absurd (omega (arith, long))
 some-rules nodes (from ∷ to ∷ more) long = omega arith
 
-chosen-rules : (nodes : List Node) (base : List ℕ) (found : Option Suffixes) (chain : Chain)
-    → ((one : Suffixes) → found ≡ Some one → 2 ≤ length one)
-    → option_map (chain_of nodes base) found ≡ Some chain → 0 < length chain.rules
-chosen-rules nodes base None chain long is = cc
-chosen-rules nodes base (Some one) chain long is =
-    let same : chain_of nodes base one ≡ chain = cc in
-    subst (λ (c : Chain). 0 < length c.rules) same (some-rules nodes one (long one refl))
+placed-rules : (source : Option (List ℕ)) (chain : Chain) → 0 < length chain.rules
+    → 0 < length (with_source source chain).rules
+placed-rules None chain some = some
+placed-rules (Some source) chain some = some
 
-choice-at-rules : (found : List ℕ → Bool) (nodes : List Node) (known : List (List ℕ)) (name : List ℕ)
-    (own : Option (List ℕ)) (chain : Chain) → choice_at found nodes known name own ≡ Some chain
+chosen-rules : (place : List ℕ → Option (List ℕ)) (nodes : List Node) (base : List ℕ)
+    (found : Option Suffixes) (chain : Chain)
+    → ((one : Suffixes) → found ≡ Some one → 2 ≤ length one)
+    → option_map (placed_chain place nodes base) found ≡ Some chain → 0 < length chain.rules
+chosen-rules place nodes base None chain long is = cc
+chosen-rules place nodes base (Some one) chain long is =
+    let same : placed_chain place nodes base one ≡ chain = cc in
+    subst (λ (c : Chain). 0 < length c.rules) same
+    (placed-rules (place (base ++ first_of one)) (chain_of nodes base one)
+    (some-rules nodes one (long one refl)))
+
+choice-at-rules : (place : List ℕ → Option (List ℕ)) (nodes : List Node) (known : List (List ℕ)) (name : List ℕ)
+    (own : Option (List ℕ)) (chain : Chain) → choice_at place nodes known name own ≡ Some chain
     → 0 < length chain.rules
-choice-at-rules found nodes known name None chain is = cc
-choice-at-rules found nodes known name (Some own) chain is =
+choice-at-rules place nodes known name None chain is = cc
+choice-at-rules place nodes known name (Some own) chain is =
     let base = without_end name own in
-    chosen-rules nodes base (first_found found nodes known base own) chain
-    (λ one found_is. long-found (λ c. found (base ++ first_of c)) (chains_to nodes known own) one
+    chosen-rules place nodes base (first_found (is_there place) nodes known base own) chain
+    (λ one found_is. long-found (λ c. is_there place (base ++ first_of c)) (chains_to nodes known own) one
     (long-all (length known) nodes known ((own ∷ []) ∷ []) (omega arith, tt)) found_is) is
 
-choice-rules : (files : Store) (nodes : List Node) (known : List (List ℕ)) (name : List ℕ)
-    (chain : Chain) → choice files nodes known name ≡ Some chain → 0 < length chain.rules
-choice-rules files nodes known name chain is =
-    choice-at-rules (is_found files nodes) nodes known name (suffix_of known name) chain is
+choice-rules : (files : Store) (nodes : List Node) (seeking : Seeking) (name : List ℕ)
+    (chain : Chain) → choice files nodes seeking name ≡ Some chain → 0 < length chain.rules
+choice-rules files nodes seeking name chain is =
+    choice-at-rules (place_of files nodes seeking) nodes seeking.suffixes name
+    (suffix_of seeking.suffixes name) chain is
 
 -- what a node is made with has a rule, where it is a chain
 HasRule : Means → Type 0
 HasRule mean.Own = Unit {0}
 HasRule (mean.Chained chain) = 0 < length chain.rules
+HasRule (mean.Placed place) = Unit {0}
 HasRule mean.Missing = Unit {0}
 
-means-rule : (found : Bool) (chain : Option Chain)
-    → ((one : Chain) → chain ≡ Some one → 0 < length one.rules) → HasRule (means_by found chain)
+means-rule : (name : List ℕ) (place : Option (List ℕ)) (chain : Option Chain)
+    → ((one : Chain) → chain ≡ Some one → 0 < length one.rules) → HasRule (means_by name place chain)
 unfolding HasRule
-means-rule found (Some chain) has = has chain refl
-means-rule true None has = tt
-means-rule false None has = tt
+means-rule name place (Some chain) has = has chain refl
+means-rule name None None has = tt
+means-rule name (Some place) None has =
+    cond_both (bytes_eq place name) mean.Own (mean.Placed place) HasRule (λ _. tt) (λ _. tt)
 
-means_of-rule : (files : Store) (nodes : List Node) (suffixes : List (List ℕ)) (name : List ℕ) (n : ℕ)
-    → HasRule (means_of files nodes suffixes name n)
+means_of-rule : (files : Store) (nodes : List Node) (seeking : Seeking) (name : List ℕ) (n : ℕ)
+    → HasRule (means_of files nodes seeking name n)
 unfolding HasRule
-means_of-rule files nodes suffixes name n =
-    let chain = chain_for files nodes suffixes name n in
-    cond_both (has_commands nodes n) mean.Own (means_by (is_found files nodes name) chain) HasRule
+means_of-rule files nodes seeking name n =
+    let chain = chain_for files nodes seeking name n in
+    let place = place_of files nodes seeking name in
+    cond_both (has_commands nodes n) mean.Own (means_by name place chain) HasRule
     (λ _. tt)
-    (λ _. means-rule (is_found files nodes name) chain
-    (λ one is. cond_both (is_phony nodes n) None (choice files nodes suffixes name)
+    (λ _. means-rule name place chain
+    (λ one is. cond_both (is_phony nodes n) None (choice files nodes seeking name)
     (λ r. r ≡ Some one → 0 < length one.rules) (λ _ given. cc)
-    (λ _ given. choice-rules files nodes suffixes name one given) is))
+    (λ _ given. choice-rules files nodes seeking name one given) is))
 
 -- a state behind another: what was there, was decided and was met stays so
 
@@ -250,6 +262,7 @@ abbrev WayBelow : ℕ → Way → Type 0
 WayBelow bound Open = Unit {0}
 WayBelow bound Own = Unit {0}
 WayBelow bound (Rule rule source) = source < bound
+WayBelow bound (Placed place) = place < bound
 WayBelow bound Default = Unit {0}
 WayBelow bound Dropped = Unit {0}
 
@@ -264,6 +277,7 @@ way-more : (bound larger : ℕ) (way : Way) → bound ≤ larger → WayBelow bo
 way-more bound larger Open le below = tt
 way-more bound larger Own le below = tt
 way-more bound larger (Rule rule source) le below = omega (arith, le, below)
+way-more bound larger (Placed place) le below = omega (arith, le, below)
 way-more bound larger Default le below = tt
 way-more bound larger Dropped le below = tt
 
@@ -573,6 +587,22 @@ linked-step nodes but s n chain (suc links) later is less sound =
       λ some. subst (λ one. is_open one n ≡ false) same shut,
     )) is
 
+placed-step : (nodes : List Node) (but : ℕ → Type 0) (s : State) (n : ℕ) (place : List ℕ)
+    (later : State) → placed s n place ≡ Ok later → is_open s n ≡ true → n < length s.parts
+    → IsSound nodes but s → IsStep nodes but s later × (is_open later n ≡ false)
+placed-step nodes but s n place later is opened less sound =
+    both_ok (numbered s place) (λ one. Ok (with_way one.0 n (Placed one.1))) later
+    (IsStep nodes but s later × (is_open later n ≡ false)) is
+    (λ one here rest.
+    let same : with_way one.0 n (Placed one.1) ≡ later = cc in
+    let number = numbered-is nodes but s place one here sound in
+    let long = number.step.longer.long in
+    let still : is_open one.0 n ≡ true = ap (λ (p : Part). is_open_way p.way) (number.same n) ∙ opened in
+    let way = way-step nodes but one.0 n (Placed one.1) still refl (omega (arith, less, long))
+    number.within number.step.sound in
+    subst (λ x. IsStep nodes but s x × (is_open x n ≡ false)) same
+    (step-then nodes but s one.0 (with_way one.0 n (Placed one.1)) number.step way.0, way.1))
+
 decided-step : (nodes : List Node) (but : ℕ → Type 0) (s : State) (n : ℕ) (means : Means)
     (later : State) → decided s n means ≡ Ok later → HasRule means → is_open s n ≡ true
     → n < length s.parts → IsSound nodes but s
@@ -585,6 +615,8 @@ decided-step nodes but s n mean.Own later is has opened less sound =
 decided-step nodes but s n (mean.Chained chain) later is has opened less sound =
     let step = linked-step nodes but s n chain (length chain.rules) later is less sound in
     (step.0, step.1 has)
+decided-step nodes but s n (mean.Placed place) later is has opened less sound =
+    placed-step nodes but s n place later is opened less sound
 decided-step nodes but s n mean.Missing later is has opened less sound =
     let Goal = IsStep nodes but s later × (is_open later n ≡ false) in
     let other = if is_optional s.nodes n then Ok (with_way s n Dropped) else Err (NoRule (name_in s n)) in
@@ -685,19 +717,19 @@ entered-by nodes s later n first step shut = record {
   count = step.count ∙ first.count;
 }
 
-entered-is : (files : Store) (suffixes : List (List ℕ)) (nodes : List Node) (s : State) (n : ℕ)
-    (later : State) → entered files suffixes s n ≡ Ok later → n < length s.parts
+entered-is : (files : Store) (seeking : Seeking) (nodes : List Node) (s : State) (n : ℕ)
+    (later : State) → entered files seeking s n ≡ Ok later → n < length s.parts
     → (part_at s n).met ≡ false → IsSound nodes (λ m. ⊥) s → IsEntered nodes s later n
-entered-is files suffixes nodes s n later is less fresh sound =
+entered-is files seeking nodes s n later is less fresh sound =
     let first = met-first nodes s n less fresh sound in
-    let means = means_of files s.nodes suffixes (name_in s n) n in
+    let means = means_of files s.nodes seeking (name_in s n) n in
     let still : is_open (with_met s n) n ≡ is_open s n = ap (λ (p : Part). is_open_way p.way) first.here in
     cond_both (is_open s n) (decided (with_met s n) n means) (Ok (with_met s n))
     (λ (r : Walk). r ≡ Ok later → IsEntered nodes s later n)
     (λ opened given.
     let long = first.longer.long in
     let step = decided-step nodes (λ m. m ≡ n) (with_met s n) n means later given
-    (means_of-rule files s.nodes suffixes (name_in s n) n) (still ∙ opened) (omega (arith, less, long))
+    (means_of-rule files s.nodes seeking (name_in s n) n) (still ∙ opened) (omega (arith, less, long))
     first.sound in
     entered-by nodes s later n first step.0 step.1)
     (λ shut given.
@@ -733,6 +765,7 @@ way-sources bound own (Rule rule source) m below way among =
       | inl front ↦ below-among bound own m below front
       | inr last ↦ below-among bound (source ∷ []) m (way, tt) last
     ]
+way-sources bound own (Placed place) m below way among = below-among bound (place ∷ []) m (way, tt) among
 way-sources bound own Default m below way among = below-among bound own m below among
 way-sources bound own Dropped m below way among = absurd (false≢true among)
 
@@ -1151,11 +1184,11 @@ needed-met nodes wanted s last n all shut (as_source {n = maker} needed among in
     ]
 
 pub closures_needed : ClosuresAreNeeded
-closures_needed files nodes suffixes wanted last graph is n =
+closures_needed files nodes seeking wanted last graph is n =
     let first = first_state nodes in
-    let all = all-wanted nodes wanted (entered files suffixes) first wanted last graph
+    let all = all-wanted nodes wanted (entered files seeking) first wanted last graph
     (λ one k later here less fresh sound.
-    entered-is files suffixes nodes one k later here less fresh sound)
+    entered-is files seeking nodes one k later here less fresh sound)
     (λ name has. has) is (first-sound nodes graph) in
     let shut = all.closes (λ one m met among. absurd (none-met (length nodes) one met)) in (
       (λ met. all.needed last (longer-none last) (λ m early. absurd (none-met (length nodes) m early)) n met),

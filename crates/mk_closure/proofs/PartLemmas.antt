@@ -9,7 +9,7 @@ use Rattle.mk_graph.specs.Nodes.{Node}
 use Rattle.mk_pool.specs.declared.pool.TheConstants.{MAX_NAMES}
 use Rattle.mk_closure.specs.declared.part.Part.{Part}
 use Rattle.mk_closure.specs.declared.part.Way.{Way}
-use Rattle.mk_closure.specs.declared.part.Way.TheVariants.{Open, Own, Rule, Default, Dropped}
+use Rattle.mk_closure.specs.declared.part.Way.TheVariants.{Open, Own, Rule, Placed, Default, Dropped}
 
 -- no part is made at first
 pub AreMade-first : (rules names count : ℕ) → AreMade rules names (replicate count open_part)
@@ -22,6 +22,7 @@ IsMade-more : (rules names more : ℕ) (way : Way) → names ≤ more → IsMade
 IsMade-more rules names more Open less made = tt
 IsMade-more rules names more Own less made = tt
 IsMade-more rules names more (Rule rule source) less made = (made.0, omega (arith, made.1))
+IsMade-more rules names more (Placed place) less made = omega (arith, made)
 IsMade-more rules names more Default less made = tt
 IsMade-more rules names more Dropped less made = tt
 

@@ -20,6 +20,7 @@ use Rattle.mk_graph.specs.Numbers.{AreBelow}
 use Rattle.mk_pool.specs.declared.pool.TheConstants.{MAX_NAMES}
 use Rattle.mk_suffix.proofs.LookLemmas.{OnLooks-map}
 use Rattle.mk_world.specs.Looks.{OnLooks}
+use Rattle.mk_suffix.specs.Found.{Seeking}
 use Rattle.mk_world.specs.Deeds.{Store}
 use Rattle.mk_world.specs.declared.history.History.{History}
 
@@ -174,12 +175,12 @@ HasCause-own (Err fault) count own = record {
 }
 
 -- a node that is met by what there is to make it with
-pub entered-means : (files : Store) (suffixes : List (List ℕ)) (s : State) (n : ℕ)
+pub entered-means : (files : Store) (seeking : Seeking) (s : State) (n : ℕ)
     (nodes : List Node) (name : List ℕ) (means : Means) → nodes ≡ s.nodes → name ≡ name_in s n
-    → is_open s n ≡ true → means_of files nodes suffixes name n ≡ means
-    → entered files suffixes s n ≡ decided (with_met s n) n means
-entered-means files suffixes s n nodes name means nodes_is name_is opened is =
-    let same : means_of files s.nodes suffixes (name_in s n) n ≡ means =
-    sym (ap (λ x. means_of files x suffixes (name_in s n) n) nodes_is)
-    ∙ (sym (ap (λ x. means_of files nodes suffixes x n) name_is) ∙ is) in
+    → is_open s n ≡ true → means_of files nodes seeking name n ≡ means
+    → entered files seeking s n ≡ decided (with_met s n) n means
+entered-means files seeking s n nodes name means nodes_is name_is opened is =
+    let same : means_of files s.nodes seeking (name_in s n) n ≡ means =
+    sym (ap (λ x. means_of files x seeking (name_in s n) n) nodes_is)
+    ∙ (sym (ap (λ x. means_of files nodes seeking x n) name_is) ∙ is) in
     rw opened (ap (decided (with_met s n) n) same)

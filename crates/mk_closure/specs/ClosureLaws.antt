@@ -8,6 +8,7 @@ use Rattle.mk_closure.specs.Walks.{closed}
 use Rattle.mk_graph.specs.Nodes.{Node, IsGraph, names_of}
 use Rattle.mk_graph.specs.Walks.{is_among}
 use Rattle.mk_pool.specs.Pool.{AreDistinct}
+use Rattle.mk_suffix.specs.Found.{Seeking}
 use Rattle.mk_world.specs.Deeds.{Store}
 
 -- the names of the graph's nodes, and behind them those that were added
@@ -25,11 +26,11 @@ pub record IsNamed (nodes : List Node) (s : State) : Type 0 where
 -- Each closure of a graph with distinct names is so.
 abbrev pub ClosuresAreNamed : Type 0
 ClosuresAreNamed =
-    (files : Store) (nodes : List Node) (suffixes wanted : List (List ℕ)) (s : State)
-    → AreDistinct (names_of nodes) → closed files nodes suffixes wanted ≡ Ok s → IsNamed nodes s
+    (files : Store) (nodes : List Node) (seeking : Seeking) (wanted : List (List ℕ)) (s : State)
+    → AreDistinct (names_of nodes) → closed files nodes seeking wanted ≡ Ok s → IsNamed nodes s
 
--- A node is needed where its name is wanted, or where it is a source of one that is needed; but not
--- what stands around a build.
+-- A node is needed where its name is wanted, or where it is a source of one that is needed, or where it
+-- stands for one; but not what stands around a build.
 pub data IsNeeded (s : State) (wanted : List (List ℕ)) : ℕ → Type 0 where
   by_name : {n : ℕ} (name : List ℕ) → Contains wanted name → is_frame name ≡ false
       → number_in s name ≡ Some n → IsNeeded s wanted n
@@ -39,6 +40,6 @@ pub data IsNeeded (s : State) (wanted : List (List ℕ)) : ℕ → Type 0 where
 -- The nodes that a closure has met are exactly those that are needed.
 abbrev pub ClosuresAreNeeded : Type 0
 ClosuresAreNeeded =
-    (files : Store) (nodes : List Node) (suffixes wanted : List (List ℕ)) (s : State)
-    → IsGraph nodes → closed files nodes suffixes wanted ≡ Ok s
+    (files : Store) (nodes : List Node) (seeking : Seeking) (wanted : List (List ℕ)) (s : State)
+    → IsGraph nodes → closed files nodes seeking wanted ≡ Ok s
     → (n : ℕ) → ((part_at s n).met ≡ true) ↔ IsNeeded s wanted n

@@ -9,7 +9,7 @@ use Rattle.mk_closure.specs.declared.fault.CloseFault.{CloseFault}
 use Rattle.mk_closure.specs.declared.fault.CloseFault.TheVariants.{NoRule}
 use Rattle.mk_closure.specs.declared.means.Means.{Means}
 use Rattle.mk_closure.specs.declared.means.Means.TheVariants as mean
-use Rattle.mk_closure.specs.declared.part.Way.TheVariants.{Own, Rule, Default, Dropped}
+use Rattle.mk_closure.specs.declared.part.Way.TheVariants.{Own, Rule, Placed, Default, Dropped}
 use Rattle.mk_graph.specs.Marks.{has}
 use Rattle.mk_graph.specs.Nodes.{Node, node_at, number_of}
 use Rattle.mk_graph.specs.declared.attr.Attr.TheVariants.{Optional}
@@ -52,8 +52,13 @@ missing s n =
     else (if is_optional s.nodes n then Ok (with_way s n Dropped)
     else Err (NoRule (name_in s n)))
 
+-- the node of its place stands for a node
+abbrev pub placed : State → ℕ → List ℕ → Walk
+placed s n place = numbered s place >>= λ found. Ok (with_way found.0 n (Placed found.1))
+
 -- a node is made by what there is
 abbrev pub decided : State → ℕ → Means → Walk
 decided s n mean.Own = Ok (with_way s n Own)
 decided s n (mean.Chained chain) = linked s n chain (length chain.rules)
+decided s n (mean.Placed place) = placed s n place
 decided s n mean.Missing = missing s n

@@ -3,7 +3,7 @@ use Rattle.std.specs.Prelude.{◌≡◌, ℕ, ◌+◌, ◌<◌, ◌≤◌, Bool,
 use Rattle.std.specs.Prelude.{length, get_or, set, replicate, if◌then◌else◌}
 use Rattle.mk_closure.specs.declared.part.Part.{Part}
 use Rattle.mk_closure.specs.declared.part.Way.{Way}
-use Rattle.mk_closure.specs.declared.part.Way.TheVariants.{Open, Own, Rule, Default, Dropped}
+use Rattle.mk_closure.specs.declared.part.Way.TheVariants.{Open, Own, Rule, Placed, Default, Dropped}
 use Rattle.mk_graph.specs.Nodes.{Node}
 use Rattle.mk_pool.specs.declared.pool.TheConstants.{MAX_NAMES}
 
@@ -28,15 +28,18 @@ abbrev pub is_open_way : Way → Bool
 is_open_way Open = true
 is_open_way Own = false
 is_open_way (Rule rule source) = false
+is_open_way (Placed place) = false
 is_open_way Default = false
 is_open_way Dropped = false
 
-abbrev pub is_dropped_way : Way → Bool
-is_dropped_way Open = false
-is_dropped_way Own = false
-is_dropped_way (Rule rule source) = false
-is_dropped_way Default = false
-is_dropped_way Dropped = true
+-- whether a node is not made itself: it is dropped, or another one stands for it
+abbrev pub is_left_out_way : Way → Bool
+is_left_out_way Open = false
+is_left_out_way Own = false
+is_left_out_way (Rule rule source) = false
+is_left_out_way (Placed place) = true
+is_left_out_way Default = false
+is_left_out_way Dropped = true
 
 -- whether nothing was decided of a node
 abbrev pub is_open : State → ℕ → Bool
@@ -67,11 +70,12 @@ abbrev pub met_count : List Part → ℕ
 met_count [] = 0
 met_count (part ∷ parts) = (if part.met then 1 else 0) + met_count parts
 
--- a rule is a node, and its source a name
+-- a rule is a node, and its source a name, as the place of a name is
 abbrev pub IsMade : ℕ → ℕ → Way → Type 0
 IsMade rules names Open = Unit {0}
 IsMade rules names Own = Unit {0}
 IsMade rules names (Rule rule source) = (rule < rules) × (source < names)
+IsMade rules names (Placed place) = place < names
 IsMade rules names Default = Unit {0}
 IsMade rules names Dropped = Unit {0}
 

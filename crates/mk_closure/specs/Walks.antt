@@ -7,14 +7,15 @@ use Rattle.mk_closure.specs.Members.{sources_in}
 use Rattle.mk_closure.specs.Names.{name_in, numbered, is_frame}
 use Rattle.mk_closure.specs.Parts.{State, part_at, first_state, is_open, with_met, met_count}
 use Rattle.mk_graph.specs.Nodes.{Node}
+use Rattle.mk_suffix.specs.Found.{Seeking}
 use Rattle.mk_pool.specs.declared.pool.TheConstants.{MAX_NAMES}
 use Rattle.mk_world.specs.Deeds.{Store}
 
 -- A node is met, and decided where nothing was decided of it.
-abbrev pub entered : Store → List (List ℕ) → State → ℕ → Walk
-entered files suffixes s n =
+abbrev pub entered : Store → Seeking → State → ℕ → Walk
+entered files seeking s n =
     if is_open s n
-    then decided (with_met s n) n (means_of files s.nodes suffixes (name_in s n) n)
+    then decided (with_met s n) n (means_of files s.nodes seeking (name_in s n) n)
     else Ok (with_met s n)
 
 -- whether a walk passes over a node: it was met, or stands around the build
@@ -53,5 +54,5 @@ all_met enter s [] = Ok s
 all_met enter s (name ∷ more) = wanted_met enter s name >>= λ later. all_met enter later more
 
 -- The closure of wanted names in a graph on these files, or the first refusal.
-abbrev pub closed : Store → List Node → List (List ℕ) → List (List ℕ) → Walk
-closed files nodes suffixes wanted = all_met (entered files suffixes) (first_state nodes) wanted
+abbrev pub closed : Store → List Node → Seeking → List (List ℕ) → Walk
+closed files nodes seeking wanted = all_met (entered files seeking) (first_state nodes) wanted

@@ -47,16 +47,16 @@ impl Way {
     {
         match self {
             Way::Open => true,
-            Way::Own | Way::Rule(_, _) | Way::Default | Way::Dropped => false,
+            Way::Own | Way::Rule(_, _) | Way::Placed(_) | Way::Default | Way::Dropped => false,
         }
     }
 
-    /// Whether the node is not made at all.
-    pub fn is_dropped(self) -> bool
-        ensures { result ≡ spec.is_dropped_way self }
+    /// Whether the node is not made itself: it is dropped, or another one stands for it.
+    pub fn is_left_out(self) -> bool
+        ensures { result ≡ spec.is_left_out_way self }
     {
         match self {
-            Way::Dropped => true,
+            Way::Placed(_) | Way::Dropped => true,
             Way::Open | Way::Own | Way::Rule(_, _) | Way::Default => false,
         }
     }

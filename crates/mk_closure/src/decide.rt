@@ -80,6 +80,20 @@ impl<'g> Closure<'g> {
         Ok(())
     }
 
+    // Lets the node of a place stand for a node.
+    fn stand_at(&mut self, n: u32, place: &[u8]) -> Result<(), CloseFault>
+        requires { n < length self.old.parts }
+        ensures placed { OnOk result (spec.placed self.old n place.now ≡ Ok self.new) }
+        ensures refused { IfErr result (λ fault.
+            IsRefusedBy fault (spec.placed self.old n place.now)) }
+        ensures own { IfErr result IsOwn }
+        ensures grown { OnOk result (IsGrown self.old self.new) }
+    {
+        let found = self.number(place)?;
+        self.make(n, Way::Placed(found));
+        Ok(())
+    }
+
     // Decides of a node that nothing else makes.
     fn miss(&mut self, alloc: Global, n: u32) -> Result<(), CloseFault>
         requires within { n < length self.old.parts }
@@ -115,6 +129,7 @@ impl<'g> Closure<'g> {
                 Ok(())
             }
             Means::Chained(chain) => self.link(n, &chain),
+            Means::Placed(place) => self.stand_at(n, place.bytes()),
             Means::Missing => self.miss(alloc, n),
         }
     }

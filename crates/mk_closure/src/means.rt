@@ -1,5 +1,5 @@
 //! What there is to make a node with.
-ghost use Rattle.std.specs.Prelude.{◌≡◌, [], IfOk, IfErr, IfSome, OnErr};
+ghost use Rattle.std.specs.Prelude.{◌≡◌, [], None, IfOk, IfErr, IfSome, OnErr};
 ghost use Rattle.mk_closure.specs.Faults.{IsOutside};
 ghost use Rattle.mk_closure.specs.Made.{HasChain};
 ghost use Rattle.mk_closure.specs.Means as spec;
@@ -10,8 +10,9 @@ ghost use Rattle.mk_suffix.specs.declared.fault.SuffixFault.TheVariants.{Failed 
 ghost use Rattle.mk_world.specs.Causes.{HasCause};
 
 use crate::fault::CloseFault;
+use mk_bytes::Text;
 use mk_graph::{Attr, Graph};
-use mk_suffix::{Chain, SuffixFault, SuffixRules, is_found, resolve};
+use mk_suffix::{Chain, SuffixFault, SuffixRules, place_of, resolve};
 use mk_world::World;
 use std::alloc::Global;
 
@@ -22,6 +23,8 @@ pub enum Means {
     Own,
     /// A chain of suffix rules.
     Chained(Chain),
+    /// The node of this name, where a file stands.
+    Placed(Text),
     /// Nothing.
     Missing,
 }
@@ -48,7 +51,7 @@ fn chain_for<W: World>(
 ) -> Result<Option<Chain>, SuffixFault>
     requires idle { W.runs world.old [] }
     ensures told { IfOk result (λ chain. OnLooks (W.history world.old) (W.history world.new)
-        (λ files. spec.chain_for files rules.now.nodes rules.now.suffixes name.now n ≡ chain)) }
+        (λ files. spec.chain_for files rules.now.nodes rules.now.seeking name.now n ≡ chain)) }
     ensures made { IfOk result (λ chain. IfSome chain (IsFor rules.now.nodes)) }
     ensures refused { OnErr result (OnlyLooked (W.history world.old) (W.history world.new)) }
     ensures cause { HasCause suffix_failed (W.faults world.old) (W.faults world.new) result }
@@ -58,6 +61,21 @@ fn chain_for<W: World>(
         return Ok(None);
     }
     resolve(alloc, rules, name, world)
+}
+
+// What there is to make a name with that no chain makes, by its place.
+fn means_by(name: &[u8], place: Option<Text>) -> Means
+    ensures { result ≡ spec.means_by name.now place None }
+{
+    match place {
+        Some(place) => {
+            if place.bytes() == name {
+                return Means::Own;
+            }
+            Means::Placed(place)
+        }
+        None => Means::Missing,
+    }
 }
 
 /// What there is to make a node of this name with.
@@ -70,7 +88,7 @@ pub fn means_of<W: World>(
 ) -> Result<Means, CloseFault>
     requires idle { W.runs world.old [] }
     ensures told { IfOk result (λ means. OnLooks (W.history world.old) (W.history world.new)
-        (λ files. spec.means_of files rules.now.nodes rules.now.suffixes name.now n ≡ means)) }
+        (λ files. spec.means_of files rules.now.nodes rules.now.seeking name.now n ≡ means)) }
     ensures made { IfOk result (HasChain rules.now.nodes) }
     ensures refused { OnErr result (OnlyLooked (W.history world.old) (W.history world.new)) }
     ensures outside { IfErr result IsOutside }
@@ -83,8 +101,6 @@ pub fn means_of<W: World>(
     if let Some(chain) = chain_for(alloc, rules, name, n, world)? {
         return Ok(Means::Chained(chain));
     }
-    if is_found(alloc, rules.graph(), name, world)? {
-        return Ok(Means::Own);
-    }
-    Ok(Means::Missing)
+    let place = place_of(alloc, rules, name, world)?;
+    Ok(means_by(name, place))
 }

@@ -12,7 +12,7 @@ use mk_graph::{Graph, Marks, Nodes, Preds};
 use std::alloc::Global;
 
 /// The sources of a node as they stand, without a copy: those that the makefiles give it, and behind them
-/// that of a rule.
+/// that of a rule; or the node of the place that stands for it.
 #[derive(Clone, Copy)]
 pub struct Sources<'g> {
     pub own: &'g [u32],
@@ -71,6 +71,10 @@ impl<'g> Closure<'g> {
                 own: self.own_sources(n),
                 of_rule: Some(source),
             },
+            Way::Placed(place) => Sources {
+                own: &[],
+                of_rule: Some(place),
+            },
             Way::Dropped => Sources {
                 own: &[],
                 of_rule: None,
@@ -88,7 +92,22 @@ impl<'g> Closure<'g> {
         &[]
     }
 
-    /// Whether a node is planned: it was met, and is not dropped.
+    /// The node that stands for a node: that of its place where it has another one, and else the node
+    /// itself. Takes no memory.
+    pub fn stand_in(&self, n: u32) -> u32
+        ensures value { result ≡ spec.stands_for self.now n }
+        ensures within { n < length self.now.parts → result < length self.now.parts }
+    {
+        if (n as usize) >= self.len() {
+            return n;
+        }
+        match self.part(n).way {
+            Way::Placed(place) => place,
+            Way::Open | Way::Own | Way::Rule(_, _) | Way::Default | Way::Dropped => n,
+        }
+    }
+
+    /// Whether a node is planned: it was met, is not dropped, and no other one stands for it.
     pub fn is_planned(&self, n: u32) -> bool
         ensures { result ≡ spec.is_planned self.now n }
     {
@@ -96,7 +115,7 @@ impl<'g> Closure<'g> {
             return false;
         }
         let part = self.part(n);
-        part.met && !part.way.is_dropped()
+        part.met && !part.way.is_left_out()
     }
 
     // Adds a node if it is planned.
@@ -119,19 +138,29 @@ impl<'g> Closure<'g> {
         Ok(())
     }
 
-    // Adds those of a node's sources that are planned.
+    // Adds what is planned for several nodes.
+    fn add_sourced(&self, planned: &mut Nodes, nodes: &[u32]) -> Result<(), NoMemory>
+        ensures { OnOk result (planned.new ≡ planned.old ++ spec.sourced_of self.now nodes.now) }
+    {
+        for n in nodes {
+            self.add_if_planned(planned, self.stand_in(*n))?;
+        }
+        Ok(())
+    }
+
+    // Adds what is planned for a node's sources.
     fn add_sources(&self, planned: &mut Nodes, sources: Sources<'g>) -> Result<(), NoMemory>
         ensures { OnOk result (planned.new
-            ≡ planned.old ++ spec.planned_of self.now (spec.listed sources.entry)) }
+            ≡ planned.old ++ spec.sourced_of self.now (spec.listed sources.entry)) }
     {
-        self.add_planned(planned, sources.own)?;
+        self.add_sourced(planned, sources.own)?;
         match sources.of_rule {
-            Some(source) => self.add_if_planned(planned, source),
+            Some(source) => self.add_if_planned(planned, self.stand_in(source)),
             None => Ok(()),
         }
     }
 
-    // The predecessors of a node: its sources that are planned, and then the planned nodes that are
+    // The predecessors of a node: what is planned for its sources, and then the planned nodes that are
     // ordered before it.
     fn preds(&self, alloc: Global, n: u32) -> Result<Nodes, NoMemory>
         requires { n < length self.now.parts }
@@ -178,13 +207,13 @@ impl<'g> Closure<'g> {
         Ok(numbers)
     }
 
-    /// Those of the wanted names that are planned.
+    /// What is planned for the wanted names.
     pub fn roots(&self, alloc: Global, wanted: &[Text]) -> Result<Nodes, NoMemory>
         ensures value { IfOk result (λ nodes. nodes ≡ spec.roots self.now wanted.now) }
         ensures below { IfOk result (AreBelow (length self.now.parts)) }
     {
         let mut planned = Items::new(alloc, 0)?;
-        self.add_planned(&mut planned, self.numbers(alloc, wanted)?.as_slice())?;
+        self.add_sourced(&mut planned, self.numbers(alloc, wanted)?.as_slice())?;
         Ok(planned)
     }
 
@@ -194,7 +223,7 @@ impl<'g> Closure<'g> {
         ensures { result.now ≡ spec.commands_in self.now n }
     {
         let maker = match self.part(n).way {
-            Way::Open | Way::Own | Way::Dropped => n,
+            Way::Open | Way::Own | Way::Placed(_) | Way::Dropped => n,
             Way::Rule(rule, _) => rule,
             Way::Default => default_of(self.graph()),
         };
@@ -210,8 +239,8 @@ impl<'g> Closure<'g> {
         ensures { result.now ≡ spec.implied_in self.now n }
     {
         match self.part(n).way {
-            Way::Open | Way::Own | Way::Dropped => b"",
-            Way::Rule(_, source) => self.name(source),
+            Way::Open | Way::Own | Way::Placed(_) | Way::Dropped => b"",
+            Way::Rule(_, source) => self.name(self.stand_in(source)),
             Way::Default => self.name(n),
         }
     }

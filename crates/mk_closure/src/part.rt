@@ -7,6 +7,8 @@ pub enum Way {
     Own,
     /// By the commands of the first node, a rule, from the second, which is its last source.
     Rule(u32, u32),
+    /// It is not made: the node of its place stands for it.
+    Placed(u32),
     /// By the commands of `.DEFAULT`.
     Default,
     /// There is no way to make it, and it is optional.

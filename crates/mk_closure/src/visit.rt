@@ -8,6 +8,7 @@ ghost use Rattle.mk_closure.specs.Steps as steps;
 ghost use Rattle.mk_closure.specs.Walks as spec;
 ghost use Rattle.mk_closure.specs.declared.fault.CloseFault.TheVariants.{Failed as failed};
 ghost use Rattle.mk_graph.specs.Numbers.{AreBelow};
+ghost use Rattle.mk_suffix.specs.Found.{seeking_in};
 ghost use Rattle.mk_world.specs.Looks.{OnLooks};
 ghost use Rattle.mk_world.specs.Causes.{HasCause};
 
@@ -72,9 +73,9 @@ impl<'g> Closure<'g> {
         requires new { (part_at self.old n).met ≡ false }
         requires idle { W.runs world.old [] }
         ensures entered { IfOk result (λ _. OnLooks (W.history world.old) (W.history world.new)
-            (λ files. spec.entered files rules.now.suffixes self.old n ≡ Ok self.new)) }
+            (λ files. spec.entered files rules.now.seeking self.old n ≡ Ok self.new)) }
         ensures refused { IfErr result (λ fault. OnLooks (W.history world.old) (W.history world.new)
-            (λ files. IsRefusedBy fault (spec.entered files rules.now.suffixes self.old n))) }
+            (λ files. IsRefusedBy fault (spec.entered files rules.now.seeking self.old n))) }
         ensures met { OnOk result (steps.IsMet self.old self.new) }
         ensures cause { HasCause failed (W.faults world.old) (W.faults world.new) result }
         ensures idle { W.runs world.new [] }
@@ -110,10 +111,10 @@ impl<'g> Closure<'g> {
         requires below { AreBelow (length self.old.parts) todo.old.items }
         requires idle { W.runs world.old [] }
         ensures leads { IfOk result (λ _. OnLooks (W.history world.old) (W.history world.new)
-            (λ files. steps.Leads (spec.entered files rules.now.suffixes)
+            (λ files. steps.Leads (spec.entered files rules.now.seeking)
             self.old (n ∷ reverse todo.old.items) self.new (reverse todo.new.items))) }
         ensures refused { IfErr result (λ fault. OnLooks (W.history world.old) (W.history world.new)
-            (λ files. IsRefusedBy fault (spec.walk (spec.entered files rules.now.suffixes)
+            (λ files. IsRefusedBy fault (spec.walk (spec.entered files rules.now.seeking)
             self.old (n ∷ reverse todo.old.items)))) }
         ensures nodes { OnOk result (self.new.nodes ≡ self.old.nodes) }
         ensures below { OnOk result (AreBelow (length self.new.parts) todo.new.items) }
@@ -142,11 +143,11 @@ impl<'g> Closure<'g> {
         requires within { from < length self.old.parts }
         requires idle { W.runs world.old [] }
         ensures walked { IfOk result (λ _. OnLooks (W.history world.old) (W.history world.new)
-            (λ files. spec.walk (spec.entered files rules.now.suffixes) self.old (from ∷ [])
+            (λ files. spec.walk (spec.entered files rules.now.seeking) self.old (from ∷ [])
             ≡ Ok self.new)) }
         ensures refused { IfErr result (λ fault. OnLooks (W.history world.old) (W.history world.new)
             (λ files. IsRefusedBy fault
-            (spec.walk (spec.entered files rules.now.suffixes) self.old (from ∷ [])))) }
+            (spec.walk (spec.entered files rules.now.seeking) self.old (from ∷ [])))) }
         ensures nodes { OnOk result (self.new.nodes ≡ self.old.nodes) }
         ensures cause { HasCause failed (W.faults world.old) (W.faults world.new) result }
         ensures idle { W.runs world.new [] }
@@ -169,11 +170,11 @@ impl<'g> Closure<'g> {
         requires same { rules.now.nodes ≡ self.old.nodes }
         requires idle { W.runs world.old [] }
         ensures met { IfOk result (λ _. OnLooks (W.history world.old) (W.history world.new)
-            (λ files. spec.wanted_met (spec.entered files rules.now.suffixes) self.old name.now
+            (λ files. spec.wanted_met (spec.entered files rules.now.seeking) self.old name.now
             ≡ Ok self.new)) }
         ensures refused { IfErr result (λ fault. OnLooks (W.history world.old) (W.history world.new)
             (λ files. IsRefusedBy fault
-            (spec.wanted_met (spec.entered files rules.now.suffixes) self.old name.now))) }
+            (spec.wanted_met (spec.entered files rules.now.seeking) self.old name.now))) }
         ensures nodes { OnOk result (self.new.nodes ≡ self.old.nodes) }
         ensures cause { HasCause failed (W.faults world.old) (W.faults world.new) result }
         ensures idle { W.runs world.new [] }
@@ -196,11 +197,11 @@ impl<'g> Closure<'g> {
         requires same { rules.now.nodes ≡ self.old.nodes }
         requires idle { W.runs world.old [] }
         ensures met { IfOk result (λ _. OnLooks (W.history world.old) (W.history world.new)
-            (λ files. spec.all_met (spec.entered files rules.now.suffixes) self.old wanted.now
+            (λ files. spec.all_met (spec.entered files rules.now.seeking) self.old wanted.now
             ≡ Ok self.new)) }
         ensures refused { IfErr result (λ fault. OnLooks (W.history world.old) (W.history world.new)
             (λ files. IsRefusedBy fault
-            (spec.all_met (spec.entered files rules.now.suffixes) self.old wanted.now))) }
+            (spec.all_met (spec.entered files rules.now.seeking) self.old wanted.now))) }
         ensures cause { HasCause failed (W.faults world.old) (W.faults world.new) result }
         ensures idle { W.runs world.new [] }
     {
@@ -211,15 +212,17 @@ impl<'g> Closure<'g> {
     }
 }
 
-/// The closure of wanted names in a graph.
+/// The closure of wanted names in a graph, where sources are made by rules between these suffixes, sought
+/// in the directories `paths`, and named from the directory `cwd`.
 ///
 /// Names are met in order, each before its sources and these before the next one; a name is met
 /// once, and added to those of the graph where it is new. `.BEGIN` and `.END` are passed over. A node
 /// without commands that is not phony is made by the chosen chain of suffix rules, if there is one:
 /// each step gives its rule's commands to a name and adds its source as the last one, and a name for
-/// which that was decided before stays as it is, with those before it. A node without commands and
-/// chain that is no target and has no file takes the commands of `.DEFAULT`; where that has none, it is
-/// dropped if it is optional, and else it is refused.
+/// which that was decided before stays as it is, with those before it. For a node without commands and
+/// chain that is no target and has no file, but a place in a directory that is searched, the node of the
+/// place stands, which is met behind it. One without a place takes the commands of `.DEFAULT`; where that
+/// has none, it is dropped if it is optional, and else it is refused.
 ///
 /// `NoRule` is the first such name, and `Full` comes exactly where a 1,048,577th name would be added
 /// before. `Failed` comes only where the world's count of faults rose or is at its end.
@@ -227,18 +230,22 @@ pub fn close<'g, W: World>(
     alloc: Global,
     graph: &'g Graph,
     suffixes: &Texts,
+    paths: &Texts,
+    cwd: &[u8],
     wanted: &[Text],
     world: &mut W,
 ) -> Result<Closure<'g>, CloseFault>
     requires idle { W.runs world.old [] }
     ensures closed { IfOk result (λ closure. OnLooks (W.history world.old) (W.history world.new)
-        (λ files. spec.closed files graph.now suffixes.now wanted.now ≡ Ok closure)) }
+        (λ files. spec.closed files graph.now (seeking_in suffixes.now paths.now cwd.now) wanted.now
+        ≡ Ok closure)) }
     ensures refused { IfErr result (λ fault. OnLooks (W.history world.old) (W.history world.new)
-        (λ files. IsRefusedBy fault (spec.closed files graph.now suffixes.now wanted.now))) }
+        (λ files. IsRefusedBy fault
+        (spec.closed files graph.now (seeking_in suffixes.now paths.now cwd.now) wanted.now))) }
     ensures cause { HasCause failed (W.faults world.old) (W.faults world.new) result }
     ensures idle { W.runs world.new [] }
 {
-    let rules = SuffixRules::new(alloc, graph, suffixes)?;
+    let rules = SuffixRules::new(alloc, graph, suffixes, paths, cwd)?;
     let mut closure = Closure::new(alloc, graph)?;
     closure.want_all(alloc, &rules, wanted, world)?;
     Ok(closure)

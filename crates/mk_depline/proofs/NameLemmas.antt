@@ -26,8 +26,8 @@ names-among (one ∷ paths) path all is =
 abbrev specials : List (List ℕ)
 specials =
     codes ".MAIN" ∷ codes ".BEGIN" ∷ codes ".END" ∷ codes ".DEFAULT" ∷ codes ".ORDER"
-    ∷ codes ".SUFFIXES" ∷ codes ".NOTPARALLEL" ∷ codes ".DELETE_ON_ERROR" ∷ codes ".PHONY"
-    ∷ codes ".PRECIOUS" ∷ codes ".SILENT" ∷ codes ".IGNORE" ∷ []
+    ∷ codes ".SUFFIXES" ∷ codes ".PATH" ∷ codes ".NOTPARALLEL" ∷ codes ".DELETE_ON_ERROR"
+    ∷ codes ".PHONY" ∷ codes ".PRECIOUS" ∷ codes ".SILENT" ∷ codes ".IGNORE" ∷ []
 
 some-or : {A : Type 0} (found : Bool) (one : A) (others : Option A)
     → is_some (cond found (Some one) others) ≡ (found || is_some others)

@@ -4,7 +4,7 @@ use Rattle.std.specs.Str.{bytes_eq}
 pub use Rattle.mk_bytes.specs.Texts.{is_among}
 use Rattle.mk_depline.specs.declared.name.Special.{Special}
 use Rattle.mk_depline.specs.declared.name.Special.TheVariants.{Main, Begin, End, Default, Order}
-use Rattle.mk_depline.specs.declared.name.Special.TheVariants.{Suffixes, NotParallel, DeleteOnError}
+use Rattle.mk_depline.specs.declared.name.Special.TheVariants.{Suffixes, Path, NotParallel, DeleteOnError}
 use Rattle.mk_depline.specs.declared.name.Special.TheVariants.{Phony, Precious, Silent, Ignore}
 
 -- the attributes of sources; `.WAIT`, which parts them, counts among these
@@ -26,10 +26,11 @@ special_named name =
     else (if bytes_eq name (codes ".DEFAULT") then Some Default
     else (if bytes_eq name (codes ".ORDER") then Some Order
     else (if bytes_eq name (codes ".SUFFIXES") then Some Suffixes
+    else (if bytes_eq name (codes ".PATH") then Some Path
     else (if bytes_eq name (codes ".NOTPARALLEL") then Some NotParallel
     else (if bytes_eq name (codes ".DELETE_ON_ERROR") then Some DeleteOnError
     else (if bytes_eq name (codes ".PHONY") then Some Phony
     else (if bytes_eq name (codes ".PRECIOUS") then Some Precious
     else (if bytes_eq name (codes ".SILENT") then Some Silent
     else (if bytes_eq name (codes ".IGNORE") then Some Ignore
-    else None)))))))))))
+    else None))))))))))))

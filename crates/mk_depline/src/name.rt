@@ -19,6 +19,8 @@ pub enum Special {
     Order,
     /// `.SUFFIXES`: its sources are suffixes.
     Suffixes,
+    /// `.PATH`: its sources are directories that are searched for files.
+    Path,
     /// `.NOTPARALLEL`: one job.
     NotParallel,
     /// `.DELETE_ON_ERROR`: the target of a failed job is removed.
@@ -95,6 +97,9 @@ fn dotted_special(name: &[u8]) -> Option<Special>
     }
     if name == b".SUFFIXES".as_slice() {
         return Some(Special::Suffixes);
+    }
+    if name == b".PATH".as_slice() {
+        return Some(Special::Path);
     }
     if name == b".NOTPARALLEL".as_slice() {
         return Some(Special::NotParallel);

@@ -119,6 +119,7 @@ made = record {
       }
       ∷ record { name = codes "a"; sources = []; ordered = []; commands = []; marks = no_marks } ∷ [];
   suffixes = [];
+  paths = [];
   main = codes "t" ∷ [];
   mode = record {
     meta = true;

@@ -30,6 +30,8 @@ pub struct Made {
     pub graph: Graph,
     /// The known suffixes, in their order.
     pub suffixes: Texts,
+    /// The directories that are searched for files, clean, in their order.
+    pub paths: Texts,
     /// What is made where no name is requested.
     pub main: Texts,
     pub mode: Mode,

@@ -41,6 +41,7 @@ made_of draft mode finished = record {
   scopes = draft.scopes;
   graph = finished.graph;
   suffixes = finished.suffixes;
+  paths = finished.paths;
   main = finished.main;
   mode = mode;
 }

@@ -81,6 +81,7 @@ pub fn made_of(draft: Draft, mode: Mode) -> Result<Made, ReadFault>
             scopes: draft.scopes,
             graph: finished.graph,
             suffixes: finished.suffixes,
+            paths: finished.paths,
             main: finished.main,
             mode,
         }),

@@ -10,9 +10,9 @@ use Rattle.mk_bytes.specs.Agrees.{◌>>=◌}
 use Rattle.mk_closure.proofs.MemberLemmas.{planned_of-below, all_preds-below, all_preds-length}
 use Rattle.mk_closure.proofs.NamedLemmas.{closures_named}
 use Rattle.mk_closure.specs.ClosureLaws.{IsNamed, all_names}
-use Rattle.mk_closure.specs.Members.{sources_in, planned_of, preds_in, all_preds, roots, numbers_from, numbers_in, is_planned}
+use Rattle.mk_closure.specs.Members.{sources_in, planned_of, sourced_of, stands_for, preds_in, all_preds, roots, numbers_from, numbers_in, is_planned}
 use Rattle.mk_closure.specs.Names.{name_in, is_frame}
-use Rattle.mk_closure.specs.Parts.{State, part_at, is_dropped_way}
+use Rattle.mk_closure.specs.Parts.{State, part_at, is_left_out_way}
 use Rattle.mk_closure.specs.Walks.{closed}
 use Rattle.mk_closure.specs.declared.fault.CloseFault.{CloseFault}
 use Rattle.mk_graph.proofs.WholeLemmas.{orders_whole}
@@ -26,7 +26,7 @@ use Rattle.mk_graph.specs.declared.walk.Ordered.{Ordered}
 use Rattle.mk_graph.specs.declared.walk.Ordered.TheVariants as walk
 use Rattle.mk_plan.proofs.PlanLemmas.{map-append, preds_of-is}
 use Rattle.mk_plan.specs.PlanLaws.{plan_names, all_sources, DependenceGoesBack, PlansAreSourced, IsReached, PlansAreReached, PlannedNamesDiffer}
-use Rattle.mk_plan.specs.Plans.{wanted, as_plan, order_by, order_of, place_from, plan_node, inner_nodes, frame_node, frame_commands, first_nodes, nodes_of, plan_of, named_plan, is_behind, are_ordered, has_its_sources, are_sourced}
+use Rattle.mk_plan.specs.Plans.{wanted, seeking_of, as_plan, order_by, order_of, place_from, plan_node, inner_nodes, frame_node, frame_commands, first_nodes, nodes_of, plan_of, named_plan, is_behind, are_ordered, has_its_sources, are_sourced}
 use Rattle.mk_plan.specs.declared.fault.PlanFault.{PlanFault}
 use Rattle.mk_plan.specs.declared.plan.PlanNode.{PlanNode}
 use Rattle.mk_pool.specs.Pool.{AreDistinct}
@@ -109,11 +109,11 @@ all-among first second (one ∷ places) each =
 node-sourced : (s : State) (place : ℕ → ℕ) (first n : ℕ)
     → has_its_sources (plan_node s place first n) ≡ true
 node-sourced s place first n =
-    let own = map place (planned_of s (sources_in s n)) in
+    let own = map place (sourced_of s (sources_in s n)) in
     let other = map place (planned_of s (node_at s.nodes n).ordered) in
     let is : map place (preds_in s n) ++ numbers_from 0 first ≡ own ++ (other ++ numbers_from 0 first) =
     ap (λ l. l ++ numbers_from 0 first)
-    (map-append place (planned_of s (sources_in s n)) (planned_of s (node_at s.nodes n).ordered))
+    (map-append place (sourced_of s (sources_in s n)) (planned_of s (node_at s.nodes n).ordered))
     ∙ append_assoc own other (numbers_from 0 first) in
     subst (λ before. list_all (is_among before) own ≡ true) (sym is)
     (all-among own (other ++ numbers_from 0 first) own (λ one among. among))
@@ -177,20 +177,20 @@ plan-reached s query names nodes is =
       whole = orders_whole (all_preds s) (roots s names) step.0
           (subst (λ k. EachBelow k (all_preds s)) (sym long)
           (all_preds-below s (numbers_from 0 (length s.parts))))
-          (subst (λ k. AreBelow k (roots s names)) (sym long) (planned_of-below s (numbers_in s names)))
+          (subst (λ k. AreBelow k (roots s names)) (sym long) (planned_of-below s (map (stands_for s) (numbers_in s names))))
           walked;
       nodes_are = sym same;
     }
 
 reached-by : (files : Store) (made : Made) (query : Bool) (names : List (List ℕ))
     (nodes : List PlanNode) → named_plan files made query names ≡ Ok nodes
-    → (s : State) × (closed files made.graph made.suffixes names ≡ Ok s) × IsReached s names query nodes
+    → (s : State) × (closed files made.graph (seeking_of made) names ≡ Ok s) × IsReached s names query nodes
 reached-by files made query [] nodes is = cc
 reached-by files made query (name ∷ more) nodes is =
-    let step = ok-then (as_plan (closed files made.graph made.suffixes (name ∷ more)))
+    let step = ok-then (as_plan (closed files made.graph (seeking_of made) (name ∷ more)))
     (λ s. plan_of query (name ∷ more) s) nodes is in (
       step.0,
-      as_plan-ok (closed files made.graph made.suffixes (name ∷ more)) step.0 step.1,
+      as_plan-ok (closed files made.graph (seeking_of made) (name ∷ more)) step.0 step.1,
       plan-reached step.0 query (name ∷ more) nodes step.2,
     )
 
@@ -316,14 +316,14 @@ append-among a b n among =
 
 reached-planned : (s : State) (names : List (List ℕ)) (n : ℕ)
     → Reaches (all_preds s) (roots s names) n → is_planned s n ≡ true
-reached-planned s names n (given among) = planned-among s (numbers_in s names) n among
+reached-planned s names n (given among) = planned-among s (map (stands_for s) (numbers_in s names)) n among
 reached-planned s names n (behind {n = last} reached among) = elim (cases_lt last (length s.parts)) [
   | inl less ↦
       let here : is_among (preds_in s last) n ≡ true =
       subst (λ l. is_among l n ≡ true) (preds_of-is s last less) among in
-      elim (append-among (planned_of s (sources_in s last)) (planned_of s (node_at s.nodes last).ordered) n
+      elim (append-among (sourced_of s (sources_in s last)) (planned_of s (node_at s.nodes last).ordered) n
       here) [
-        | inl source ↦ planned-among s (sources_in s last) n source
+        | inl source ↦ planned-among s (map (stands_for s) (sources_in s last)) n source
         | inr ordered ↦ planned-among s (node_at s.nodes last).ordered n ordered
       ]
   | inr past ↦
@@ -339,7 +339,7 @@ frame-none : (s : State) (nodes : List Node) (names : List (List ℕ)) (order : 
 frame-none s nodes names order j named whole less =
     let n = get_or order j 0 in
     let planned_is = reached-planned s names n ((whole.reached n).0 (among-at order j less)) in
-    named.inner n (first-true (part_at s n).met (not (is_dropped_way (part_at s n).way)) planned_is)
+    named.inner n (first-true (part_at s n).met (not (is_left_out_way (part_at s n).way)) planned_is)
 
 no-frame : (frame name : List ℕ) → is_frame frame ≡ true → is_frame name ≡ false → frame ≢ name
 no-frame frame name is other same =
@@ -406,7 +406,7 @@ all-distinct s nodes names query order named whole =
 pub names_differ : PlannedNamesDiffer
 names_differ files made requested query nodes distinct is =
     let got = plans_reached files made requested query nodes is in
-    let named = closures_named files made.graph made.suffixes (wanted requested made.main) got.0 distinct
+    let named = closures_named files made.graph (seeking_of made) (wanted requested made.main) got.0 distinct
     got.1 in
     subst (λ l. AreDistinct (plan_names l)) (sym got.2.nodes_are)
     (all-distinct got.0 made.graph (wanted requested made.main) query got.2.order named got.2.whole)

@@ -8,7 +8,7 @@ use Rattle.std.proofs.lemmas.Grind.{common_steps}
 use Rattle.std.proofs.lemmas.List.{length-reverse, reverse-append, get_or-set_same, get_or-set_other}
 use Rattle.std.proofs.Math.Seq.{drop-cons}
 use Rattle.mk_closure.proofs.MemberLemmas.{AreBelow-append, all_preds-length, planned_of-append}
-use Rattle.mk_closure.specs.Members.{preds_in, all_preds, numbers_from, planned_of, sources_in}
+use Rattle.mk_closure.specs.Members.{preds_in, all_preds, numbers_from, planned_of, sourced_of, sources_in}
 use Rattle.mk_closure.specs.Parts.{State}
 use Rattle.mk_graph.specs.Numbers.{AreBelow}
 use Rattle.mk_graph.specs.Orders.{AreAmong, AreBehind, IsOrder}
@@ -193,7 +193,7 @@ map-same p q same (n ∷ nodes) = rw (same n, map-same p q same nodes) refl
 pub plan_node-same : (s : State) (p q : ℕ → ℕ) (first n : ℕ) → ((m : ℕ) → p m ≡ q m)
     → plan_node s p first n ≡ plan_node s q first n
 plan_node-same s p q first n same =
-    rw (map-same p q same (planned_of s (sources_in s n)), map-same p q same (preds_in s n)) refl
+    rw (map-same p q same (sourced_of s (sources_in s n)), map-same p q same (preds_in s n)) refl
 
 pub plan_nodes-same : (s : State) (p q : ℕ → ℕ) (first : ℕ) → ((m : ℕ) → p m ≡ q m)
     → (nodes : List ℕ) → map (plan_node s p first) nodes ≡ map (plan_node s q first) nodes

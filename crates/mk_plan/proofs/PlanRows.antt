@@ -9,6 +9,7 @@ use Rattle.mk_graph.specs.Walks.{visited, all_visited}
 use Rattle.mk_graph.specs.declared.attr.Attr.TheVariants.{Rule, Target, Phony, Optional}
 use Rattle.mk_graph.specs.declared.attr.Marks.{Marks}
 use Rattle.mk_suffix.specs.Chains.{all_extended}
+use Rattle.mk_suffix.specs.Found.{seeking_in}
 use Rattle.mk_world.specs.Deeds.{Store, put}
 use Rattle.mk_plan.specs.Plans.{as_plan, plan_of}
 use Rattle.mk_plan.specs.declared.fault.PlanFault.{PlanFault}
@@ -34,11 +35,16 @@ abbrev files : List (List ℕ) → Store
 files [] = λ path. None
 files (path ∷ more) = put (files more) (record { path = path; bytes = Some [] })
 
--- the plan of these names with these nodes, where these are the files
-abbrev plan : List Node → List (List ℕ) → Bool → List (List ℕ) → Result (List PlanNode) PlanFault
-plan nodes paths query names =
-    as_plan (closed (files paths) nodes (codes ".o" ∷ codes ".c" ∷ codes ".y" ∷ []) names)
+-- the plan of these names with these nodes, where these directories are searched and these are the files
+abbrev plan_in : List (List ℕ) → List Node → List (List ℕ) → Bool → List (List ℕ)
+    → Result (List PlanNode) PlanFault
+plan_in dirs nodes paths query names =
+    as_plan (closed (files paths) nodes
+    (seeking_in (codes ".o" ∷ codes ".c" ∷ codes ".y" ∷ []) dirs (codes "/w")) names)
     >>= λ s. plan_of query names s
+
+abbrev plan : List Node → List (List ℕ) → Bool → List (List ℕ) → Result (List PlanNode) PlanFault
+plan nodes paths query names = plan_in [] nodes paths query names
 
 abbrev planned_node : List ℕ → List ℕ → List ℕ → List (List ℕ) → List ℕ → Marks → PlanNode
 planned_node name sources before commands implied marks = record {
@@ -113,3 +119,23 @@ frame_alone : plan (node (codes ".BEGIN") [] (codes "b" ∷ []) target ∷ []) [
     ≡ Ok (planned_node (codes ".BEGIN") [] [] (codes "b" ∷ []) [] (marked no_marks Phony) ∷ [])
 unfolding all_extended linked walked all_met visited all_visited
 frame_alone = refl
+
+abbrev target_behind : List ℕ → List ℕ → Node
+target_behind name others = record {
+  name = name;
+  sources = [];
+  ordered = others;
+  commands = [];
+  marks = target;
+}
+
+-- the node of a place stands for a source, and an order of the old name is lost
+by_place : plan_in (codes "src" ∷ [])
+    (node (codes "t") (1 ∷ []) [] target ∷ node (codes "q") [] [] no_marks
+    ∷ target_behind (codes "r") (1 ∷ []) ∷ [])
+    (codes "src/q" ∷ []) false (codes "t" ∷ codes "r" ∷ [])
+    ≡ Ok (planned_node (codes "src/q") [] [] [] [] no_marks
+    ∷ planned_node (codes "t") (0 ∷ []) (0 ∷ []) [] [] target
+    ∷ planned_node (codes "r") [] [] [] [] target ∷ [])
+unfolding all_extended linked walked all_met visited all_visited
+by_place = refl

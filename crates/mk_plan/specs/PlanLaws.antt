@@ -8,7 +8,7 @@ use Rattle.mk_graph.specs.Nodes.{names_of}
 use Rattle.mk_graph.specs.Orders.{IsWhole}
 use Rattle.mk_graph.specs.Walks.{preds_of}
 use Rattle.mk_graph.specs.declared.Made.{Made}
-use Rattle.mk_plan.specs.Plans.{wanted, planned, nodes_of, are_ordered, are_sourced}
+use Rattle.mk_plan.specs.Plans.{wanted, planned, seeking_of, nodes_of, are_ordered, are_sourced}
 use Rattle.mk_plan.specs.declared.plan.PlanNode.{PlanNode}
 use Rattle.mk_pool.specs.Pool.{AreDistinct}
 use Rattle.mk_world.specs.Deeds.{Store}
@@ -51,7 +51,7 @@ abbrev pub PlansAreReached : Type 0
 PlansAreReached =
     (files : Store) (made : Made) (requested : List (List ℕ)) (query : Bool) (nodes : List PlanNode)
     → planned files made requested query ≡ Ok nodes → (s : State)
-    × (closed files made.graph made.suffixes (wanted requested made.main) ≡ Ok s)
+    × (closed files made.graph (seeking_of made) (wanted requested made.main) ≡ Ok s)
     × IsReached s (wanted requested made.main) query nodes
 
 -- No two nodes of a plan have one path.

@@ -4,7 +4,7 @@ use Rattle.std.specs.Prelude.{length, map, get_or, codes, Option, Some, None, Re
 use Rattle.std.specs.Prelude.{if◌then◌else◌}
 use Rattle.std.specs.List.{list_all}
 use Rattle.mk_bytes.specs.Agrees.{◌>>=◌}
-use Rattle.mk_closure.specs.Members.{sources_in, planned_of, preds_in, all_preds, roots}
+use Rattle.mk_closure.specs.Members.{sources_in, sourced_of, preds_in, all_preds, roots}
 use Rattle.mk_closure.specs.Members.{commands_in, implied_in, marks_in, numbers_from}
 use Rattle.mk_closure.specs.Names.{name_in}
 use Rattle.mk_closure.specs.Parts.{State}
@@ -18,6 +18,7 @@ use Rattle.mk_graph.specs.declared.Made.{Made}
 use Rattle.mk_graph.specs.declared.attr.Attr.TheVariants.{Phony}
 use Rattle.mk_graph.specs.declared.walk.Ordered.{Ordered}
 use Rattle.mk_graph.specs.declared.walk.Ordered.TheVariants as walk
+use Rattle.mk_suffix.specs.Found.{Seeking, seeking_in}
 use Rattle.mk_world.specs.Deeds.{Store}
 use Rattle.mk_plan.specs.Refusals.{of_closure}
 use Rattle.mk_plan.specs.declared.fault.PlanFault.{PlanFault}
@@ -52,7 +53,7 @@ place_from first (one ∷ more) n = if nat_eq n one then first else place_from (
 abbrev pub plan_node : State → (ℕ → ℕ) → ℕ → ℕ → PlanNode
 plan_node s place first n = record {
   name = name_in s n;
-  sources = map place (planned_of s (sources_in s n));
+  sources = map place (sourced_of s (sources_in s n));
   before = map place (preds_in s n) ++ numbers_from 0 first;
   commands = commands_in s n;
   implied = implied_in s n;
@@ -102,10 +103,14 @@ nodes_of s query order =
 abbrev pub plan_of : Bool → List (List ℕ) → State → Result (List PlanNode) PlanFault
 plan_of query names s = order_of s names >>= λ order. Ok (nodes_of s query order)
 
+-- by what the sources of rules and the places of names are sought
+abbrev pub seeking_of : Made → Seeking
+seeking_of made = seeking_in made.suffixes made.paths made.scopes.cwd
+
 abbrev pub named_plan : Store → Made → Bool → List (List ℕ) → Result (List PlanNode) PlanFault
 named_plan files made query [] = Err NoTarget
 named_plan files made query (name ∷ more) =
-    as_plan (closed files made.graph made.suffixes (name ∷ more))
+    as_plan (closed files made.graph (seeking_of made) (name ∷ more))
     >>= λ s. plan_of query (name ∷ more) s
 
 -- The plan of the requested names on these files, or the first refusal.

@@ -1,7 +1,7 @@
 //! Making a plan.
 ghost use Rattle.std.specs.Prelude.{◌≡◌, ℕ, ◌+◌, ◌<◌, ◌≤◌, ◌^◌, [], ◌∷◌, ◌++◌, length, map, get_or, IsTrue, Ok, IfOk, IfErr, OnOk};
 ghost use Rattle.mk_bytes.specs.Agrees.{Agrees};
-ghost use Rattle.mk_closure.specs.Members.{all_preds, listed, numbers_from, planned_of, sources_in};
+ghost use Rattle.mk_closure.specs.Members.{all_preds, listed, numbers_from, planned_of, sourced_of, sources_in};
 ghost use Rattle.mk_closure.specs.Names.{name_in};
 ghost use Rattle.mk_graph.specs.Numbers.{AreBelow};
 ghost use Rattle.mk_graph.specs.Orders.{IsOrder};
@@ -122,7 +122,23 @@ fn add_places(
     Ok(())
 }
 
-// Adds the places of those of a node's sources that are planned.
+// Adds the places of what is planned for several nodes.
+fn add_sourced(
+    closure: &Closure<'_>,
+    places: &[u32],
+    found: &mut Nodes,
+    nodes: &[u32],
+) -> Result<(), NoMemory>
+    ensures { OnOk result (found.new ≡ found.old
+        ++ map (λ m. get_or places.now m 0) (sourced_of closure.now nodes.now)) }
+{
+    for n in nodes {
+        add_place(closure, places, found, closure.stand_in(*n))?;
+    }
+    Ok(())
+}
+
+// Adds the places of what is planned for a node's sources.
 fn add_sources(
     closure: &Closure<'_>,
     places: &[u32],
@@ -130,16 +146,16 @@ fn add_sources(
     sources: Sources<'_>,
 ) -> Result<(), NoMemory>
     ensures { OnOk result (found.new ≡ found.old
-        ++ map (λ m. get_or places.now m 0) (planned_of closure.now (listed sources.entry))) }
+        ++ map (λ m. get_or places.now m 0) (sourced_of closure.now (listed sources.entry))) }
 {
-    add_places(closure, places, found, sources.own)?;
+    add_sourced(closure, places, found, sources.own)?;
     match sources.of_rule {
-        Some(source) => add_place(closure, places, found, source),
+        Some(source) => add_place(closure, places, found, closure.stand_in(source)),
         None => Ok(()),
     }
 }
 
-// The places of those of a node's sources that are planned.
+// The places of what is planned for a node's sources.
 fn sources_of(
     alloc: Global,
     closure: &Closure<'_>,
@@ -148,7 +164,7 @@ fn sources_of(
 ) -> Result<Nodes, NoMemory>
     requires { n < length closure.now.parts }
     ensures { IfOk result (λ found. found
-        ≡ map (λ m. get_or places.now m 0) (planned_of closure.now (sources_in closure.now n))) }
+        ≡ map (λ m. get_or places.now m 0) (sourced_of closure.now (sources_in closure.now n))) }
 {
     let sources = closure.sources(n);
     let mut found = Items::new(alloc, sources.len())?;
@@ -189,7 +205,7 @@ fn before_of(
     requires within { n < length closure.now.parts }
     requires short { first < 2 ^ 32 }
     requires sources { sources.now
-        ≡ map (λ m. get_or places.now m 0) (planned_of closure.now (sources_in closure.now n)) }
+        ≡ map (λ m. get_or places.now m 0) (sourced_of closure.now (sources_in closure.now n)) }
     ensures { IfOk result (λ before. before
         ≡ (spec.plan_node closure.now (λ m. get_or places.now m 0) first n).before) }
 {
@@ -325,7 +341,7 @@ fn plan_of(
 
 /// The plan of the requested names, or where there are none of the main targets: the nodes of their
 /// closure, each behind its predecessors, which are its sources and then the nodes that are ordered
-/// before it; in the order in which a walk over these from the names on is done with them. `.BEGIN`
+/// before it, a source that stands in a directory of `.PATH` by the node of its place; in the order in which a walk over these from the names on is done with them. `.BEGIN`
 /// with commands stands first and before all others, and `.END` with commands last and behind all,
 /// unless it is only asked (`query`) what is to do.
 ///
@@ -352,6 +368,14 @@ pub fn make_plan<W: World>(
     if names.is_empty() {
         return Err(PlanFault::NoTarget);
     }
-    let closure = close(alloc, &made.graph, &made.suffixes, names, world)?;
+    let closure = close(
+        alloc,
+        &made.graph,
+        &made.suffixes,
+        &made.paths,
+        made.scopes.cwd(),
+        names,
+        world,
+    )?;
     plan_of(alloc, &closure, names, query)
 }

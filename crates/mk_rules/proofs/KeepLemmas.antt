@@ -417,6 +417,7 @@ special-grows special.Default r s line is = targets-grow false r s line is
 special-grows special.Order r s line is =
     sources-grow r s line (with_orders r) (λ m. Keeps-neighbours m.nodes m.sources) (λ m. refl) is
 special-grows special.Suffixes r s line is = same-grows r _ s refl refl is
+special-grows special.Path r s line is = same-grows r _ s refl refl is
 special-grows special.NotParallel r s line is = same-grows r _ s refl refl is
 special-grows special.DeleteOnError r s line is = same-grows r _ s refl refl is
 special-grows special.Phony r s line is =

@@ -1,5 +1,5 @@
 pub mod EndLemmas
 pub mod FoldLemmas
+pub mod GatheredLemmas
 pub mod KeepLemmas
 pub mod ModeLemmas
-pub mod SuffixLemmas

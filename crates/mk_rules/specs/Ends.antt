@@ -37,6 +37,7 @@ abbrev pub finished_by : Ruled → Finished
 finished_by r = record {
   graph = r.nodes;
   suffixes = r.suffixes;
+  paths = r.paths;
   main = main_targets r;
   one_job = r.one_job;
   delete_on_error = r.delete_on_error;

@@ -1,10 +1,10 @@
 pub mod Attributes
 pub mod Ends
+pub mod Gathered
 pub mod Lines
 pub mod Modes
 pub mod Names
 pub mod Rules
 pub mod SourceView
 pub mod Sources
-pub mod Suffixes
 pub mod View

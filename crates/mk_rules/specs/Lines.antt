@@ -126,22 +126,26 @@ with_marks attr r m = with_nodes r (all_marked attr m.nodes m.sources)
 abbrev pub is_known : List (List ℕ) → List ℕ → Bool
 is_known names name = is_among names name
 
--- a suffix goes behind those that are known, where it is none of them
-abbrev pub with_suffix : List (List ℕ) → List ℕ → List (List ℕ)
-with_suffix known suffix =
-    if is_attribute suffix || is_among known suffix then known else known ++ suffix ∷ []
+-- a text goes behind those that were gathered, where it is none of them and no attribute
+abbrev pub gathered_with : List (List ℕ) → List ℕ → List (List ℕ)
+gathered_with known text =
+    if is_attribute text || is_among known text then known else known ++ text ∷ []
 
-abbrev pub all_suffixes : List (List ℕ) → List (List ℕ) → List (List ℕ)
-all_suffixes known [] = known
-all_suffixes known (suffix ∷ more) = all_suffixes (with_suffix known suffix) more
+abbrev pub all_gathered : List (List ℕ) → List (List ℕ) → List (List ℕ)
+all_gathered known [] = known
+all_gathered known (text ∷ more) = all_gathered (gathered_with known text) more
 
--- Without a word behind it `.SUFFIXES` forgets all.
-abbrev pub suffixes_by : List (List ℕ) → List (List ℕ) → List (List ℕ)
-suffixes_by known [] = []
-suffixes_by known (suffix ∷ more) = all_suffixes known (suffix ∷ more)
+-- Without a word behind them `.SUFFIXES` and `.PATH` forget all.
+abbrev pub gathered_by : List (List ℕ) → List (List ℕ) → List (List ℕ)
+gathered_by known [] = []
+gathered_by known (text ∷ more) = all_gathered known (text ∷ more)
 
 abbrev pub with_suffixes : Ruled → DepLine → Ruled
-with_suffixes r line = record r { suffixes = suffixes_by r.suffixes line.sources }
+with_suffixes r line = record r { suffixes = gathered_by r.suffixes line.sources }
+
+-- the directories of `.PATH`
+abbrev pub with_paths : Ruled → DepLine → Ruled
+with_paths r line = record r { paths = gathered_by r.paths line.sources }
 
 abbrev pub with_everywhere : Ruled → Everywhere → Ruled
 with_everywhere r marks = record r { everywhere = marks }
@@ -159,6 +163,7 @@ special_read special.End r line = targets_read false r line
 special_read special.Default r line = targets_read false r line
 special_read special.Order r line = sources_read r line (with_orders r)
 special_read special.Suffixes r line = Ok (passed_over (with_suffixes r line))
+special_read special.Path r line = Ok (passed_over (with_paths r line))
 special_read special.NotParallel r line = Ok (passed_over (record r { one_job = true }))
 special_read special.DeleteOnError r line = Ok (passed_over (record r { delete_on_error = true }))
 special_read special.Phony r line = sources_read r line (with_marks attr.Phony r)

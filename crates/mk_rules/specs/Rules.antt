@@ -11,12 +11,13 @@ use Rattle.mk_graph.specs.declared.attr.Marks.{Marks}
 use Rattle.mk_rules.specs.declared.rules.Everywhere.{Everywhere}
 use Rattle.indexmap.specs.IndexSet.{insert_key}
 
--- The nodes, the known suffixes and the sources of `.MAIN` so far; the nodes that stood as targets, in
+-- The nodes, the known suffixes, the directories of `.PATH` and the sources of `.MAIN` so far; the nodes that stood as targets, in
 -- order; which marks go to every target in the end; how a build goes; and the nodes that take the
 -- command lines behind the last line.
 pub record Ruled : Type 0 where
   pub nodes : List Node
   pub suffixes : List (List ℕ)
+  pub paths : List (List ℕ)
   pub main : List (List ℕ)
   pub targets : List ℕ
   pub everywhere : Everywhere
@@ -28,6 +29,7 @@ abbrev pub no_rules : Ruled
 no_rules = record {
   nodes = [];
   suffixes = [];
+  paths = [];
   main = [];
   targets = [];
   everywhere = record { precious = false; silent = false; ignore = false };

@@ -15,6 +15,7 @@ use std::alloc::Global;
 pub struct Finished {
     pub graph: Graph,
     pub suffixes: Texts,
+    pub paths: Texts,
     pub main: Texts,
     pub one_job: bool,
     pub delete_on_error: bool,
@@ -108,11 +109,13 @@ impl Rules {
             Err(fault) => {
                 drop(graph);
                 drop(self.suffixes);
+                drop(self.paths);
                 Err(fault)
             }
             Ok(main) => Ok(Finished {
                 graph,
                 suffixes: self.suffixes.into_known(),
+                paths: self.paths.into_known(),
                 main,
                 one_job: self.one_job,
                 delete_on_error: self.delete_on_error,

@@ -1,17 +1,17 @@
 //! What dependency lines leave (NetBSD make(1), "FILE DEPENDENCY SPECIFICATIONS", "SPECIAL TARGETS" and
-//! "SPECIAL SOURCES"): the graph of nodes, the known suffixes, the main targets, and the targets that
-//! take the command lines.
+//! "SPECIAL SOURCES"): the graph of nodes, the known suffixes, the directories of `.PATH`, the main
+//! targets, and the targets that take the command lines.
 #![tactic(auto)]
 
 mod attribute;
 mod end;
 mod fault;
+mod gathered;
 mod line;
 mod mode;
 mod names;
 mod rules;
 mod source;
-mod suffixes;
 
 pub use end::Finished;
 pub use fault::RuleFault;

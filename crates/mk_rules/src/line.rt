@@ -8,10 +8,10 @@ ghost use Rattle.mk_rules.specs.Rules.{takers_among, takers_with};
 ghost use Rattle.mk_rules.specs.declared.fault.RuleFault.TheVariants.{NoMemory as no_memory};
 
 use crate::fault::RuleFault;
+use crate::gathered::Gathered;
 use crate::names::{add_all_sources, all_named, mark_all, order_neighbours};
 use crate::rules::Rules;
 use crate::source::{meet_all, take_attributes};
-use crate::suffixes::Suffixes;
 use indexmap::IndexSet;
 use mk_bytes::{NoMemory, Text, Texts};
 use mk_depline::{DepLine, Special};
@@ -214,9 +214,20 @@ impl Rules {
         ensures { OnOk result (self.new ≡ spec.passed_over (spec.with_suffixes self.old line.now)) }
     {
         if line.sources.is_empty() {
-            self.suffixes = Suffixes::new(self.alloc)?;
+            self.suffixes = Gathered::new(self.alloc)?;
         }
         self.suffixes.add_all(self.alloc, &line.sources)?;
+        forget(self.alloc, &mut self.group);
+        Ok(())
+    }
+
+    fn read_paths(&mut self, line: &DepLine) -> Result<(), NoMemory>
+        ensures { OnOk result (self.new ≡ spec.passed_over (spec.with_paths self.old line.now)) }
+    {
+        if line.sources.is_empty() {
+            self.paths = Gathered::new(self.alloc)?;
+        }
+        self.paths.add_all(self.alloc, &line.sources)?;
         forget(self.alloc, &mut self.group);
         Ok(())
     }
@@ -232,6 +243,7 @@ impl Rules {
             Special::Begin | Special::End | Special::Default => self.read_targets(false, line),
             Special::Order => self.read_order(line),
             Special::Suffixes => Ok(self.read_suffixes(line)?),
+            Special::Path => Ok(self.read_paths(line)?),
             Special::NotParallel => {
                 self.one_job = true;
                 forget(self.alloc, &mut self.group);

@@ -8,7 +8,7 @@ ghost use Rattle.mk_graph.specs.Numbers.{AreBelow};
 ghost use Rattle.mk_rules.specs.Ends as ends;
 ghost use Rattle.mk_rules.specs.Rules as spec;
 
-use crate::suffixes::Suffixes;
+use crate::gathered::Gathered;
 use indexmap::IndexSet;
 use mk_bytes::{Items, NoMemory, Text, Texts};
 use mk_graph::{Attr, Graph, Nodes};
@@ -23,15 +23,16 @@ pub struct Everywhere {
     pub ignore: bool,
 }
 
-/// What the dependency lines so far leave: the graph of nodes, the known suffixes, the sources of
-/// `.MAIN`, the nodes that stood as targets, what holds of every target and of the build, and the
+/// What the dependency lines so far leave: the graph of nodes, the known suffixes, the directories of
+/// `.PATH`, the sources of `.MAIN`, the nodes that stood as targets, what holds of every target and of the build, and the
 /// targets that take the command lines behind the last line. Of the targets so many first ones are kept
 /// that can be no main target any more.
 #[derive(Drop)]
 pub struct Rules {
     pub(crate) alloc: Global,
     pub(crate) graph: Graph,
-    pub(crate) suffixes: Suffixes,
+    pub(crate) suffixes: Gathered,
+    pub(crate) paths: Gathered,
     pub(crate) main: Texts,
     pub(crate) targets: Nodes,
     pub(crate) everywhere: Everywhere,
@@ -47,12 +48,12 @@ impl Model for Rules {
 
     ghost Value = { Ruled };
 
-    ghost view = { λ rules. ruled_in rules.graph rules.suffixes rules.main rules.targets
-        rules.everywhere rules.one_job rules.delete_on_error
+    ghost view = { λ rules. ruled_in rules.graph rules.suffixes rules.paths rules.main
+        rules.targets rules.everywhere rules.one_job rules.delete_on_error
         rules.group.keys };
 
-    ghost invariant = { λ rules. IsRuled (ruled_in rules.graph rules.suffixes rules.main rules.targets
-        rules.everywhere rules.one_job rules.delete_on_error
+    ghost invariant = { λ rules. IsRuled (ruled_in rules.graph rules.suffixes rules.paths rules.main
+        rules.targets rules.everywhere rules.one_job rules.delete_on_error
         rules.group.keys) × HavePassed rules.graph rules.targets rules.passed };
 }
 
@@ -63,7 +64,8 @@ impl Rules {
     {
         Ok(Rules {
             alloc,
-            suffixes: Suffixes::new(alloc)?,
+            suffixes: Gathered::new(alloc)?,
+            paths: Gathered::new(alloc)?,
             main: Items::new(alloc, 0)?,
             targets: Items::new(alloc, 0)?,
             graph: Graph::new(alloc)?,

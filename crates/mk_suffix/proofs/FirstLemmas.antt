@@ -1,7 +1,7 @@
 -- The first chain that is found, by the suffixes that a search reaches.
 use Rattle.std.proofs.Common.{◌≡◌, ◌∙◌, ℕ, ◌+◌, ◌<◌, not, Bool, true, false, inl, inr, List, []}
 use Rattle.std.proofs.Common.{◌∷◌}
-use Rattle.std.proofs.Common.{◌++◌, length, drop, get_or, sym, ap, subst, arith, Some, None}
+use Rattle.std.proofs.Common.{◌++◌, length, drop, get_or, sym, ap, subst, arith, Option, Some, None, is_some}
 use Rattle.std.proofs.lemmas.Bool.{cases_Bool, and_from, not_from_false, false≢true}
 use Rattle.std.specs.List.{find, flat_map, list_any}
 use Rattle.std.specs.Option.{option_map}
@@ -9,11 +9,16 @@ use Rattle.std.specs.Str.{bytes_eq}
 use Rattle.mk_depline.specs.Names.{is_among}
 use Rattle.mk_graph.specs.Nodes.{Node}
 use Rattle.mk_suffix.specs.Chains.{Suffixes, first_of, extended, first_found, chain_of}
+use Rattle.mk_suffix.specs.Chains.{placed_chain, with_source, choice}
+use Rattle.mk_suffix.specs.Found.{Seeking, is_there, place_of}
+use Rattle.mk_suffix.specs.Names.{suffix_of, without_end}
 use Rattle.mk_suffix.specs.Extends.{Extends, IsHit, Found}
 use Rattle.mk_suffix.specs.Search.{Way, own_way, way_at, chains_of, reached, Leads, first_chains}
 use Rattle.mk_suffix.specs.Search.{is_source}
 use Rattle.mk_suffix.specs.SearchView.{way_of, made_by}
 use Rattle.mk_suffix.specs.declared.chain.Chain.{Chain}
+use Rattle.mk_world.specs.Deeds.{Store}
+use Rattle.mk_suffix.specs.declared.step.Hit.{Hit}
 use Rattle.mk_suffix.specs.declared.step.Step.{Step}
 use Rattle.mk_suffix.proofs.AmongLemmas.{among-head, same_bytes}
 use Rattle.mk_suffix.proofs.MadeLemmas.{made_by-chain_of}
@@ -94,25 +99,40 @@ module _ (nodes : List Node) (known : List (List ℕ)) (own : List ℕ) where
       ∙ find-none (is_source found base own) ways none)
 
   -- the answer, where a step is found
-  pub answer-hit : (found : List ℕ → Bool) (base : List ℕ) (now new : List Way) (at : ℕ)
-      (step : Step) (chain : Chain) → at < length now → Leads now (left_at at) whole
-      → IsHit nodes known now new at step → chain ≡ made_by base (way_of new step)
-      → list_any (is_source found base own) (reached now) ≡ false
-      → Found found base now new (Some step)
-      → option_map (chain_of nodes base) (first_found found nodes known base own) ≡ Some chain
-  answer-hit found base now new at step chain within leads hit is none met =
-      let all = Leads-hit now new at step within leads hit in
-      let suffixes = (way_of new step).suffixes in
-      ap (option_map (chain_of nodes base))
-      (first_found-hit found base new suffixes all.0 (omega (arith, hit.within)) all.1
-      (met.0 own ∙ none) hit.new_one met.1)
+  pub answer-hit : (place : List ℕ → Option (List ℕ)) (base : List ℕ) (now new : List Way) (at : ℕ)
+      (met : Hit) (chain : Chain) → at < length now → Leads now (left_at at) whole
+      → IsHit nodes known now new at met.step
+      → chain ≡ with_source (Some met.source) (made_by base (way_of new met.step))
+      → list_any (is_source (is_there place) base own) (reached now) ≡ false
+      → Found place base now new (Some met)
+      → option_map (placed_chain place nodes base)
+      (first_found (is_there place) nodes known base own) ≡ Some chain
+  answer-hit place base now new at met chain within leads hit is none found =
+      let all = Leads-hit now new at met.step within leads hit in
+      let suffixes = (way_of new met.step).suffixes in
+      ap (option_map (placed_chain place nodes base))
+      (first_found-hit (is_there place) base new suffixes all.0 (omega (arith, hit.within)) all.1
+      (found.0 own ∙ none) hit.new_one (ap is_some found.1))
       ∙ ap (λ chain. Some chain)
-      (sym (is ∙ made_by-chain_of nodes base (way_of new step) hit.made))
+      (ap (λ one. with_source one (chain_of nodes base suffixes)) found.1
+      ∙ (ap (with_source (Some met.source))
+      (sym (made_by-chain_of nodes base (way_of new met.step) hit.made)) ∙ sym is))
 
   -- and where none is
-  pub answer-none : (found : List ℕ → Bool) (base : List ℕ) (ways : List Way) (at : ℕ)
+  pub answer-none : (place : List ℕ → Option (List ℕ)) (base : List ℕ) (ways : List Way) (at : ℕ)
       → at ≡ length ways → Leads ways (left_at at) whole
-      → list_any (is_source found base own) (reached ways) ≡ false
-      → option_map (chain_of nodes base) (first_found found nodes known base own) ≡ None
-  answer-none found base ways at behind leads none =
-      ap (option_map (chain_of nodes base)) (first_found-none found base ways at behind leads none)
+      → list_any (is_source (is_there place) base own) (reached ways) ≡ false
+      → option_map (placed_chain place nodes base)
+      (first_found (is_there place) nodes known base own) ≡ None
+  answer-none place base ways at behind leads none =
+      ap (option_map (placed_chain place nodes base))
+      (first_found-none (is_there place) base ways at behind leads none)
+
+-- the chain that is chosen for a name with a suffix
+pub choice-own : (files : Store) (nodes : List Node) (seeking : Seeking) (name own base : List ℕ)
+    (chain : Option Chain) → suffix_of seeking.suffixes name ≡ Some own → base ≡ without_end name own
+    → option_map (placed_chain (place_of files nodes seeking) nodes base)
+    (first_found (is_there (place_of files nodes seeking)) nodes seeking.suffixes base own) ≡ chain
+    → choice files nodes seeking name ≡ chain
+choice-own files nodes seeking name own base chain suffix_is base_is is =
+    rw suffix_is (rw base_is at is)

@@ -8,9 +8,10 @@ use Rattle.std.specs.List.{list_any}
 use Rattle.std.specs.Str.{bytes_eq}
 use Rattle.mk_suffix.specs.Chains.{first_of}
 use Rattle.mk_suffix.specs.Extends.{NoneFound, Found}
+use Rattle.mk_suffix.specs.Found.{is_there}
 use Rattle.mk_suffix.specs.Search.{Way, reached}
 use Rattle.mk_suffix.specs.Search.{is_source, own_way}
-use Rattle.mk_suffix.specs.declared.step.Step.{Step}
+use Rattle.mk_suffix.specs.declared.step.Hit.{Hit}
 use Rattle.mk_suffix.proofs.SearchLemmas.{reached-append}
 use Rattle.mk_suffix.proofs.SearchLemmas.{own_is_none}
 
@@ -36,9 +37,9 @@ NoneFound-push found base old now way suffix is not_found none own =
     or-false false = refl
 
 -- one part after the other
-pub Found-then : (found : List ℕ → Bool) (base : List ℕ) (old now new : List Way)
-    (hit : Option Step) → NoneFound found base old now → Found found base now new hit
-    → Found found base old new hit
-Found-then found base old now new None first second = λ own. second own ∙ first own
-Found-then found base old now new (Some step) first second =
+pub Found-then : (place : List ℕ → Option (List ℕ)) (base : List ℕ) (old now new : List Way)
+    (hit : Option Hit) → NoneFound (is_there place) base old now → Found place base now new hit
+    → Found place base old new hit
+Found-then place base old now new None first second = λ own. second own ∙ first own
+Found-then place base old now new (Some hit) first second =
     (λ own. second.0 own ∙ first own, second.1)

@@ -2,14 +2,17 @@
 use Rattle.std.proofs.Common.{◌≡◌, ◌∙◌, ℕ, ◌+◌, ◌<◌, Bool, true}
 use Rattle.std.proofs.Common.{false, List, [], ◌∷◌, ◌++◌, length, refl, sym, ap}
 use Rattle.std.proofs.Common.{subst, arith, Option, Some, None, unwrap_or}
-use Rattle.std.proofs.Common.{cond}
+use Rattle.std.proofs.Common.{cond, suc, drop, map, slice_set}
+use Rattle.std.proofs.lemmas.List.{length-map}
 use Rattle.mk_graph.specs.Nodes.{Node, number_of}
 use Rattle.mk_suffix.specs.Chains.{Suffixes, first_of, rule_between}
-use Rattle.mk_suffix.specs.Chains.{rules_of, chain_of}
+use Rattle.mk_suffix.specs.Chains.{rules_of, chain_of, with_source}
 use Rattle.mk_suffix.specs.Extends.{IsMade, IsWay, AreWays}
 use Rattle.mk_suffix.specs.Search.{Way, way_at, way_by}
 use Rattle.mk_suffix.specs.Search.{own_way}
+use Rattle.mk_suffix.specs.Made.{IsFor}
 use Rattle.mk_suffix.specs.SearchView.{made_by}
+use Rattle.mk_suffix.specs.declared.chain.Chain.{Chain}
 
 -- the rule between two suffixes is the node of both
 pub rule-number : (nodes : List Node) (known : List (List ℕ)) (from to : List ℕ) (n : ℕ)
@@ -51,3 +54,22 @@ pub made_by-chain_of : (nodes : List Node) (base : List ℕ) (way : Way) → IsM
     → made_by base way ≡ chain_of nodes base way.suffixes
 made_by-chain_of nodes base way made =
     ap (λ rules. record { names = (made_by base way).names; rules = rules }) made.rules
+
+-- and from the place of its source
+pub IsFor-placed : (nodes : List Node) (base : List ℕ) (way : Way) (source : List ℕ) (chain : Chain)
+    → IsMade nodes way → chain ≡ with_source (Some source) (made_by base way) → IsFor nodes chain
+IsFor-placed nodes base way source chain made is =
+    subst (IsFor nodes) (sym is)
+    (record { rules = made.below; as_many = many way.suffixes made.as_many })
+  where
+    many : (suffixes : Suffixes) → length suffixes ≡ length way.rules + 1
+        → length (source ∷ drop 1 (map (λ suffix. base ++ suffix) suffixes)) ≡ length way.rules + 1
+    many [] as_many = absurd (omega (arith, as_many))
+    many (suffix ∷ more) as_many =
+        ap suc (length-map more (λ one. base ++ one)) ∙ as_many
+
+-- the first of several names is another one
+pub set_first : (names : List (List ℕ)) (source : List ℕ) → 0 < length names
+    → slice_set names 0 source ≡ source ∷ drop 1 names
+set_first [] source some = absurd (omega arith)
+set_first (name ∷ names) source some = refl

@@ -5,6 +5,7 @@ use Rattle.mk_graph.specs.Nodes.{Node}
 use Rattle.mk_graph.specs.declared.attr.Attr.{Attr}
 use Rattle.mk_graph.specs.declared.attr.Attr.TheVariants.{Rule, Target, Phony}
 use Rattle.mk_suffix.specs.Chains.{all_extended, choice, chains_to, rule_between}
+use Rattle.mk_suffix.specs.Found.{Seeking, seeking_in}
 use Rattle.mk_suffix.specs.Names.{suffix_of, prefix_of}
 use Rattle.mk_suffix.specs.declared.chain.Chain.{Chain}
 use Rattle.mk_world.specs.Deeds.{Store, put}
@@ -34,7 +35,7 @@ files (path ∷ more) = put (files more) (record { path = path; bytes = Some [] 
 
 -- what is chosen for `x.o` with these nodes, where these are the files
 abbrev chosen : List Node → List (List ℕ) → Option Chain
-chosen nodes paths = choice (files paths) nodes known (codes "x.o")
+chosen nodes paths = choice (files paths) nodes (seeking_in known [] (codes "/w")) (codes "x.o")
 
 abbrev by_one : ℕ → Option Chain
 by_one number =
@@ -81,8 +82,31 @@ node_without_mark : chosen (node (codes ".c.o") Target ∷ []) (codes "x.c" ∷ 
 unfolding all_extended
 node_without_mark = refl
 
-without_suffix : choice (files (codes "x.c" ∷ [])) rules known (codes "x.h") ≡ None
+without_suffix :
+    choice (files (codes "x.c" ∷ [])) rules (seeking_in known [] (codes "/w")) (codes "x.h") ≡ None
 without_suffix = refl
+
+-- where two directories are searched
+abbrev searching : Seeking
+searching = seeking_in known (codes "lib" ∷ codes "src" ∷ []) (codes "/w")
+
+abbrev found_in : List (List ℕ) → Option Chain
+found_in paths = choice (files paths) rules searching (codes "x.o")
+
+in_second_directory : found_in (codes "src/x.c" ∷ [])
+    ≡ Some (record { names = codes "src/x.c" ∷ codes "x.o" ∷ []; rules = 0 ∷ [] })
+unfolding all_extended
+in_second_directory = refl
+
+first_directory_first : found_in (codes "src/x.c" ∷ codes "lib/x.c" ∷ [])
+    ≡ Some (record { names = codes "lib/x.c" ∷ codes "x.o" ∷ []; rules = 0 ∷ [] })
+unfolding all_extended
+first_directory_first = refl
+
+longer_chain_in_directory : found_in (codes "src/x.y" ∷ [])
+    ≡ Some (record { names = codes "src/x.y" ∷ codes "x.c" ∷ codes "x.o" ∷ []; rules = 1 ∷ 0 ∷ [] })
+unfolding all_extended
+longer_chain_in_directory = refl
 
 each_suffix_once :
     chains_to (rules ++ rule (codes ".o.c") ∷ rule (codes ".c.y") ∷ []) known (codes ".o")

@@ -1,6 +1,6 @@
 -- Chains of suffix rules, and the chain that is chosen for a name.
 use Rattle.std.specs.Prelude.{ℕ, zero, suc, ◌&&◌, Bool, false, not, List, [], ◌∷◌, ◌++◌, length}
-use Rattle.std.specs.Prelude.{map}
+use Rattle.std.specs.Prelude.{map, drop}
 use Rattle.std.specs.Prelude.{filter, Option, Some, None, is_some, unwrap_or, if◌then◌else◌}
 use Rattle.std.specs.List.{find, flat_map}
 use Rattle.std.specs.Option.{option_map}
@@ -9,7 +9,7 @@ use Rattle.mk_depline.specs.Lines.{rule_named}
 use Rattle.mk_depline.specs.Names.{is_among}
 use Rattle.mk_graph.specs.Nodes.{Node, number_of}
 use Rattle.mk_graph.specs.declared.attr.Attr.TheVariants.{Rule}
-use Rattle.mk_suffix.specs.Found.{is_marked, is_found}
+use Rattle.mk_suffix.specs.Found.{Seeking, is_marked, is_there, place_of}
 use Rattle.mk_suffix.specs.Names.{suffix_of, without_end}
 use Rattle.mk_suffix.specs.declared.chain.Chain.{Chain}
 use Rattle.mk_world.specs.Deeds.{Store}
@@ -69,20 +69,32 @@ chain_of nodes base suffixes = record {
   rules = rules_of nodes suffixes;
 }
 
+-- a chain from this place of its source
+abbrev pub with_source : Option (List ℕ) → Chain → Chain
+with_source None chain = chain
+with_source (Some source) chain =
+    record { names = source ∷ drop 1 chain.names; rules = chain.rules }
+
+-- a chain whose source stands at its place
+abbrev pub placed_chain : (List ℕ → Option (List ℕ)) → List Node → List ℕ → Suffixes → Chain
+placed_chain place nodes base suffixes =
+    with_source (place (base ++ first_of suffixes)) (chain_of nodes base suffixes)
+
 -- the first chain to a suffix whose source is found
 abbrev pub first_found : (List ℕ → Bool) → List Node → List (List ℕ) → List ℕ → List ℕ
     → Option Suffixes
 first_found found nodes known base own =
     find (λ chain. found (base ++ first_of chain)) (chains_to nodes known own)
 
-abbrev pub choice_at : (List ℕ → Bool) → List Node → List (List ℕ) → List ℕ → Option (List ℕ)
-    → Option Chain
-choice_at found nodes known name None = None
-choice_at found nodes known name (Some own) =
-    option_map (chain_of nodes (without_end name own))
-    (first_found found nodes known (without_end name own) own)
+abbrev pub choice_at : (List ℕ → Option (List ℕ)) → List Node → List (List ℕ) → List ℕ
+    → Option (List ℕ) → Option Chain
+choice_at place nodes known name None = None
+choice_at place nodes known name (Some own) =
+    option_map (placed_chain place nodes (without_end name own))
+    (first_found (is_there place) nodes known (without_end name own) own)
 
--- The chain that is chosen for a name, where these are the files.
-abbrev pub choice : Store → List Node → List (List ℕ) → List ℕ → Option Chain
-choice files nodes known name =
-    choice_at (is_found files nodes) nodes known name (suffix_of known name)
+-- The chain that is chosen for a name, where these are the files: the first whose source has a place.
+abbrev pub choice : Store → List Node → Seeking → List ℕ → Option Chain
+choice files nodes seeking name =
+    choice_at (place_of files nodes seeking) nodes seeking.suffixes name
+    (suffix_of seeking.suffixes name)

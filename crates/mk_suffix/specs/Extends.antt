@@ -7,8 +7,10 @@ use Rattle.mk_graph.specs.Nodes.{Node}
 use Rattle.mk_graph.specs.Numbers.{AreBelow}
 use Rattle.mk_suffix.specs.Chains.{Suffixes, first_of, rule_between, may_precede, extended}
 use Rattle.mk_suffix.specs.Chains.{rules_of}
+use Rattle.mk_suffix.specs.Found.{is_there}
 use Rattle.mk_suffix.specs.Search.{Way, way_at, chains_of, reached, Leads, left_over, is_source}
 use Rattle.mk_suffix.specs.SearchView.{way_of}
+use Rattle.mk_suffix.specs.declared.step.Hit.{Hit}
 use Rattle.mk_suffix.specs.declared.step.Step.{Step}
 
 -- the rules of a chain are there
@@ -86,7 +88,14 @@ NoneFound found base old new = (own : List ℕ)
     → list_any (is_source found base own) (reached new)
     ≡ list_any (is_source found base own) (reached old)
 
-abbrev pub Found : (List ℕ → Bool) → List ℕ → List Way → List Way → Option Step → Type 0
-Found found base old new None = NoneFound found base old new
-Found found base old new (Some step) =
-    NoneFound found base old new × (found (base ++ step.suffix.now) ≡ true)
+-- the step to a source that is found
+abbrev pub step_of : Option Hit → Option Step
+step_of None = None
+step_of (Some hit) = Some hit.step
+
+-- or the place of the one that is
+abbrev pub Found : (List ℕ → Option (List ℕ)) → List ℕ → List Way → List Way → Option Hit → Type 0
+Found place base old new None = NoneFound (is_there place) base old new
+Found place base old new (Some hit) =
+    NoneFound (is_there place) base old new
+    × (place (base ++ hit.step.suffix.now) ≡ Some hit.source)

@@ -1,9 +1,9 @@
--- Faults of the world, as they are answered.
+-- Faults of the directories, as they are answered.
+use Rattle.mk_dirs.specs.declared.fault.DirFault.{DirFault}
+use Rattle.mk_dirs.specs.declared.fault.DirFault.TheVariants as dirs
 use Rattle.mk_suffix.specs.declared.fault.SuffixFault.{SuffixFault}
 use Rattle.mk_suffix.specs.declared.fault.SuffixFault.TheVariants.{Failed, NoMemory}
-use Rattle.mk_world.specs.declared.fault.WorldFault.{WorldFault}
-use Rattle.mk_world.specs.declared.fault.WorldFault.TheVariants as world
 
-abbrev pub of_world : WorldFault → SuffixFault
-of_world world.Failed = Failed
-of_world world.NoMemory = NoMemory
+abbrev pub of_dirs : DirFault → SuffixFault
+of_dirs dirs.Failed = Failed
+of_dirs dirs.NoMemory = NoMemory

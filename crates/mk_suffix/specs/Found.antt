@@ -1,5 +1,6 @@
--- What can be a source.
-use Rattle.std.specs.Prelude.{ℕ, ◌&&◌, ◌||◌, Bool, false, not, List, Option, Some, None, is_some}
+-- At which place a file stands that can be a source.
+use Rattle.std.specs.Prelude.{ℕ, ◌&&◌, Bool, false, not, List, Option, Some, None, is_some, if◌then◌else◌}
+use Rattle.mk_dirs.specs.Places.{place}
 use Rattle.mk_graph.specs.Marks.{has}
 use Rattle.mk_graph.specs.Nodes.{Node, node_at, number_of}
 use Rattle.mk_graph.specs.declared.attr.Attr.{Attr}
@@ -14,7 +15,22 @@ is_marked_at nodes (Some n) attr = has (node_at nodes n).marks attr
 abbrev pub is_marked : List Node → List ℕ → Attr → Bool
 is_marked nodes name attr = is_marked_at nodes (number_of nodes name) attr
 
--- A target is found, and so is a file that is there; a phony node is no file.
-abbrev pub is_found : Store → List Node → List ℕ → Bool
-is_found files nodes name =
-    is_marked nodes name Target || (not (is_marked nodes name Phony) && is_some (files name))
+-- By what a source is sought: the known suffixes, the directories that are searched, and the current
+-- directory.
+pub record Seeking : Type 0 where
+  pub suffixes : List (List ℕ)
+  pub paths : List (List ℕ)
+  pub cwd : List ℕ
+
+abbrev pub seeking_in : List (List ℕ) → List (List ℕ) → List ℕ → Seeking
+seeking_in suffixes paths cwd = record { suffixes = suffixes; paths = paths; cwd = cwd }
+
+-- The place of a name. A target stands for itself, and a phony name that is no target has no place.
+abbrev pub place_of : Store → List Node → Seeking → List ℕ → Option (List ℕ)
+place_of files nodes seeking name =
+    if not (is_marked nodes name Target) && is_marked nodes name Phony then None
+    else place files (is_marked nodes name Target) seeking.paths seeking.cwd name
+
+-- whether a name has a place
+abbrev pub is_there : (List ℕ → Option (List ℕ)) → List ℕ → Bool
+is_there place name = is_some (place name)

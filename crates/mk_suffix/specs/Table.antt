@@ -8,12 +8,13 @@ use Rattle.std.specs.declared.alloc.Global.{Global}
 use Rattle.std.specs.declared.vec.Vec.{Vec}
 use Rattle.mk_graph.specs.Nodes.{Node}
 use Rattle.mk_suffix.specs.Chains.{rule_between}
+use Rattle.mk_suffix.specs.Found.{Seeking}
 use Rattle.mk_suffix.specs.declared.table.Source.{Source}
 
--- nodes, and the known suffixes
+-- nodes, and by what sources are sought, the known suffixes among that
 pub record Known : Type 0 where
   pub nodes : List Node
-  pub suffixes : List (List ℕ)
+  pub seeking : Seeking
 
 -- a rule to a suffix: the one that it leads from, and its node
 abbrev pub Rule : Type 0

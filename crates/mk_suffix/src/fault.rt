@@ -1,5 +1,5 @@
 use mk_bytes::NoMemory;
-use mk_world::WorldFault;
+use mk_dirs::DirFault;
 
 /// Why there is no answer.
 #[derive(Clone, Copy, PartialEq, Eq)]
@@ -21,16 +21,16 @@ impl From<NoMemory> for SuffixFault {
     }
 }
 
-impl From<WorldFault> for SuffixFault {
+impl From<DirFault> for SuffixFault {
     ghost use Rattle.std.specs.Prelude.{◌≡◌};
-    ghost use Rattle.mk_suffix.specs.Faults.{of_world};
+    ghost use Rattle.mk_suffix.specs.Faults.{of_dirs};
 
-    ghost from_gives = { λ given fault. fault ≡ of_world given };
+    ghost from_gives = { λ given fault. fault ≡ of_dirs given };
 
-    fn from(fault: WorldFault) -> SuffixFault {
+    fn from(fault: DirFault) -> SuffixFault {
         match fault {
-            WorldFault::Failed => SuffixFault::Failed,
-            WorldFault::NoMemory => SuffixFault::NoMemory,
+            DirFault::Failed => SuffixFault::Failed,
+            DirFault::NoMemory => SuffixFault::NoMemory,
         }
     }
 }

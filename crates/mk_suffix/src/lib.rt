@@ -13,7 +13,7 @@ mod table;
 
 pub use chain::Chain;
 pub use fault::SuffixFault;
-pub use found::is_found;
+pub use found::place_of;
 pub use name::prefix_of;
 pub use search::resolve;
 pub use table::SuffixRules;

@@ -7,7 +7,7 @@ ghost use Rattle.mk_suffix.specs.SearchView.{has_step, way_of, made_by};
 
 use crate::chain::Chain;
 use crate::rule::joined;
-use mk_bytes::{Items, NoMemory};
+use mk_bytes::{Items, NoMemory, Text};
 use std::alloc::Global;
 use std::marker::Model;
 
@@ -19,6 +19,14 @@ pub struct Step<'s> {
     /// The place of the suffix that the rule leads to: 0 is that of the target, and the others
     /// follow in order.
     pub to: usize,
+}
+
+/// A step from a suffix whose source is found.
+#[derive(Drop)]
+pub struct Hit<'s> {
+    pub step: Step<'s>,
+    /// The place of the source.
+    pub source: Text,
 }
 
 /// The suffixes that a search has reached so far, from that of the target on. Contracts see the

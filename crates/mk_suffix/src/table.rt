@@ -1,5 +1,6 @@
 //! The rules between known suffixes, by the suffixes that they lead to.
 ghost use Rattle.std.specs.Prelude.{◌≡◌, ◌+◌, ◌<◌, ◌++◌, length, IfOk, OnOk};
+ghost use Rattle.mk_suffix.specs.Found.{seeking_in};
 ghost use Rattle.mk_suffix.specs.Table as spec;
 
 use crate::rule::{rule_between, second_part};
@@ -17,11 +18,14 @@ pub struct Source<'s> {
 }
 
 /// The rules of a graph between known suffixes, in a table from which those to one suffix are read off.
-/// Contracts see the nodes and the suffixes.
+/// Beside them it lends the directories that are searched, and the current one. Contracts see the nodes,
+/// and by what sources are sought.
 #[derive(Drop)]
 pub struct SuffixRules<'g> {
     graph: &'g Graph,
     suffixes: &'g Texts,
+    paths: &'g Texts,
+    cwd: &'g [u8],
     rows: IndexMap<Vec<u8>, Items<Source<'g>>>,
 
     // the rules to a suffix to which none leads
@@ -30,11 +34,15 @@ pub struct SuffixRules<'g> {
 
 impl<'g> Model for SuffixRules<'g> {
     ghost use Rattle.std.specs.Prelude.{◌≡◌, []};
+    ghost use Rattle.mk_suffix.specs.Found.{seeking_in};
     ghost use Rattle.mk_suffix.specs.Table.{Known, AreAll};
 
     ghost Value = { Known };
 
-    ghost view = { λ rules. record { nodes = rules.graph.now; suffixes = rules.suffixes.now } };
+    ghost view = { λ rules. record {
+      nodes = rules.graph.now;
+      seeking = seeking_in rules.suffixes.now rules.paths.now rules.cwd.now;
+    } };
 
     ghost invariant = { λ rules. AreAll rules.graph.now rules.suffixes.now rules.rows.entries
         × (rules.none ≡ []) };
@@ -101,14 +109,18 @@ fn add_row<'g>(
 }
 
 impl<'g> SuffixRules<'g> {
-    /// The rules of a graph between these suffixes.
+    /// The rules of a graph between these suffixes, where sources are sought in these directories and
+    /// named from the current one.
     pub fn new(
         alloc: Global,
         graph: &'g Graph,
         suffixes: &'g Texts,
+        paths: &'g Texts,
+        cwd: &'g [u8],
     ) -> Result<SuffixRules<'g>, NoMemory>
         ensures nodes { IfOk result (λ rules. rules.nodes ≡ graph.now) }
-        ensures suffixes { IfOk result (λ rules. rules.suffixes ≡ suffixes.now) }
+        ensures seeking { IfOk result (λ rules.
+            rules.seeking ≡ seeking_in suffixes.now paths.now cwd.now) }
     {
         let known = suffixes.as_slice();
         let mut rows = IndexMap::new(alloc);
@@ -118,6 +130,8 @@ impl<'g> SuffixRules<'g> {
         Ok(SuffixRules {
             graph,
             suffixes,
+            paths,
+            cwd,
             rows,
             none: Items::new(alloc, 0)?,
         })
@@ -132,15 +146,29 @@ impl<'g> SuffixRules<'g> {
 
     /// The known suffixes. Takes no memory.
     pub fn suffixes(&self) -> &'g Texts
-        ensures { result.now ≡ self.now.suffixes }
+        ensures { result.now ≡ self.now.seeking.suffixes }
     {
         self.suffixes
+    }
+
+    /// The directories that are searched. Takes no memory.
+    pub fn paths(&self) -> &'g Texts
+        ensures { result.now ≡ self.now.seeking.paths }
+    {
+        self.paths
+    }
+
+    /// The current directory. Takes no memory.
+    pub fn cwd(&self) -> &'g [u8]
+        ensures { result.now ≡ self.now.seeking.cwd }
+    {
+        self.cwd
     }
 
     /// The rules to a suffix, in the order in which the suffixes that they lead from are known. Takes no
     /// memory.
     pub fn row(&self, to: &[u8]) -> &[Source<'g>]
-        ensures { spec.seen_row result.now ≡ spec.row self.now.nodes self.now.suffixes to.now }
+        ensures { spec.seen_row result.now ≡ spec.row self.now.nodes self.now.seeking.suffixes to.now }
     {
         match self.rows.get(to) {
             Some(row) => row.as_slice(),

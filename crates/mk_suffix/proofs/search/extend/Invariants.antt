@@ -1,6 +1,6 @@
 use Rattle.std.proofs.Common.{◌≡◌, [], drop}
 use Rattle.mk_suffix.specs.Extends.{Extends, NoneFound}
-use Rattle.mk_suffix.specs.Found.{is_found}
+use Rattle.mk_suffix.specs.Found.{is_there, place_of}
 use Rattle.mk_suffix.specs.Table.{froms, seen_row}
 use Rattle.mk_world.specs.Looks.{OnLooks}
 use Rattle.mk_suffix.proofs.search.extend.Given as goal
@@ -9,9 +9,9 @@ use Rattle.mk_suffix.proofs.search.extend.Given as goal
 abbrev pub invariant-loop-source : goal.invariant-loop-source
 invariant-loop-source g l = record {
   idle : g.W.World.runs l.world [];
-  extends : Extends l.rules.nodes l.rules.suffixes l.fn.search l.search l.at
+  extends : Extends l.rules.nodes l.rules.seeking.suffixes l.fn.search l.search l.at
       (drop l.source-index (froms (seen_row l.source-items)));
   told : OnLooks (g.W.World.history l.fn.world) (g.W.World.history l.world) (λ files.
-      NoneFound (is_found files l.rules.nodes) l.base l.fn.search l.search);
+      NoneFound (is_there (place_of files l.rules.nodes l.rules.seeking)) l.base l.fn.search l.search);
   faults : g.W.World.faults l.world ≡ g.W.World.faults l.fn.world;
 }

@@ -2,7 +2,7 @@ use Rattle.std.proofs.Common.{◌≡◌, ◌+◌, ◌-◌, ◌≤◌, [], length
 use Rattle.std.specs.List.{list_any}
 use Rattle.mk_suffix.proofs.FirstLemmas.{whole, left_at}
 use Rattle.mk_suffix.specs.Extends.{AreWays}
-use Rattle.mk_suffix.specs.Found.{is_found}
+use Rattle.mk_suffix.specs.Found.{is_there, place_of}
 use Rattle.mk_world.specs.Looks.{OnLooks}
 use Rattle.mk_suffix.specs.Search.{Leads, reached, left_over, is_source}
 use Rattle.mk_suffix.proofs.search.first_found.Given as goal
@@ -13,11 +13,11 @@ invariant-suffixes g l = record {
   idle : g.W.World.runs l.world [];
   ways : AreWays l.rules.nodes l.search;
   place : l.at ≤ length l.search;
-  leads : Leads l.search (left_at l.rules.nodes l.rules.suffixes l.own l.at) (whole l.rules.nodes l.rules.suffixes l.own);
+  leads : Leads l.search (left_at l.rules.nodes l.rules.seeking.suffixes l.own l.at) (whole l.rules.nodes l.rules.seeking.suffixes l.own);
   told : OnLooks (g.W.World.history l.fn.world) (g.W.World.history l.world) (λ files.
-      list_any (is_source (is_found files l.rules.nodes) l.base l.own) (reached l.search) ≡ false);
+      list_any (is_source (is_there (place_of files l.rules.nodes l.rules.seeking)) l.base l.own) (reached l.search) ≡ false);
   faults : g.W.World.faults l.world ≡ g.W.World.faults l.fn.world;
 }
 
 abbrev pub decreases-suffixes : goal.decreases-suffixes
-decreases-suffixes g l = (left_over l.rules.suffixes (reached l.search) + length l.search) - l.at
+decreases-suffixes g l = (left_over l.rules.seeking.suffixes (reached l.search) + length l.search) - l.at

@@ -18,12 +18,12 @@ returns-in_err-meet_by-clause-refused g c =
     let fault = c.in_err-meet_by.field-0.0 in
     let opened : is_open s n ≡ true = grind (arith, common_steps) in
     rw (p.1, p.2) (OnLooks-map _ _
-    (λ files. means_of files c.args.rules.now.nodes c.args.rules.now.suffixes c.name.result.now n
+    (λ files. means_of files c.args.rules.now.nodes c.args.rules.now.seeking c.name.result.now n
     ≡ c.in_ok-means.means)
-    (λ files. IsRefusedBy fault (spec.entered files c.args.rules.now.suffixes s n))
+    (λ files. IsRefusedBy fault (spec.entered files c.args.rules.now.seeking s n))
     c.in_ok-means.ensures.told
     (λ files is. subst (IsRefusedBy fault)
-    (sym (entered-means files c.args.rules.now.suffixes s n c.args.rules.now.nodes c.name.result.now
+    (sym (entered-means files c.args.rules.now.seeking s n c.args.rules.now.nodes c.name.result.now
     c.in_ok-means.means c.requires.same c.name.ensures opened is))
     c.in_err-meet_by.ensures.refused))
 
@@ -33,10 +33,10 @@ returns-clause-entered g c =
     let n = c.args.n in
     let opened : is_open s n ≡ true = grind (arith, common_steps) in
     OnLooks-map _ _
-    (λ files. means_of files c.args.rules.now.nodes c.args.rules.now.suffixes c.name.result.now n
+    (λ files. means_of files c.args.rules.now.nodes c.args.rules.now.seeking c.name.result.now n
     ≡ c.in_ok-means.means)
-    (λ files. spec.entered files c.args.rules.now.suffixes s n ≡ Ok c.meet_by.new.self)
+    (λ files. spec.entered files c.args.rules.now.seeking s n ≡ Ok c.meet_by.new.self)
     c.in_ok-means.ensures.told
-    (λ files is. entered-means files c.args.rules.now.suffixes s n c.args.rules.now.nodes c.name.result.now
+    (λ files is. entered-means files c.args.rules.now.seeking s n c.args.rules.now.nodes c.name.result.now
     c.in_ok-means.means c.requires.same c.name.ensures opened is
     ∙ c.in_ok-meet_by.ensures.decided)

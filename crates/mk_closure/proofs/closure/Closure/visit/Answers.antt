@@ -14,9 +14,9 @@ use Rattle.mk_closure.proofs.closure.Closure.visit.Goals as goal
 pub returns-then-is_over-clause-leads : goal.returns-then-is_over-clause-leads
 returns-then-is_over-clause-leads g c =
     OnLooks-none _
-    (λ files. steps.Leads (spec.entered files c.args.rules.now.suffixes) c.args.self.now
+    (λ files. steps.Leads (spec.entered files c.args.rules.now.seeking) c.args.self.now
     (c.args.n ∷ reverse c.args.todo.now.items) c.args.self.now (reverse c.args.todo.now.items))
-    (λ files. walk-over (spec.entered files c.args.rules.now.suffixes) c.args.self.now c.args.n
+    (λ files. walk-over (spec.entered files c.args.rules.now.seeking) c.args.self.now c.args.n
     (reverse c.args.todo.now.items) (sym c.is_over.ensures.value ∙ c.if-is_over.true))
 
 pub returns-in_err-enter-clause-refused : goal.returns-in_err-enter-clause-refused
@@ -25,11 +25,11 @@ returns-in_err-enter-clause-refused g c =
     let fault = c.in_err-enter.field-0.0 in
     let todo = c.args.todo.now.items in
     rw (p.1, p.2) (OnLooks-map _ _
-    (λ files. IsRefusedBy fault (spec.entered files c.args.rules.now.suffixes c.args.self.now c.args.n))
-    (λ files. IsRefusedBy fault (spec.walk (spec.entered files c.args.rules.now.suffixes)
+    (λ files. IsRefusedBy fault (spec.entered files c.args.rules.now.seeking c.args.self.now c.args.n))
+    (λ files. IsRefusedBy fault (spec.walk (spec.entered files c.args.rules.now.seeking)
     c.args.self.now (c.args.n ∷ reverse todo)))
     c.in_err-enter.ensures.refused
-    (λ files refused. walk-refused (spec.entered files c.args.rules.now.suffixes) c.args.self.now
+    (λ files refused. walk-refused (spec.entered files c.args.rules.now.seeking) c.args.self.now
     c.args.n (reverse todo) fault (sym c.is_over.ensures.value ∙ c.if-is_over.false)
     (c.is_over.ensures.room c.if-is_over.false) refused))
 
@@ -41,14 +41,14 @@ returns-clause-leads g c =
     ∙ ap (λ l. todo ++ reverse l) c.sources.ensures.value in
     let turned = turned-first todo c.push_sources.new.todo.items (sources_in later c.args.n) pushed in
     OnLooks-map _ _
-    (λ files. spec.entered files c.args.rules.now.suffixes c.args.self.now c.args.n ≡ Ok later)
-    (λ files. steps.Leads (spec.entered files c.args.rules.now.suffixes) c.args.self.now
+    (λ files. spec.entered files c.args.rules.now.seeking c.args.self.now c.args.n ≡ Ok later)
+    (λ files. steps.Leads (spec.entered files c.args.rules.now.seeking) c.args.self.now
     (c.args.n ∷ reverse todo) later (reverse c.push_sources.new.todo.items))
     c.in_ok-enter.ensures.entered
-    (λ files is. walk-new (spec.entered files c.args.rules.now.suffixes) c.args.self.now later c.args.n
+    (λ files is. walk-new (spec.entered files c.args.rules.now.seeking) c.args.self.now later c.args.n
     (reverse todo) (sym c.is_over.ensures.value ∙ c.if-is_over.false)
     (c.is_over.ensures.room c.if-is_over.false) c.in_ok-enter.ensures.met is
-    ∙ ap (spec.walk (spec.entered files c.args.rules.now.suffixes) later) (sym turned))
+    ∙ ap (spec.walk (spec.entered files c.args.rules.now.seeking) later) (sym turned))
 
 pub returns-clause-below : goal.returns-clause-below
 returns-clause-below g c =

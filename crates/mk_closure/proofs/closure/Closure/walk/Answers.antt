@@ -24,7 +24,7 @@ visit-requires-clause-below g c =
 
 pub nodes-preserved : goal.nodes-preserved
 nodes-preserved g c =
-    let suffixes = c.args.rules.now.suffixes in
+    let seeking = c.args.rules.now.seeking in
     let s = c.nodes.self in
     let rest = c.pop.new.self.items in
     let n = c.in-Some.n in
@@ -33,14 +33,14 @@ nodes-preserved g c =
       idle = c.in_ok-visit.ensures.idle;
       below = c.in_ok-visit.ensures.below;
       told = OnLooks-then _ _ _
-          (λ files. steps.Leads (spec.entered files suffixes) c.args.self.now (c.args.from ∷ []) s
+          (λ files. steps.Leads (spec.entered files seeking) c.args.self.now (c.args.from ∷ []) s
           (reverse c.nodes.todo.items))
-          (λ files. steps.Leads (spec.entered files suffixes) s (n ∷ reverse rest)
+          (λ files. steps.Leads (spec.entered files seeking) s (n ∷ reverse rest)
           c.visit.new.self (reverse c.visit.new.todo.items))
-          (λ files. steps.Leads (spec.entered files suffixes) c.args.self.now (c.args.from ∷ [])
+          (λ files. steps.Leads (spec.entered files seeking) c.args.self.now (c.args.from ∷ [])
           c.visit.new.self (reverse c.visit.new.todo.items))
           c.nodes.invariant.told c.in_ok-visit.ensures.leads
-          (λ files so_far next. so_far ∙ (ap (spec.walk (spec.entered files suffixes) s) turned
+          (λ files so_far next. so_far ∙ (ap (spec.walk (spec.entered files seeking) s) turned
           ∙ next));
       nodes = c.in_ok-visit.ensures.nodes ∙ c.nodes.invariant.nodes;
       faults = grind (arith, common_steps);
@@ -50,31 +50,31 @@ pub returns-in_err-visit-clause-refused : goal.returns-in_err-visit-clause-refus
 returns-in_err-visit-clause-refused g c =
     let p = err_from_is_err_and c.from_residual-in_err-visit.result
     c.from_residual-in_err-visit.ensures.1 in
-    let suffixes = c.args.rules.now.suffixes in
+    let seeking = c.args.rules.now.seeking in
     let s = c.nodes.self in
     let rest = c.pop.new.self.items in
     let n = c.in-Some.n in
     let fault = c.in_err-visit.field-0.0 in
     let turned = ap reverse c.in-Some.ensures.items ∙ reverse-append rest (n ∷ []) in
     rw (p.1, p.2) (OnLooks-then _ _ _
-    (λ files. steps.Leads (spec.entered files suffixes) c.args.self.now (c.args.from ∷ []) s
+    (λ files. steps.Leads (spec.entered files seeking) c.args.self.now (c.args.from ∷ []) s
     (reverse c.nodes.todo.items))
-    (λ files. IsRefusedBy fault (spec.walk (spec.entered files suffixes) s (n ∷ reverse rest)))
+    (λ files. IsRefusedBy fault (spec.walk (spec.entered files seeking) s (n ∷ reverse rest)))
     (λ files. IsRefusedBy fault
-    (spec.walk (spec.entered files suffixes) c.args.self.now (c.args.from ∷ [])))
+    (spec.walk (spec.entered files seeking) c.args.self.now (c.args.from ∷ [])))
     c.nodes.invariant.told c.in_err-visit.ensures.refused
     (λ files so_far refused. subst (IsRefusedBy fault)
-    (sym (so_far ∙ ap (spec.walk (spec.entered files suffixes) s) turned)) refused))
+    (sym (so_far ∙ ap (spec.walk (spec.entered files seeking) s) turned)) refused))
 
 pub returns-clause-walked : goal.returns-clause-walked
 returns-clause-walked g c =
-    let suffixes = c.args.rules.now.suffixes in
+    let seeking = c.args.rules.now.seeking in
     let s = c.nodes.self in
     let none : c.nodes.todo.items ≡ [] = grind (arith, common_steps) in
     OnLooks-map _ _
-    (λ files. steps.Leads (spec.entered files suffixes) c.args.self.now (c.args.from ∷ []) s
+    (λ files. steps.Leads (spec.entered files seeking) c.args.self.now (c.args.from ∷ []) s
     (reverse c.nodes.todo.items))
-    (λ files. spec.walk (spec.entered files suffixes) c.args.self.now (c.args.from ∷ []) ≡ Ok s)
+    (λ files. spec.walk (spec.entered files seeking) c.args.self.now (c.args.from ∷ []) ≡ Ok s)
     c.nodes.invariant.told
-    (λ files so_far. so_far ∙ walk-end (spec.entered files suffixes) s
+    (λ files so_far. so_far ∙ walk-end (spec.entered files seeking) s
     (reverse c.nodes.todo.items) (ap reverse none))

@@ -11,7 +11,7 @@ invariant-nodes g l = record {
   idle : g.W.World.runs l.world [];
   below : AreBelow (length l.self.parts) l.todo.items;
   told : OnLooks (g.W.World.history l.fn.world) (g.W.World.history l.world) (λ files.
-      steps.Leads (spec.entered files l.rules.suffixes) l.fn.self (l.fn.from ∷ []) l.self
+      steps.Leads (spec.entered files l.rules.seeking) l.fn.self (l.fn.from ∷ []) l.self
       (reverse l.todo.items));
   nodes : l.self.nodes ≡ l.fn.self.nodes;
   faults : g.W.World.faults l.world ≡ g.W.World.faults l.fn.world;

@@ -11,7 +11,7 @@ use Rattle.mk_closure.proofs.closure.Closure.want_all.Goals as goal
 pub returns-in_err-want-clause-refused : goal.returns-in_err-want-clause-refused
 returns-in_err-want-clause-refused g c =
     let p = err_from_is_err_and c.from_residual.result c.from_residual.ensures.1 in
-    let suffixes = c.args.rules.now.suffixes in
+    let seeking = c.args.rules.now.seeking in
     let s = c.loop-name.self in
     let i = c.loop-name.name-index in
     let all = c.args.wanted.now in
@@ -19,17 +19,17 @@ returns-in_err-want-clause-refused g c =
     let fault = c.in_err-want.field-0.0 in
     let are : drop i all ≡ name ∷ drop (i + 1) all = grind (arith, common_steps) in
     rw (p.1, p.2) (OnLooks-then _ _ _
-    (λ files. spec.all_met (spec.entered files suffixes) c.args.self.now all
-    ≡ spec.all_met (spec.entered files suffixes) s (drop i all))
-    (λ files. IsRefusedBy fault (spec.wanted_met (spec.entered files suffixes) s name))
-    (λ files. IsRefusedBy fault (spec.all_met (spec.entered files suffixes) c.args.self.now all))
+    (λ files. spec.all_met (spec.entered files seeking) c.args.self.now all
+    ≡ spec.all_met (spec.entered files seeking) s (drop i all))
+    (λ files. IsRefusedBy fault (spec.wanted_met (spec.entered files seeking) s name))
+    (λ files. IsRefusedBy fault (spec.all_met (spec.entered files seeking) c.args.self.now all))
     c.loop-name.invariant.met c.in_err-want.ensures.refused
-    (λ files so_far refused. all_met-refused (spec.entered files suffixes) _ s (drop i all) name
+    (λ files so_far refused. all_met-refused (spec.entered files seeking) _ s (drop i all) name
     (drop (i + 1) all) fault are so_far refused))
 
 pub loop-name-preserved : goal.loop-name-preserved
 loop-name-preserved g c =
-    let suffixes = c.args.rules.now.suffixes in
+    let seeking = c.args.rules.now.seeking in
     let s = c.loop-name.self in
     let i = c.loop-name.name-index in
     let all = c.args.wanted.now in
@@ -38,13 +38,13 @@ loop-name-preserved g c =
     record {
       idle = c.in_ok-want.ensures.idle;
       met = OnLooks-then _ _ _
-          (λ files. spec.all_met (spec.entered files suffixes) c.args.self.now all
-          ≡ spec.all_met (spec.entered files suffixes) s (drop i all))
-          (λ files. spec.wanted_met (spec.entered files suffixes) s name ≡ Ok c.want.new.self)
-          (λ files. spec.all_met (spec.entered files suffixes) c.args.self.now all
-          ≡ spec.all_met (spec.entered files suffixes) c.want.new.self (drop (i + 1) all))
+          (λ files. spec.all_met (spec.entered files seeking) c.args.self.now all
+          ≡ spec.all_met (spec.entered files seeking) s (drop i all))
+          (λ files. spec.wanted_met (spec.entered files seeking) s name ≡ Ok c.want.new.self)
+          (λ files. spec.all_met (spec.entered files seeking) c.args.self.now all
+          ≡ spec.all_met (spec.entered files seeking) c.want.new.self (drop (i + 1) all))
           c.loop-name.invariant.met c.in_ok-want.ensures.met
-          (λ files so_far is. all_met-next (spec.entered files suffixes) _ s c.want.new.self
+          (λ files so_far is. all_met-next (spec.entered files seeking) _ s c.want.new.self
           (drop i all) name (drop (i + 1) all) are so_far is);
       nodes = c.in_ok-want.ensures.nodes ∙ c.loop-name.invariant.nodes;
       faults = grind (arith, common_steps);
@@ -52,14 +52,14 @@ loop-name-preserved g c =
 
 pub returns-clause-met : goal.returns-clause-met
 returns-clause-met g c =
-    let suffixes = c.args.rules.now.suffixes in
+    let seeking = c.args.rules.now.seeking in
     let s = c.loop-name.self in
     let i = c.loop-name.name-index in
     let all = c.args.wanted.now in
     OnLooks-map _ _
-    (λ files. spec.all_met (spec.entered files suffixes) c.args.self.now all
-    ≡ spec.all_met (spec.entered files suffixes) s (drop i all))
-    (λ files. spec.all_met (spec.entered files suffixes) c.args.self.now all ≡ Ok s)
+    (λ files. spec.all_met (spec.entered files seeking) c.args.self.now all
+    ≡ spec.all_met (spec.entered files seeking) s (drop i all))
+    (λ files. spec.all_met (spec.entered files seeking) c.args.self.now all ≡ Ok s)
     c.loop-name.invariant.met
-    (λ files so_far. so_far ∙ all_met-end (spec.entered files suffixes) s (drop i all)
+    (λ files so_far. so_far ∙ all_met-end (spec.entered files seeking) s (drop i all)
     (drop_all i all (omega arith)))

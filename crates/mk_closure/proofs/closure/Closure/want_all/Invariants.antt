@@ -8,8 +8,8 @@ abbrev pub invariant-loop-name : goal.invariant-loop-name
 invariant-loop-name g l = record {
   idle : g.W.World.runs l.world [];
   met : OnLooks (g.W.World.history l.fn.world) (g.W.World.history l.world) (λ files.
-      spec.all_met (spec.entered files l.rules.suffixes) l.fn.self l.wanted
-      ≡ spec.all_met (spec.entered files l.rules.suffixes) l.self (drop l.name-index l.wanted));
+      spec.all_met (spec.entered files l.rules.seeking) l.fn.self l.wanted
+      ≡ spec.all_met (spec.entered files l.rules.seeking) l.self (drop l.name-index l.wanted));
   nodes : l.self.nodes ≡ l.fn.self.nodes;
   faults : g.W.World.faults l.world ≡ g.W.World.faults l.fn.world;
 }

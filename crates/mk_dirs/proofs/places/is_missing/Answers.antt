@@ -1,7 +1,7 @@
 use Rattle.std.proofs.Common.{[]}
-use Rattle.mk_suffix.proofs.LookLemmas.{OnErr-looked, OnLooks-refused, OnLooks-timed}
+use Rattle.mk_dirs.proofs.LookLemmas.{OnErr-looked, OnLooks-refused, OnLooks-timed}
 use Rattle.mk_world.proofs.IdleLemmas.{IsIdle}
-use Rattle.mk_suffix.proofs.found.is_missing.Goals as goal
+use Rattle.mk_dirs.proofs.places.is_missing.Goals as goal
 
 pub returns-in_err-when-clause-refused : goal.returns-in_err-when-clause-refused
 returns-in_err-when-clause-refused g c =
@@ -14,5 +14,5 @@ pub returns-clause-told : goal.returns-clause-told
 returns-clause-told g c =
     let idle : IsIdle (g.W.World.history c.args.world.now) =
     λ h is. g.met.W.World.told_children c.args.world.now h [] c.requires.idle is in
-    rw c.is_missing.ensures (OnLooks-timed g.W.World.meaning c.args.name.now c.in_ok-when.when
+    rw c.is_missing.ensures (OnLooks-timed g.W.World.meaning c.args.path.now c.in_ok-when.when
     _ _ idle c.in_ok-when.ensures.done)

@@ -6,7 +6,7 @@ use Rattle.std.proofs.lemmas.List.Folds.{list_any-append}
 use Rattle.std.proofs.lemmas.Slice.Eq.{bytes_eq-Decides}
 use Rattle.indexmap.specs.IndexSet.{insert_key}
 use Rattle.mk_rules.specs.Lines.{is_known}
-use Rattle.mk_rules.specs.Suffixes.{Holds}
+use Rattle.mk_rules.specs.Gathered.{Holds}
 
 or_false : (b : Bool) → (b || false) ≡ b
 or_false true = refl
