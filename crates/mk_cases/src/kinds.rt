@@ -15,9 +15,10 @@ pub enum Counted {
 }
 
 /// All that is counted, by its names.
-pub const KINDS: [(&str, Counted); 10] = [
+pub const KINDS: [(&str, Counted); 11] = [
     ("read", Counted::Call(CallKind::Read)),
     ("time", Counted::Call(CallKind::Time)),
+    ("list", Counted::Call(CallKind::List)),
     ("stamp", Counted::Call(CallKind::Stamp)),
     ("put", Counted::Call(CallKind::Put)),
     ("remove", Counted::Call(CallKind::Remove)),
@@ -142,6 +143,7 @@ pub fn one_fail(alloc: Global, one: &Failing, place: Where) -> Result<Fails, NoM
 pub struct Counts {
     read: u64,
     time: u64,
+    list: u64,
     stamp: u64,
     put: u64,
     remove: u64,
@@ -156,6 +158,7 @@ impl Counts {
         Counts {
             read: world.calls(CallKind::Read),
             time: world.calls(CallKind::Time),
+            list: world.calls(CallKind::List),
             stamp: world.calls(CallKind::Stamp),
             put: world.calls(CallKind::Put),
             remove: world.calls(CallKind::Remove),
@@ -170,6 +173,7 @@ impl Counts {
         match kind {
             CallKind::Read => self.read,
             CallKind::Time => self.time,
+            CallKind::List => self.list,
             CallKind::Stamp => self.stamp,
             CallKind::Put => self.put,
             CallKind::Remove => self.remove,

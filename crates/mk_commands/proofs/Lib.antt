@@ -1,3 +1,4 @@
+pub mod BelowLemmas
 pub mod FileLemmas
 mod JoinLemmas
 mod LineLemmas

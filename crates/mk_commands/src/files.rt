@@ -3,13 +3,15 @@ ghost use Rattle.std.specs.Prelude.{◌≡◌, ◌+◌, ◌<◌, ◌≤◌, ℕ,
 ghost use Rattle.std.specs.Option.{option_copied};
 ghost use Rattle.mk_world.specs.Deeds.{changes};
 ghost use Rattle.mk_world.specs.History.{at_time, contents, effected, effected_all, timed_effects};
+ghost use Rattle.mk_world.specs.Listings.{AreNamesBelow};
 ghost use Rattle.mk_commands.specs.Changes.{HasEffects, changed, changed_all, written};
 ghost use Rattle.mk_commands.specs.Files.{as_filed, files_in, no_files, room_in};
 
+use crate::below::name_below;
 use crate::change::{Change, change_of, changes_of};
 use indexmap::IndexMap;
-use mk_bytes::{NoMemory, Text};
-use mk_world::{Deed, Timed};
+use mk_bytes::{NoMemory, Text, Texts};
+use mk_world::{Deed, Names, Timed};
 use std::alloc::Global;
 
 /// The bytes of a file, and the time of its last change.
@@ -52,6 +54,19 @@ impl Files {
             None => None,
             Some(file) => Some(&file.bytes),
         }
+    }
+
+    /// The names directly below a directory, in the order of their bytes, each once.
+    pub fn names_below(&self, alloc: Global, dir: &[u8]) -> Result<Texts, NoMemory>
+        ensures { IfOk result (AreNamesBelow (contents (files_in self.now)) dir.now) }
+    {
+        let mut names = Names::new(alloc);
+        for path in self.stored.keys() {
+            if let Some(name) = name_below(dir, path.as_slice()) {
+                names.add(name)?;
+            }
+        }
+        names.texts(alloc)
     }
 
     /// A file has these bytes from now on.

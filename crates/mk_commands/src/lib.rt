@@ -28,6 +28,7 @@
 //! number has 1 to 9 decimal digits, and N is not 0. A command without words does nothing.
 #![tactic(auto)]
 
+mod below;
 mod change;
 mod clock;
 mod command;

@@ -4,6 +4,7 @@ pub mod ChildLemmas
 pub mod ChronicleLemmas
 pub mod EndingLemmas
 pub mod EnterLemmas
+mod ListLemmas
 pub mod RunningLemmas
 pub mod TicketLemmas
 pub mod TurnLemmas

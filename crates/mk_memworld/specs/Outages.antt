@@ -17,6 +17,7 @@ abbrev pub none_made : Made
 none_made = record {
   read = 0;
   time = 0;
+  list = 0;
   stamp = 0;
   put = 0;
   remove = 0;
@@ -32,6 +33,7 @@ first_outages fails = record { fails = fails; made = none_made; faults = 0 }
 abbrev pub made_of : Made → CallKind → ℕ
 made_of made kind.Read = made.read
 made_of made kind.Time = made.time
+made_of made kind.List = made.list
 made_of made kind.Stamp = made.stamp
 made_of made kind.Put = made.put
 made_of made kind.Remove = made.remove
@@ -44,6 +46,7 @@ made_of made kind.Write = made.write
 abbrev pub counted : Made → CallKind → Made
 counted made kind.Read = record made { read = one_more made.read }
 counted made kind.Time = record made { time = one_more made.time }
+counted made kind.List = record made { list = one_more made.list }
 counted made kind.Stamp = record made { stamp = one_more made.stamp }
 counted made kind.Put = record made { put = one_more made.put }
 counted made kind.Remove = record made { remove = one_more made.remove }

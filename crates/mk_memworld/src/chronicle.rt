@@ -3,6 +3,7 @@ ghost use Rattle.std.specs.Prelude.{◌≡◌, ◌↔◌, ◌+◌, ◌^◌, ◌<
 ghost use Rattle.std.specs.Option.{option_copied};
 ghost use Rattle.mk_world.specs.Deeds.{changes};
 ghost use Rattle.mk_world.specs.History.{at_time, child_in, effected_all, files_of, state_of, stepped, tickets_of, without_child};
+ghost use Rattle.mk_world.specs.Listings.{Lists};
 ghost use Rattle.mk_world.specs.Talks.{does};
 ghost use Rattle.mk_world.specs.declared.history.Happening.TheVariants.{Ask, Edit, End, Gone, Look, Start};
 ghost use Rattle.mk_commands.specs.Clock.{last_number, numbers, numbers_of, timed};
@@ -15,7 +16,7 @@ ghost use Rattle.mk_memworld.specs.Schedule.{deed_by, going, gone_on, named, new
 
 use crate::going::Going;
 use crate::writing::{Writing, beginning};
-use mk_bytes::{Items, NoMemory, Text};
+use mk_bytes::{Items, NoMemory, Text, Texts};
 use mk_commands::{
     Files, Rest, Stored, all_taken, answers_with, copy_cmd, copy_deed, deed_after, is_over,
     numbers_taken, records_of, rest_of, taken_by_step,
@@ -85,6 +86,18 @@ impl Chronicle {
         ensures { option_copied result ≡ files_of self.now path.now }
     {
         self.files.bytes(path)
+    }
+
+    /// The names of what stands directly below a directory, in the order of their bytes, each once;
+    /// `None` where nothing does, but for `.`, which is always there.
+    pub fn list(&self, alloc: Global, dir: &[u8]) -> Result<Option<Texts>, NoMemory>
+        ensures { IfOk result (Lists (files_of self.now) dir.now) }
+    {
+        let names = self.files.names_below(alloc, dir)?;
+        if names.is_empty() && dir != b".".as_slice() {
+            return Ok(None);
+        }
+        Ok(Some(names))
     }
 
     /// The time of the last change, than which the last stamp is no later.

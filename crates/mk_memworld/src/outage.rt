@@ -13,6 +13,7 @@ use mk_bytes::Items;
 pub enum CallKind {
     Read,
     Time,
+    List,
     Stamp,
     Put,
     Remove,
@@ -40,6 +41,7 @@ pub type Fails = Items<Fail>;
 pub struct Made {
     pub read: u64,
     pub time: u64,
+    pub list: u64,
     pub stamp: u64,
     pub put: u64,
     pub remove: u64,
@@ -58,6 +60,7 @@ impl Made {
         match kind {
             CallKind::Read => count_one(&mut self.read),
             CallKind::Time => count_one(&mut self.time),
+            CallKind::List => count_one(&mut self.list),
             CallKind::Stamp => count_one(&mut self.stamp),
             CallKind::Put => count_one(&mut self.put),
             CallKind::Remove => count_one(&mut self.remove),
@@ -97,6 +100,7 @@ impl Outages {
             made: Made {
                 read: 0,
                 time: 0,
+                list: 0,
                 stamp: 0,
                 put: 0,
                 remove: 0,
@@ -116,6 +120,7 @@ impl Outages {
         match kind {
             CallKind::Read => self.made.read,
             CallKind::Time => self.made.time,
+            CallKind::List => self.made.list,
             CallKind::Stamp => self.made.stamp,
             CallKind::Put => self.made.put,
             CallKind::Remove => self.made.remove,

@@ -1,12 +1,13 @@
-ghost use Rattle.std.specs.Prelude.{◌≡◌, ◌↔◌, ◌⊎◌, ◌+◌, ◌<◌, ℕ, List, [], ◌∷◌, ◌++◌, Some, false, drop, length, nat_eq, remove, slice_get, slice_index, IsTrue, IfOk, OnOk, OnErr};
+ghost use Rattle.std.specs.Prelude.{◌≡◌, ◌↔◌, ◌⊎◌, ◌+◌, ◌<◌, ℕ, List, [], ◌∷◌, ◌++◌, Some, false, drop, length, nat_eq, remove, slice_get, slice_index, IsTrue, IfOk, IfSome, OnOk, OnErr};
 ghost use Rattle.std.specs.List.{list_any};
 ghost use Rattle.std.specs.Option.{option_copied};
 ghost use Rattle.mk_bytes.specs.Paths.{is_clean_directory};
 ghost use Rattle.mk_world.specs.Calls as spec;
-ghost use Rattle.mk_world.specs.Calls.{Adds, AddsEvents, OwnAsk, OwnEnd, OwnGone, OwnLeft, OwnNothing, OwnPut, OwnPutPart, OwnRead, OwnStamp, OwnStampPart, OwnStart, OwnTime, OwnUnanswered, TakenOut};
+ghost use Rattle.mk_world.specs.Calls.{Adds, AddsEvents, OwnAsk, OwnEnd, OwnGone, OwnLeft, OwnList, OwnNothing, OwnPut, OwnPutPart, OwnRead, OwnStamp, OwnStampPart, OwnStart, OwnTime, OwnUnanswered, TakenOut};
 ghost use Rattle.mk_world.specs.Causes.{HasCause};
 ghost use Rattle.mk_world.specs.History.{files_of, state_of, tickets_of};
 ghost use Rattle.mk_world.specs.Lawful.{IsLawful};
+ghost use Rattle.mk_world.specs.Listings.{AreInOrder};
 ghost use Rattle.mk_world.specs.Runs.{Run};
 ghost use Rattle.mk_world.specs.Talks.{does};
 ghost use Rattle.mk_world.specs.declared.fault.WorldFault.TheVariants.{Failed};
@@ -35,7 +36,7 @@ use crate::going::Going;
 use crate::outage::{CallKind, Fails, Outages};
 use crate::schedule::{Schedule, Turns};
 use crate::writing::Writing;
-use mk_bytes::{NoMemory, Pairs, Text};
+use mk_bytes::{NoMemory, Pairs, Text, Texts};
 use mk_commands::{Stored, copy_bytes};
 use mk_world::{Cmd, Ended, Kids, Ticket, Time, When, World, WorldFault};
 use std::alloc::Global;
@@ -440,6 +441,35 @@ impl World for MemWorld {
             ≡ with_answer (with_call self.old.outages kind.Time) result }
     {
         self.time(alloc, path)
+    }
+
+    /// The names of what stands directly below a directory. It goes through all files.
+    fn list(&mut self, alloc: Global, dir: &[u8]) -> Result<Option<Texts>, WorldFault>
+        ensures done { IfOk result (λ names. Adds language (Some self.old.chronicle)
+            (Some self.new.chronicle) (OwnList dir.now names)) }
+        ensures ordered { IfOk result (λ names. IfSome names AreInOrder) }
+        ensures history { OnOk result
+            (self.new.chronicle ≡ with_event (turned self.old) (Look dir.now)) }
+        ensures course { OnOk result (self.new.schedule
+            ≡ course_after self.old.chronicle self.old.schedule) }
+        ensures refused { OnErr result (Adds language (Some self.old.chronicle)
+            (Some self.new.chronicle) OwnNothing) }
+        ensures cause { HasCause Failed self.old.outages.faults self.new.outages.faults result }
+        ensures children { (kids : List ℕ)
+            → tickets_of (state_of self.old.chronicle).children ≡ kids
+            → tickets_of (state_of self.new.chronicle).children ≡ kids }
+        ensures exactly { FailsWhere
+            (IsStruck self.old.outages kind.List ⊎ IsTooShort self.old 0) result }
+        ensures failed { OnFailed result (HasFailed 0 self.old self.new) }
+        ensures out_of_memory { OnNoMemory result (IsOldOrTurned self.old self.new) }
+        ensures taken { self.new.schedule.numbers ≡ drop 1 self.old.schedule.numbers }
+        ensures counted { self.new.outages
+            ≡ with_answer (with_call self.old.outages kind.List) result }
+    {
+        self.begin(CallKind::List, 0)?;
+        let names = self.chronicle.list(alloc, dir)?;
+        self.chronicle.look(dir)?;
+        Ok(names)
     }
 
     /// Writes the head of a meta file at the next time; where this is not later than `after`, at the

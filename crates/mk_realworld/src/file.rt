@@ -17,8 +17,8 @@ const NANOSECONDS: u64 = 1_000_000_000;
 /// A file above 64 MiB counts as a fault.
 pub const MAX_FILE: usize = 67_108_864;
 
-// Whether an error says that there is no file: below a plain file there is none either.
-fn is_missing(error: &Error) -> bool {
+/// Whether an error says that there is no file: below a plain file there is none either.
+pub fn is_missing(error: &Error) -> bool {
     error.kind() == ErrorKind::NotFound || error.kind() == ErrorKind::NotADirectory
 }
 

@@ -11,6 +11,7 @@ mod count;
 mod file;
 mod known;
 mod late;
+mod listing;
 mod named;
 mod output;
 mod refusal;

@@ -1,19 +1,21 @@
 //! The system as a world uses it: what the runtime reaches, what children are given, the directory for
 //! their logs, and the buffer by way of which files are read.
 ghost use Rattle.std.specs.Prelude.{◌≡◌, ◌+◌, IfOk, IfSome, OnErr};
+ghost use Rattle.mk_world.specs.Listings.{AreInOrder};
 ghost use Rattle.mk_realworld.specs.Known.{IsForgotten, sights_in};
 ghost use Rattle.mk_realworld.specs.Sights.{settled};
 
 use crate::file::{Sight, file_text, look};
 use crate::known::KnownTimes;
 use crate::late::Late;
+use crate::listing::names_in;
 use crate::named::Named;
 use crate::refusal::{Reason, Refusal};
 use crate::room::Room;
 use crate::setting::Setting;
 use crate::shell::SHELL;
 use libc::types::pollfd;
-use mk_bytes::{NoMemory, Text};
+use mk_bytes::{NoMemory, Text, Texts};
 use mk_world::When;
 use std::fs::Files;
 use std::time::Clock;
@@ -140,6 +142,13 @@ impl<R: Files + Clock + AllocGlobal> System<R> {
             return Ok(None);
         }
         file_text(&self.rt, self.buffer.as_mut_slice(), path)
+    }
+
+    /// The names in a directory, in the order of their bytes, each once; `None` where there is none.
+    pub fn list(&mut self, dir: &[u8]) -> Result<Option<Texts>, Refusal>
+        ensures { IfOk result (λ names. IfSome names AreInOrder) }
+    {
+        names_in(&self.rt, self.buffer.as_mut_slice(), dir)
     }
 
     /// Removes the directory of the logs of children, where no child runs.

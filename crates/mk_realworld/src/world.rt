@@ -1,7 +1,8 @@
-ghost use Rattle.std.specs.Prelude.{◌≡◌, ◌++◌, ◌∷◌, ◌<◌, ◌≤◌, [], None, length, nat_eq, false, IsSome, IfOk, OnOk, OnErr};
+ghost use Rattle.std.specs.Prelude.{◌≡◌, ◌++◌, ◌∷◌, ◌<◌, ◌≤◌, [], None, length, nat_eq, false, IsSome, IfOk, IfSome, OnOk, OnErr};
 ghost use Rattle.std.specs.List.{list_any};
 ghost use Rattle.mk_world.specs.Calls.{TakenOut};
 ghost use Rattle.mk_world.specs.Causes.{HasCause, Rose};
+ghost use Rattle.mk_world.specs.Listings.{AreInOrder};
 ghost use Rattle.mk_world.specs.declared.fault.WorldFault.TheVariants.{Failed};
 ghost use Rattle.mk_realworld.specs.Stops.{Stops};
 
@@ -15,7 +16,7 @@ use crate::shell::Streams;
 use crate::system::System;
 use crate::waiting::{run, wait_over};
 use crate::write::{remove, write_later};
-use mk_bytes::{NoMemory, Text};
+use mk_bytes::{NoMemory, Text, Texts};
 use mk_world::{Cmd, Ended, Kids, Ticket, Time, When, World, WorldFault};
 use std::alloc::Global;
 use std::fs::{File, Files};
@@ -162,6 +163,21 @@ impl<R: Files<File = File> + Processes + Clock + AllocGlobal + Clone + Drop> Wor
         match self.system.see(path) {
             Ok(sight) => Ok(sight.changed),
             Err(refusal) => Err(self.refused(b"stat", path, refusal)),
+        }
+    }
+
+    /// The names in a directory, but `.` and `..`, in the order of their bytes. A directory that may not be
+    /// read and a path that is not UTF-8 are counted faults; at a plain file there is no directory.
+    fn list(&mut self, _: Global, dir: &[u8]) -> Result<Option<Texts>, WorldFault>
+        ensures ordered { IfOk result (λ names. IfSome names AreInOrder) }
+        ensures cause { HasCause Failed self.old.faults self.new.faults result }
+        ensures stops { Stops self.old.stopped self.new.stopped
+            (self.new.system ≡ self.old.system) result }
+    {
+        self.go_on()?;
+        match self.system.list(dir) {
+            Ok(names) => Ok(names),
+            Err(refusal) => Err(self.refused(b"list", dir, refusal)),
         }
     }
 

@@ -2,10 +2,10 @@
 use Rattle.std.proofs.Common.{◌≡◌, ℕ, List, [], ◌++◌, Option, Some, None, inl, inr}
 use Rattle.std.proofs.Common.{refl, sym, ◌∙◌, ap, subst}
 use Rattle.std.proofs.lemmas.List.{append-nil}
-use Rattle.mk_world.specs.Calls.{AddsEvents, Adds, OwnNothing, OwnRead}
+use Rattle.mk_world.specs.Calls.{AddsEvents, Adds, OwnList, OwnNothing, OwnRead}
 use Rattle.mk_world.specs.Deeds.{Store}
 use Rattle.mk_world.specs.History.{State, MayAll, after, after_all, files_of, state_of, tickets_of}
-use Rattle.mk_world.specs.Runs.{Looked, LooksAt, OnFiles, Same}
+use Rattle.mk_world.specs.Runs.{Listed, Looked, LooksAt, OnFiles, Same}
 use Rattle.mk_world.specs.Talks.{Meaning}
 use Rattle.mk_world.specs.Told.{Told}
 use Rattle.mk_world.specs.declared.history.Happening.{Happening}
@@ -72,6 +72,18 @@ looked_alone {meaning} {path} {found} {old} {new} idle adds =
       answered = alone.is_own.1;
     }
 
+listed_alone : {meaning : Meaning} {dir : List ℕ} {names : Option (List (List ℕ))} {old new : History}
+    → tickets_of (state_of old).children ≡ []
+    → AddsEvents meaning (OwnList dir names) old new → Listed dir names old new
+listed_alone {meaning} {dir} {names} {old} {new} idle adds =
+    let alone = adds_alone
+    (λ state own is none. subst (λ l. (after_all state l).children ≡ []) (sym is.0) none)
+    idle adds in record {
+      base = alone.base;
+      event = alone.events ∙ ap (λ l. old.events ++ l) alone.is_own.0;
+      listed = alone.is_own.1;
+    }
+
 nothing_alone : {meaning : Meaning} {old new : History}
     → tickets_of (state_of old).children ≡ [] → AddsEvents meaning OwnNothing old new
     → Same old new
@@ -91,6 +103,14 @@ pub looked_idle : (meaning : Meaning) (path : List ℕ) (found : Option (List �
 looked_idle meaning path found before None idle adds = tt
 looked_idle meaning path found None (Some new) idle adds = absurd adds
 looked_idle meaning path found (Some old) (Some new) idle adds = looked_alone (idle old refl) adds
+
+-- a directory that is listed by a world that runs no child
+pub listed_idle : (meaning : Meaning) (dir : List ℕ) (names : Option (List (List ℕ)))
+    (before after : Option History) → IsIdle before
+    → Adds meaning before after (OwnList dir names) → Told before after (Listed dir names)
+listed_idle meaning dir names before None idle adds = tt
+listed_idle meaning dir names None (Some new) idle adds = absurd adds
+listed_idle meaning dir names (Some old) (Some new) idle adds = listed_alone (idle old refl) adds
 
 -- a refused call of a world that runs no child
 pub same_idle : (meaning : Meaning) (before after : Option History) → IsIdle before

@@ -5,6 +5,7 @@ pub mod ChangeLemmas
 pub mod ChildLemmas
 pub mod IdleLemmas
 pub mod LawLemmas
+pub mod ListingLemmas
 pub mod LookLemmas
 pub mod OuterLemmas
 pub mod SinkLemmas

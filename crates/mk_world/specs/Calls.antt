@@ -1,6 +1,7 @@
 -- What one call of a world adds to its history.
 use Rattle.std.specs.Prelude.{◌≡◌, ◌⊎◌, ℕ, List, [], ◌∷◌, ◌++◌, map, Option, Some, None}
 use Rattle.mk_world.specs.History.{Filed, State, MayAll, after_all, child_in, contents, state_of}
+use Rattle.mk_world.specs.Listings.{Lists}
 use Rattle.mk_world.specs.Sinks.{Begins}
 use Rattle.mk_world.specs.Talks.{Meaning, Doing, answer, does}
 use Rattle.mk_world.specs.Told.{Told}
@@ -56,6 +57,10 @@ when_of (Some file) = At (record { 0 = file.time })
 
 abbrev pub OwnTime : List ℕ → When → State → List Happening → Type 0
 OwnTime path when state own = (own ≡ Look path ∷ []) × (when ≡ when_of (state.files path))
+
+-- a look at a directory, answered with the names of what stands below it
+abbrev pub OwnList : List ℕ → Option (List (List ℕ)) → State → List Happening → Type 0
+OwnList dir names state own = (own ≡ Look dir ∷ []) × Lists (contents state.files) dir names
 
 -- a removal, at some time
 abbrev pub OwnGone : List ℕ → State → List Happening → Type 0

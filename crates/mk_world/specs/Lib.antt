@@ -5,6 +5,7 @@ pub mod Held
 pub mod History
 pub mod KidsLent
 pub mod Lawful
+pub mod Listings
 pub mod Looks
 pub mod Outer
 pub mod Runs

@@ -3,6 +3,7 @@ use Rattle.std.specs.Prelude.{◌≡◌, ◌⊎◌, ℕ, List, [], ◌∷◌, �
 use Rattle.mk_world.specs.Calls.{Answers}
 use Rattle.mk_world.specs.Deeds.{Store, put}
 use Rattle.mk_world.specs.History.{May, MayAll, files_of, state_of}
+use Rattle.mk_world.specs.Listings.{Lists}
 use Rattle.mk_world.specs.Talks.{Meaning, after_doing, does}
 use Rattle.mk_world.specs.Told.{Told}
 use Rattle.mk_world.specs.declared.command.Cmd.{Cmd}
@@ -31,6 +32,13 @@ pub record Looked (path : List ℕ) (answer : Option (List ℕ)) (old new : Hist
   pub base : new.base ≡ old.base
   pub event : new.events ≡ old.events ++ Look path ∷ []
   pub answered : answer ≡ files_of old path
+
+-- make looked at a directory, and was answered with the names of what stands below it; nothing else
+-- happened
+pub record Listed (dir : List ℕ) (names : Option (List (List ℕ))) (old new : History) : Type 0 where
+  pub base : new.base ≡ old.base
+  pub event : new.events ≡ old.events ++ Look dir ∷ []
+  pub listed : Lists (files_of old) dir names
 
 -- nothing happened
 pub record Same (old new : History) : Type 0 where

@@ -1,4 +1,5 @@
 ghost use Rattle.mk_world.specs.Lawful.{RunsStayLawful};
+ghost use Rattle.mk_world.specs.Listings.{OneListing};
 ghost use Rattle.mk_world.specs.Outer.{SameDoing};
 
 use crate::world::World;
@@ -12,4 +13,9 @@ pub fn same_doing<W: World>(_: &W)
 /// A law of every world: where its history is lawful, what its calls add leaves it lawful.
 pub fn runs_stay_lawful<W: World>(_: &W)
     ensures { RunsStayLawful W.meaning }
+{}
+
+/// A law of every map of files: it has one answer to what a directory holds.
+pub fn one_listing()
+    ensures { OneListing }
 {}

@@ -1,9 +1,10 @@
-ghost use Rattle.std.specs.Prelude.{◌≡◌, ◌<◌, ℕ, List, [], ◌∷◌, ◌++◌, Option, Some, false, length, nat_eq, IsTrue, IfOk, OnOk, OnErr};
+ghost use Rattle.std.specs.Prelude.{◌≡◌, ◌<◌, ℕ, List, [], ◌∷◌, ◌++◌, Option, Some, false, length, nat_eq, IsTrue, IfOk, IfSome, OnOk, OnErr};
 ghost use Rattle.std.specs.List.{list_any};
 ghost use Rattle.mk_bytes.specs.Paths.{is_clean_directory};
-ghost use Rattle.mk_world.specs.Calls.{Adds, OwnNothing, OwnRead, OwnTime, OwnStamp, OwnStampPart, OwnPut, OwnPutPart, OwnGone, OwnAsk, OwnUnanswered, OwnStart, OwnEnd, OwnLeft, TakenOut};
+ghost use Rattle.mk_world.specs.Calls.{Adds, OwnNothing, OwnRead, OwnList, OwnTime, OwnStamp, OwnStampPart, OwnPut, OwnPutPart, OwnGone, OwnAsk, OwnUnanswered, OwnStart, OwnEnd, OwnLeft, TakenOut};
 ghost use Rattle.mk_world.specs.Causes.{HasCause};
 ghost use Rattle.mk_world.specs.History.{state_of, tickets_of};
+ghost use Rattle.mk_world.specs.Listings.{AreInOrder};
 ghost use Rattle.mk_world.specs.Talks.{Meaning};
 ghost use Rattle.mk_world.specs.declared.fault.WorldFault.TheVariants.{Failed};
 ghost use Rattle.mk_world.specs.declared.history.History.{History};
@@ -13,7 +14,7 @@ use crate::fault::WorldFault;
 use crate::kids::Kids;
 use crate::step::Ended;
 use crate::time::{Ticket, Time, When};
-use mk_bytes::Text;
+use mk_bytes::{Text, Texts};
 use std::alloc::Global;
 
 /// Files and children, as make deals with them. Paths are clean; a relative one is taken from the
@@ -58,6 +59,16 @@ pub trait World {
     /// moved to its path with an older time of its own. A world that tells has one time for both.
     fn changed(&mut self, alloc: Global, path: &[u8]) -> Result<When, WorldFault>
         ensures done { IfOk result (λ when. Adds meaning (history self.old) (history self.new) (OwnTime path.now when)) }
+        ensures refused { OnErr result (Adds meaning (history self.old) (history self.new) OwnNothing) }
+        ensures cause { HasCause Failed (faults self.old) (faults self.new) result }
+        ensures children { (kids : List ℕ) → runs self.old kids → runs self.new kids };
+
+    /// The names directly below a directory, each once, in the order of their bytes, or `None` where there
+    /// is no such directory: what stands at the moment of the look. A world that tells has files alone:
+    /// a directory is there where a file lies below it, and `.` is always there.
+    fn list(&mut self, alloc: Global, dir: &[u8]) -> Result<Option<Texts>, WorldFault>
+        ensures done { IfOk result (λ names. Adds meaning (history self.old) (history self.new) (OwnList dir.now names)) }
+        ensures ordered { IfOk result (λ names. IfSome names AreInOrder) }
         ensures refused { OnErr result (Adds meaning (history self.old) (history self.new) OwnNothing) }
         ensures cause { HasCause Failed (faults self.old) (faults self.new) result }
         ensures children { (kids : List ℕ) → runs self.old kids → runs self.new kids };
