@@ -1,20 +1,18 @@
 -- For which paths a pattern stands.
-use Rattle.std.proofs.Common.{◌≡◌, ℕ, Bool, true, false, ◌||◌, cond, List, [], ◌∷◌, ◌++◌, map, filter, Option, Some, None, IfSome, refl, sym, ap, subst, ◌∙◌, inl, inr}
+use Rattle.std.proofs.Common.{◌≡◌, ℕ, Bool, Result, Ok, Err, OnErr, true, false, ◌||◌, cond, List, [], ◌∷◌, ◌++◌, map, filter, Option, Some, None, IfSome, refl, sym, ap, subst, ◌∙◌, inl}
 use Rattle.std.proofs.lemmas.Bool.{false≢true}
 use Rattle.std.proofs.lemmas.Slice.Eq.{bytes_eq-Decides}
-use Rattle.std.specs.Prelude.{◌↔◌, IsTrue}
 use Rattle.std.specs.Str.{bytes_eq}
 use Rattle.mk_bytes.specs.Texts.{is_among}
-use Rattle.mk_world.specs.Calls.{Adds, AddsEvents, OwnList, OwnNothing}
-use Rattle.mk_world.specs.Deeds.{Store}
+use Rattle.mk_world.specs.Calls.{Adds, OwnNothing}
 use Rattle.mk_world.specs.History.{State}
-use Rattle.mk_world.specs.Listings.{AreInOrder, Lists, StandsBelow}
+use Rattle.mk_world.specs.Listings.{AreInOrder}
 use Rattle.mk_world.specs.Talks.{Meaning}
 use Rattle.mk_world.specs.declared.history.Happening.{Happening}
 use Rattle.mk_world.specs.declared.history.History.{History}
 use Rattle.mk_world.proofs.CallLemmas.{adds_nothing}
-use Rattle.mk_wild.specs.Names.{before_name, directory_of, last_name, takes}
-use Rattle.mk_wild.specs.Wild.{AreMatches, IsMatch, IsTaken, OwnAtMost, PatternsAreExact, beside, taken, taken_of}
+use Rattle.mk_wild.specs.Names.{before_name, last_name, takes}
+use Rattle.mk_wild.specs.Wild.{OwnAtMost, PatternsAreExact, taken, taken_of}
 use Rattle.mk_wild.proofs.OrderLemmas.{behind-in-order, kept-in-order, none-in-order}
 
 -- a name among those that a test keeps, behind a beginning
@@ -169,8 +167,6 @@ pub at-most-nothing : (meaning : Meaning) (before after : Option History) (dir :
 at-most-nothing meaning before after dir adds =
     adds-weaker meaning before after OwnNothing (OwnAtMost dir) (λ state own none. inl none) adds
 
-pub at-most-listed : (meaning : Meaning) (before after : Option History) (dir : List ℕ)
-    (names : Option (List (List ℕ))) → Adds meaning before after (OwnList dir names)
-    → Adds meaning before after (OwnAtMost dir)
-at-most-listed meaning before after dir names adds =
-    adds-weaker meaning before after (OwnList dir names) (OwnAtMost dir) (λ state own is. inr is.0) adds
+pub on-err : {T E : Type 0} {Fact : Type 0} (result : Result T E) → Fact → OnErr result Fact
+on-err (Ok given) fact = tt
+on-err (Err fault) fact = fact
