@@ -65,9 +65,9 @@ module _ (work : Work) (lines tasks : run.Tasks) (all : List CleanJob)
   where
   depends-too : (node other : ℕ) → DependsOn (clean_plan work lines) node other
       → DependsOn (clean_plan work tasks) node other
-  depends-too node other (source on among) = source other among
-  depends-too node other (through between on depends among) =
-      through between other (depends-too node between depends) among
+  depends-too node other (source one among) = source one among
+  depends-too node other (through between one depends among) =
+      through between one (depends-too node between depends) among
 
   source-too : (path : List ℕ) → IsSource (clean_plan work lines) all path → IsSource (clean_plan work tasks) all path
   source-too path is = record { alone = is.alone; no_made = is.no_made; no_meta = is.no_meta }

@@ -1,5 +1,5 @@
 -- What a sound clean build has at sources, and the tasks of nodes that were judged by looks which saw that.
-use Rattle.std.proofs.Common.{◌≡◌, ◌⊎◌, ◌∙◌, ℕ, Bool, true, false, not, ◌||◌, List, [], ◌∷◌, ◌++◌, length, map, Option, Some, None, is_some, if◌then◌else◌}
+use Rattle.std.proofs.Common.{◌≡◌, ◌⊎◌, ◌∙◌, ℕ, Bool, true, false, not, ◌||◌, List, [], ◌∷◌, ◌++◌, length, map, Option, Some, None, Ok, is_some, if◌then◌else◌}
 use Rattle.std.proofs.Common.{inl, inr, refl, sym, ap, subst}
 use Rattle.mk_clean.proofs.CleanLemmas.{unchanged}
 use Rattle.mk_clean.specs.Clean.{CleanJob, IsAmong, LeavesIt}
@@ -12,7 +12,7 @@ use Rattle.mk_oodate.specs.declared.reason.Why.{Why}
 use Rattle.mk_plan.proofs.NewerLemmas.{newer_do_not_count}
 use Rattle.mk_plan.specs.Asking.{answers_by, as_asked}
 use Rattle.mk_plan.specs.Plans.{node_at}
-use Rattle.mk_plan.specs.Tasks.{setting_of, task_with}
+use Rattle.mk_plan.specs.Tasks.{Setting, setting_of, task_of, task_with}
 use Rattle.mk_run.specs.CleanRuns.{bare, by_files, clean_jobs_of, job_on, jobs_on, left_by}
 use Rattle.mk_same.proofs.TaskLemmas.{tasks_part_at_questions}
 use Rattle.mk_same.specs.Answered.{PartAtQuestion}
@@ -144,10 +144,11 @@ module _ (meaning : Meaning) (work : Work) (lines : Tasks) (store : Store)
         sight = judged.sight
         newer : List (List ℕ)
         newer = newer_of work one.node sight.target sight.sources
-        abbrev k = setting_of work.variables work.lists (by_files one.before)
+        k : Setting
+        k = setting_of work.variables work.lists (by_files one.before)
         given : Task
         given = task_with work.variables work.mode.exports (node_at work.plan one.node).name (lines one.node)
-        clean_is : _
+        clean_is : task_of k work.suffixes work.plan one.node newer work.mode work.flags [] ≡ Ok (given, its.asked)
         clean_is = newer_do_not_count k work.suffixes work.plan one.node (source_names work one.node) newer work.mode
             work.flags [] its.no_newer ∙ its.task
         asked_right : (look : Dated) → IsAmong look sight.asked → SawRight (dated look)
