@@ -23,17 +23,6 @@ pub struct Level {
     pub depth: usize,
 }
 
-// Room for the first part of a text. Most trees have one part, and a list that grows by itself has
-// room for four.
-fn part_room(place: Place, text: &[u8]) -> usize {
-    if is_over(place, text) { 0 } else { 1 }
-}
-
-// Room for the first modifier of a reference.
-fn mod_room(text: &[u8]) -> usize {
-    if text.starts_with(b":") { 1 } else { 0 }
-}
-
 /// The text up to its end.
 #[cycle(read)]
 pub fn text_at<'t>(
@@ -47,7 +36,7 @@ pub fn text_at<'t>(
         (texts.text_in (references.ref_at level.total level.depth) place text.now) }
     ensures shorter { IfOk result (λ x. length x.1.now ≤ length text.now) }
 {
-    let mut tree = Items::new(alloc, part_room(place, text))?;
+    let mut tree = Items::new(alloc, 0)?;
     let mut place = place;
     let mut rest = text;
     'parts: while !is_over(place, rest) {
@@ -162,7 +151,7 @@ pub fn mods_at<'t>(
         level.total opened round text.now) }
     ensures shorter { IfOk result (λ x. length x.1.now ≤ length text.now) }
 {
-    let mut mods = Items::new(alloc, mod_room(text))?;
+    let mut mods = Items::new(alloc, 0)?;
     let mut rest = text;
     'mods: while !rest.is_empty() {
         let behind = skip(rest, 1);
