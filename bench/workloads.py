@@ -197,6 +197,15 @@ def suffix_rule(n):
     return same_for_makes("suffix-rule", n, makefile, None, targets, [f"f{i}.c" for i in range(n)], ["all"])
 
 
+def second_directory(n):
+    """The same with the sources in the second directory that is searched; GNU make has that as `VPATH`."""
+    it = suffix_rule(n)
+    search = {"make": "VPATH = e d\n"}
+    files = {tool: {"mk": search.get(tool, ".PATH: e d\n") + of["mk"]} for tool, of in it.files.items()}
+    it.name, it.files, it.sources = "second-directory", files, [f"d/{name}" for name in it.sources]
+    return it
+
+
 def null_traced(n):
     """Nothing to do in meta mode, where each target has 20 recorded reads of 200 headers; make has them as sources, ninja
     in depfiles. bmake, which has no recorder here, gets its records put there."""
@@ -230,7 +239,8 @@ WORKLOADS = [
     (start, 1),
     *[(it, None) for it in (parse, assign_now, append, cond, for_if)],
     *[(expand(kind), None) for kind in EXPANSIONS],
-    *[(it, None) for it in (null, null_exports, null_meta, null_traced, one_changed, suffix_rule, chain, fan_in)],
+    *[(it, None) for it in (null, null_exports, null_meta, null_traced, one_changed, suffix_rule, second_directory, chain,
+        fan_in)],
     (full("full-j1", 1), 5_000),
     (full("full-j4", 4), 5_000),
     (full("full-echo-j4", 4, echo=True), 5_000),
