@@ -12,5 +12,5 @@ mod pattern;
 
 pub use law::patterns_are_exact;
 pub use name::{directory_of, is_pattern};
-pub use paths::taken;
+pub use paths::push_taken;
 pub use pattern::wild;

@@ -8,7 +8,7 @@ ghost use Rattle.mk_wild.specs.Names as spec;
 ghost use Rattle.mk_wild.specs.Wild.{IsTaken, OwnAtMost};
 
 use crate::name::{directory_of, is_pattern};
-use crate::paths::taken;
+use crate::paths::push_taken;
 use mk_bytes::{Items, NoMemory, Text, Texts};
 use mk_world::{World, WorldFault};
 use std::alloc::Global;
@@ -42,5 +42,7 @@ pub fn wild<W: World>(alloc: Global, name: &[u8], world: &mut W) -> Result<Texts
         return Ok(itself(alloc, name)?);
     }
     let names = world.list(alloc, directory_of(name))?;
-    Ok(taken(alloc, name, names.as_ref())?)
+    let mut paths = Items::new(alloc, 0)?;
+    push_taken(alloc, &mut paths, name, names.as_ref())?;
+    Ok(paths)
 }

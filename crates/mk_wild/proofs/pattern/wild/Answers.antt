@@ -1,4 +1,5 @@
-use Rattle.std.proofs.Common.{sym, subst, ap, ◌∙◌}
+use Rattle.std.proofs.Common.{◌++◌, sym, subst, ap, ◌∙◌}
+use Rattle.std.specs.Option.{option_copied}
 use Rattle.mk_world.specs.Listings.{AreInOrder}
 use Rattle.mk_wild.specs.Wild.{taken}
 use Rattle.mk_wild.proofs.OrderLemmas.{one-in-order}
@@ -22,5 +23,7 @@ returns-then-not-is_pattern-clause-ordered g c =
 pub returns-clause-ordered : goal.returns-clause-ordered
 returns-clause-ordered g c =
     subst AreInOrder
-    (sym (c.in_ok-taken.ensures ∙ ap (taken c.args.name.now) c.as_ref.ensures.value))
+    (sym (c.in_ok-push_taken.ensures
+    ∙ ap (λ l. l ++ taken c.args.name.now (option_copied c.as_ref.result)) c.in_ok-paths.ensures.empty
+    ∙ ap (taken c.args.name.now) c.as_ref.ensures.value))
     (taken-in-order c.args.name.now c.in_ok-names.names c.in_ok-names.ensures.ordered)
