@@ -204,9 +204,9 @@ module _ (one other : Answers) where
       → (second >>= other_next ≡ record { answer = answer; names = names } >>= next) × AnsweredBy other asked
   then-same {A} {B} asked (Ok v) names second next other_next is goes answered = (
     ap (λ found. found >>= other_next) (is.same ((goes v).more answered))
-    ∙ ap (λ (found : Counted B).
-    record { answer = found.answer; names = λ before. found.names (names before) })
-    ((goes v).same answered),
+        ∙ ap (λ (found : Counted B).
+        record { answer = found.answer; names = λ before. found.names (names before) })
+        ((goes v).same answered),
     is.more ((goes v).more answered),
   )
   then-same asked (Err fault) names second next other_next is goes answered =

@@ -149,6 +149,7 @@ mapped-part {A} {B} {E} answers asked (Ok v) (Ok w) f part first second is other
     both : (w ≡ v) ⊎ PartAtQuestion answers v.1 w.1 → ((f w.0, w.1) ≡ (f v.0, v.1)) ⊎ PartAtQuestion answers v.1 w.1
     both (inl same) = inl (ap (λ it. (f it.0, it.1)) same)
     both (inr apart) = inr apart
+
     mapped : Parted answers asked v w → Parted answers asked (f v.0, v.1) (f w.0, w.1)
     mapped is = record { first_more = is.first_more; second_more = is.second_more; parts = both is.parts }
 mapped-part answers asked (Ok v) (Err fault) f part first second is other_is = absurd cc
@@ -215,9 +216,11 @@ lines-part k other locals manner lines number asked (raw ∷ raws) first second 
       where
         own : AsksMore line.1 first.1
         own = (lines-part k k.answers locals manner (lines ++ line.0 ∷ []) (number + 1) line.1 raws first first goes goes).first_more
+
         others : AsksMore again.1 second.1
         others = (lines-part (with_answers other k) other locals manner (lines ++ again.0 ∷ []) (number + 1) again.1 raws
             second second other_goes other_goes).first_more
+
         by : (again ≡ line) ⊎ PartAtQuestion k.answers line.1 again.1 → Parted k.answers asked first second
         by (inl same) =
             let rest = lines-part k other locals manner (lines ++ line.0 ∷ []) (number + 1) line.1 raws first second goes

@@ -63,47 +63,47 @@ use Rattle.mk_world.specs.declared.history.History.{History}
 module _ (work : Work) (lines tasks : run.Tasks) (all : List CleanJob)
     (same : (one : CleanJob) → IsAmong one all → tasks one.node ≡ lines one.node)
   where
-  depends-too : (node other : ℕ) → DependsOn (clean_plan work lines) node other
-      → DependsOn (clean_plan work tasks) node other
-  depends-too node other (source one among) = source one among
-  depends-too node other (through between one depends among) =
-      through between one (depends-too node between depends) among
+    depends-too : (node other : ℕ) → DependsOn (clean_plan work lines) node other
+        → DependsOn (clean_plan work tasks) node other
+    depends-too node other (source one among) = source one among
+    depends-too node other (through between one depends among) =
+        through between one (depends-too node between depends) among
 
-  source-too : (path : List ℕ) → IsSource (clean_plan work lines) all path → IsSource (clean_plan work tasks) all path
-  source-too path is = record { alone = is.alone; no_made = is.no_made; no_meta = is.no_meta }
+    source-too : (path : List ℕ) → IsSource (clean_plan work lines) all path → IsSource (clean_plan work tasks) all path
+    source-too path is = record { alone = is.alone; no_made = is.no_made; no_meta = is.no_meta }
 
-  reads-too : (one : CleanJob) (path : List ℕ)
-      → IsSource (clean_plan work lines) all path ⊎ IsMadeBefore (clean_plan work lines) all one path
-      → IsSource (clean_plan work tasks) all path ⊎ IsMadeBefore (clean_plan work tasks) all one path
-  reads-too one path (inl is) = inl (source-too path is)
-  reads-too one path (inr is) = inr (record {
-    maker = is.maker;
-    among = is.among;
-    made = is.made;
-    name = is.name;
-    depends = depends-too one.node is.maker.node is.depends;
-  })
+    reads-too : (one : CleanJob) (path : List ℕ)
+        → IsSource (clean_plan work lines) all path ⊎ IsMadeBefore (clean_plan work lines) all one path
+        → IsSource (clean_plan work tasks) all path ⊎ IsMadeBefore (clean_plan work tasks) all one path
+    reads-too one path (inl is) = inl (source-too path is)
+    reads-too one path (inr is) = inr (record {
+      maker = is.maker;
+      among = is.among;
+      made = is.made;
+      name = is.name;
+      depends = depends-too one.node is.maker.node is.depends;
+    })
 
-  changes-too : (one : CleanJob) (path : List ℕ)
-      → IsOwn (clean_plan work lines) one path ⊎ IsPrivate (clean_plan work lines) all one path
-      → IsOwn (clean_plan work tasks) one path ⊎ IsPrivate (clean_plan work tasks) all one path
-  changes-too one path (inl is) = inl (record { made = is.made; name = is.name })
-  changes-too one path (inr is) = inr (record { no_node = is.no_node; alone = is.alone })
+    changes-too : (one : CleanJob) (path : List ℕ)
+        → IsOwn (clean_plan work lines) one path ⊎ IsPrivate (clean_plan work lines) all one path
+        → IsOwn (clean_plan work tasks) one path ⊎ IsPrivate (clean_plan work tasks) all one path
+    changes-too one path (inl is) = inl (record { made = is.made; name = is.name })
+    changes-too one path (inr is) = inr (record { no_node = is.no_node; alone = is.alone })
 
-  lines-same : (one : CleanJob) → IsAmong one all → lines_of work tasks one.node ≡ lines_of work lines one.node
-  lines-same one among =
-      ap (λ (l : List TaskLine). if has_job (node_at work.plan one.node) then working l else []) (same one among)
+    lines-same : (one : CleanJob) → IsAmong one all → lines_of work tasks one.node ≡ lines_of work lines one.node
+    lines-same one among =
+        ap (λ (l : List TaskLine). if has_job (node_at work.plan one.node) then working l else []) (same one among)
 
-  declared-too : IsDeclared (clean_plan work lines) all → IsDeclared (clean_plan work tasks) all
-  declared-too is = record {
-    reads = λ one among path reads. reads-too one path (is.reads one among path reads);
-    changes = λ one among path changes. changes-too one path (is.changes one among path changes);
-    leaves = λ one among well made.
-        let left = is.leaves one among (subst (λ (l : List TaskLine). AllWell l one.doings) (lines-same one among) well)
-        made in
-        record { bytes = left.bytes; is = left.is };
-    no_meta = is.no_meta;
-  }
+    declared-too : IsDeclared (clean_plan work lines) all → IsDeclared (clean_plan work tasks) all
+    declared-too is = record {
+      reads = λ one among path reads. reads-too one path (is.reads one among path reads);
+      changes = λ one among path changes. changes-too one path (is.changes one among path changes);
+      leaves = λ one among well made.
+          let left = is.leaves one among (subst (λ (l : List TaskLine). AllWell l one.doings) (lines-same one among) well)
+          made in
+          record { bytes = left.bytes; is = left.is };
+      no_meta = is.no_meta;
+    }
 
 -- a node that makes a file has a job
 makes-has : (node : PlanNode) → makes_file node ≡ true → has_job node ≡ true
@@ -229,9 +229,11 @@ goes-sound meaning env order (builds made flags) end old read first last went ne
   where
     work : Work
     work = work_on built.nodes made flags
+
     one : IsBuild meaning work (is_cut built.result) (moment built.planned_at first.out [])
         (moment last.history last.out went.events) (StandsBy work built.result)
     one = built.built.true_build.build
+
     planned_from : (point_at : Option History) → built.planned_at ≡ point_at
         → LeavesWhatIsSound meaning env order (Some (build built.planned_at work one.tasks one.items)) end old new
     planned_from None here = absurd (told-before _ here is one.told)

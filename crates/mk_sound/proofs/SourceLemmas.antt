@@ -121,12 +121,14 @@ module _ (meaning : Meaning) (work : Work) (lines : Tasks) (store : Store)
             (subst (IsAmong (record { path = part.path; answer = part.answer })) (sym part.is)
             (among-last part.common (record { path = part.path; answer = part.answer } ∷ part.rest)
             (record { path = part.path; answer = part.answer }) (inl refl)))
+
         found : (look : Dated) × IsAmong look asked
             × (◌≡◌ {A = Asked} (record { path = part.path; answer = not part.answer }) (as_asked look))
         found = mapped as_asked asked (record { path = part.path; answer = not part.answer })
             (subst (IsAmong (record { path = part.path; answer = not part.answer })) (sym part.other_is)
             (among-last part.common (record { path = part.path; answer = not part.answer } ∷ part.other_rest)
             (record { path = part.path; answer = not part.answer }) (inl refl)))
+
         path_is : part.path ≡ found.0.path
         path_is = ap (λ (q : Asked). q.path) found.2
 
@@ -140,23 +142,30 @@ module _ (meaning : Meaning) (work : Work) (lines : Tasks) (store : Store)
       where
         its : HasItsTask work lines all one
         its = sound.tasks_are one among
+
         sight : Sight work one.node judged.first
         sight = judged.sight
+
         newer : List (List ℕ)
         newer = newer_of work one.node sight.target sight.sources
+
         k : Setting
         k = setting_of work.variables work.lists (by_files one.before)
+
         given : Task
         given = task_with work.variables work.mode.exports (node_at work.plan one.node).name (lines one.node)
+
         clean_is : task_of k work.suffixes work.plan one.node newer work.mode work.flags [] ≡ Ok (given, its.asked)
         clean_is = newer_do_not_count k work.suffixes work.plan one.node (source_names work one.node) newer work.mode
             work.flags [] its.no_newer ∙ its.task
+
         asked_right : (look : Dated) → IsAmong look sight.asked → SawRight (dated look)
         asked_right look there = right (dated look)
             (subst (IsAmong (dated look)) (sym judged.are)
             (among-first judged.first _ (dated look)
             (subst (IsAmong (dated look)) (sym sight.are)
             (among-last _ (map dated sight.asked) (dated look) (among-map dated sight.asked look there)))))
+
         by : (◌≡◌ {A = Task × List Asked} (task, map as_asked sight.asked) (given, its.asked))
             ⊎ PartAtQuestion (by_files one.before) its.asked (map as_asked sight.asked)
             → task.lines ≡ lines one.node

@@ -188,9 +188,13 @@ module _ (meaning : Meaning) (work : Work) (lines tasks : run.Tasks) (old : Hist
         → IsKept work node (build.seen node) (lines node)
     kept-too build node right (inl none) = inl none
     kept-too build node right (inr (some, task, judged, is)) =
-        inr (some, task, judged,
-        sym (task-lines meaning work lines store sound node
-        (commands-has (node_at work.plan node).commands some) (build.seen node) task None judged (right node)))
+        inr (
+          some,
+          task,
+          judged,
+          sym (task-lines meaning work lines store sound node
+              (commands-has (node_at work.plan node).commands some) (build.seen node) task None judged (right node)),
+        )
 
     start-lines : (build : Build) (node number : ℕ) (due : run.Due) → Known work lines tasks build → SeenRight build
         → Steady build.run.nodes due → run.MayStart (rules_of work) tasks build.run node number due
@@ -270,8 +274,10 @@ module _ (meaning : Meaning) (work : Work) (lines tasks : run.Tasks) (old : Hist
       where
         same-keep : (other : ℕ) → ◌≡◌ {A = Item} (keeps node) (keeps other) → node ≡ other
         same-keep other is = cc
+
         same-some : (other : ℕ) → ◌≡◌ {A = Option ℕ} (Some node) (Some other) → node ≡ other
         same-some other is = cc
+
         opens : (other : ℕ) → node_of (keeps node) ≡ Some other
             → IsOpenJob (build_after work tasks build (keeps node)) other → tasks other ≡ lines other
         opens other is (inl is_open) =
@@ -325,17 +331,23 @@ module _ (meaning : Meaning) (work : Work) (lines tasks : run.Tasks) (old : Hist
       where
         fine_next : (build_after work tasks build item).failure ≡ None
         fine_next = failure-all work tasks (build_after work tasks build item) todo fine
+
         fine_now : build.failure ≡ None
         fine_now = failure-back work tasks build item fine_next
+
         apart : NoneLeft (item ∷ []) × NoneLeft todo
         apart = none-first item todo none
+
         parts : MayHappen meaning stand (happened item)
             × MayHappen meaning (stand_after stand (happened item)) (happened_all todo)
         parts = MayAll-parts meaning stand (happened item) (happened_all todo) may
+
         here : Step build item
         here = step build item known right steady makes.0 makes.1 makes.2 fine_next apart.0
+
         same : build_after work lines build item ≡ build_after work tasks build item
         same = build-agrees work tasks lines build item here.agree
+
         makes_lines : Makes work lines build (item ∷ [])
         makes_lines = (
           run-agrees work tasks lines build item here.agree makes.0,
