@@ -14,7 +14,7 @@ use Rattle.mk_trace.specs.TrueBuilds.{IsOpenJob}
 use Rattle.mk_sound.proofs.AgreeLemmas.{item-of, node_of, nodes-other}
 
 pub record Known (work : Work) (lines tasks : run.Tasks) (build : Build) : Type 0 where
-  pub open : (node : ℕ) → IsOpenJob build node → tasks node ≡ lines node
+  pub in_hand : (node : ℕ) → IsOpenJob build node → tasks node ≡ lines node
   pub done : (node : ℕ) → has_job (node_at work.plan node) ≡ true
       → slice_get build.run.nodes node ≡ Some Settled → tasks node ≡ lines node
 
@@ -118,7 +118,7 @@ pub known-next : (work : Work) (lines tasks : run.Tasks) (build : Build) (item :
     → slice_get (build_after work tasks build item).run.nodes node ≡ Some Settled → tasks node ≡ lines node)
     → Known work lines tasks (build_after work tasks build item)
 known-next work lines tasks build item known opens dones = record {
-  open = λ node is. open-by node is (item-of item node);
+  in_hand = λ node is. open-by node is (item-of item node);
   done = λ node has is. done-by node has is (item-of item node);
 }
   where
@@ -129,7 +129,7 @@ known-next work lines tasks build item known opens dones = record {
     open-by : (node : ℕ) → IsOpenJob (build_after work tasks build item) node
         → (node_of item ≡ Some node) ⊎ (node_of item ≡ Some node → ⊥) → tasks node ≡ lines node
     open-by node is (inl of) = opens node of is
-    open-by node is (inr no) = known.open node (back node no is)
+    open-by node is (inr no) = known.in_hand node (back node no is)
     done-by : (node : ℕ) → has_job (node_at work.plan node) ≡ true
         → slice_get (build_after work tasks build item).run.nodes node ≡ Some Settled
         → (node_of item ≡ Some node) ⊎ (node_of item ≡ Some node → ⊥) → tasks node ≡ lines node

@@ -203,7 +203,7 @@ module _ (meaning : Meaning) (work : Work) (lines tasks : run.Tasks) (old : Hist
         begun-lines build node right (reason may.1) may.2
     start-lines build node number run.child known right steady may reason = absurd may
     start-lines build node number (run.line one next) known right steady may reason =
-        known.open node (inl (subst (λ n. slice_get build.run.nodes n ≡ Some Open) (sym may.0) steady))
+        known.in_hand node (inl (subst (λ n. slice_get build.run.nodes n ≡ Some Open) (sym may.0) steady))
     start-lines build node number (run.close one last) known right steady may reason = absurd may
 
     change-lines : (build : Build) (node : ℕ) (change : Change) → Known work lines tasks build → SeenRight build
@@ -213,11 +213,11 @@ module _ (meaning : Meaning) (work : Work) (lines tasks : run.Tasks) (old : Hist
     change-lines build node (head path bytes time) known right duty may other is =
         begun-lines build node right may.0.reason may.0.some
     change-lines build node (whole path bytes time) known right duty may other is =
-        known.open node (inr (inr (inr duty)))
+        known.in_hand node (inr (inr (inr duty)))
     change-lines build node (cut_head path part time) known right duty may other is =
         begun-lines build node right may.1.reason may.1.some
     change-lines build node (cut_whole path part time) known right duty may other is =
-        known.open node (inr (inr (inr duty)))
+        known.in_hand node (inr (inr (inr duty)))
 
     change-of : (node other : ℕ) (change : Change) → goes_by (changes node change) ≡ Some other → node ≡ other
     change-of node other (gone path time) is = absurd cc
@@ -309,7 +309,7 @@ module _ (meaning : Meaning) (work : Work) (lines tasks : run.Tasks) (old : Hist
         by-none build (steps ticket owner deed time) known refl refl (λ other is. cc)
     step build (ends n number owner ended) known right steady may follow make fine none =
         by-lines build (ends n number owner ended) n known (λ other is. cc) (λ other is. is) (λ other is. cc)
-        (λ other is. known.open n (inl (end-open build.run n number ended.status build.run.due steady may.0)))
+        (λ other is. known.in_hand n (inl (end-open build.run n number ended.status build.run.due steady may.0)))
     step build (changes n change) known right steady may follow make fine none =
         by-lines build (changes n change) n known (λ other is. change-of n other change is) (λ other is. is)
         (λ other is. cc) (change-lines build n change known right follow make)
