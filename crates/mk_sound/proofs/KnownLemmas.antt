@@ -47,7 +47,7 @@ none-stop node (inr (inr is)) = absurd cc
 
 pub known-first : (work : Work) (lines tasks : run.Tasks) → Known work lines tasks (first_build work)
 known-first work lines tasks = record {
-  open = opens;
+  in_hand = opens;
   done = λ node has is. let clash : Settled ≡ Undecided = undecided (rules_of work).before node Settled is in absurd cc;
 }
   where
@@ -126,10 +126,12 @@ known-next work lines tasks build item known opens dones = record {
         → IsOpenJob build node
     back node no (inl is) = inl (sym (nodes-other work tasks build item node no) ∙ is)
     back node no (inr duty) = inr (duty-back work tasks build.duty item node no duty)
+
     open-by : (node : ℕ) → IsOpenJob (build_after work tasks build item) node
         → (node_of item ≡ Some node) ⊎ (node_of item ≡ Some node → ⊥) → tasks node ≡ lines node
     open-by node is (inl of) = opens node of is
     open-by node is (inr no) = known.in_hand node (back node no is)
+
     done-by : (node : ℕ) → has_job (node_at work.plan node) ≡ true
         → slice_get (build_after work tasks build item).run.nodes node ≡ Some Settled
         → (node_of item ≡ Some node) ⊎ (node_of item ≡ Some node → ⊥) → tasks node ≡ lines node
