@@ -71,9 +71,10 @@ BuildsHaveCleanTasks =
     → Makes work tasks (first_build work) items → Happened meaning items old new → NoneLeft items
     → (build_after_all work tasks (first_build work) items).failure ≡ None → HaveLines work lines tasks items
 
--- Before a run, in which at least one job may run at once: no child runs, the history is one that may have come about,
--- and each meta file that stands tells what happened. The commands that the run asks with `!=` change no file. The makefiles give the work of the run also where
--- made files and meta files are away, and the clean build of it, whose jobs have these lines, is sound.
+-- Before a run, in which at least one job may run at once: no child runs, the history is one that may have come
+-- about, and each meta file that stands tells what happened. The commands that the run asks with `!=` change no file.
+-- The makefiles give the work of the run also where made files and meta files are away, and the clean build of it,
+-- whose jobs have these lines, is sound.
 pub record IsSoundRun (meaning : Meaning) (env : Env) (order : Order) (planned_at : Option History) (work : Work)
     (lines : Tasks) (old : History) : Type 0
   where
