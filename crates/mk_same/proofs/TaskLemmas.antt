@@ -132,7 +132,7 @@ answers-part {A} answers asked (Ok v) (Ok w) more other_more parts first second 
     (record { first_more = more; second_more = other_more; parts = found parts }))
   where
     found : (◌≡◌ {A = Answer A} (Ok w) (Ok v)) ⊎ PartAtQuestion answers v.1.asked w.1.asked
-        → ((w.0, w.1.asked) ≡ (v.0, v.1.asked)) ⊎ PartAtQuestion answers v.1.asked w.1.asked
+        → (◌≡◌ {A = A × List Asked} (w.0, w.1.asked) (v.0, v.1.asked)) ⊎ PartAtQuestion answers v.1.asked w.1.asked
     found (inl same) = inl (ap (λ it. (it.0, it.1.asked)) (same-ok w v same))
     found (inr part) = inr part
 answers-part answers asked (Ok v) (Err fault) more other_more parts first second is other_is = absurd cc
@@ -146,7 +146,8 @@ mapped-part {A} {B} {E} answers asked (Ok v) (Ok w) f part first second is other
     (subst (λ it. Parted answers asked (f v.0, v.1) it) (same-ok (f w.0, w.1) second other_is)
     (mapped (part v w refl refl)))
   where
-    both : (w ≡ v) ⊎ PartAtQuestion answers v.1 w.1 → ((f w.0, w.1) ≡ (f v.0, v.1)) ⊎ PartAtQuestion answers v.1 w.1
+    both : (w ≡ v) ⊎ PartAtQuestion answers v.1 w.1
+        → (◌≡◌ {A = B × List Asked} (f w.0, w.1) (f v.0, v.1)) ⊎ PartAtQuestion answers v.1 w.1
     both (inl same) = inl (ap (λ it. (f it.0, it.1)) same)
     both (inr apart) = inr apart
 
@@ -204,34 +205,32 @@ lines-part k other locals manner lines number asked (raw ∷ raws) first second 
     let two = bound (at_line number (line_of (with_answers other k) locals manner asked raw))
     (λ line. lines_from (with_answers other k) locals manner (lines ++ line.0 ∷ []) (number + 1) line.1 raws) second
     other_is in
-    behind one.0 two.0 one.2 two.2
-    (numbered-part k.answers number asked (line_of k locals manner asked raw) (line_of (with_answers other k) locals manner asked raw)
-    (text-part k other locals manner asked raw) one.0 two.0 one.1 two.1)
+    by one.0 two.0
+    (numbered-part k.answers number asked (line_of k locals manner asked raw)
+    (line_of (with_answers other k) locals manner asked raw) (text-part k other locals manner asked raw) one.0 two.0
+    one.1 two.1)
+    (lines-part k k.answers locals manner (lines ++ one.0.0 ∷ []) (number + 1) one.0.1 raws first first one.2
+    one.2).first_more
+    (lines-part (with_answers other k) other locals manner (lines ++ two.0.0 ∷ []) (number + 1) two.0.1 raws second
+    second two.2 two.2).first_more
+    (λ same. lines-part k other locals manner (lines ++ one.0.0 ∷ []) (number + 1) one.0.1 raws first second one.2
+    (subst (λ (it : TaskLine × List Asked). lines_from (with_answers other k) locals manner (lines ++ it.0 ∷ [])
+    (number + 1) it.1 raws ≡ Ok second) same two.2))
   where
-    behind : (line again : TaskLine × List Asked)
-        → lines_from k locals manner (lines ++ line.0 ∷ []) (number + 1) line.1 raws ≡ Ok first
-        → lines_from (with_answers other k) locals manner (lines ++ again.0 ∷ []) (number + 1) again.1 raws ≡ Ok second
-        → Parted k.answers asked line again → Parted k.answers asked first second
-    behind line again goes other_goes parted = by parted.parts
+    by : (line again : TaskLine × List Asked) → Parted k.answers asked line again → AsksMore line.1 first.1
+        → AsksMore again.1 second.1 → (again ≡ line → Parted k.answers line.1 first second)
+        → Parted k.answers asked first second
+    by line again parted own others rest = both parted.parts
       where
-        own : AsksMore line.1 first.1
-        own = (lines-part k k.answers locals manner (lines ++ line.0 ∷ []) (number + 1) line.1 raws first first goes goes).first_more
-
-        others : AsksMore again.1 second.1
-        others = (lines-part (with_answers other k) other locals manner (lines ++ again.0 ∷ []) (number + 1) again.1 raws
-            second second other_goes other_goes).first_more
-
-        by : (again ≡ line) ⊎ PartAtQuestion k.answers line.1 again.1 → Parted k.answers asked first second
-        by (inl same) =
-            let rest = lines-part k other locals manner (lines ++ line.0 ∷ []) (number + 1) line.1 raws first second goes
-            (subst (λ (it : TaskLine × List Asked). lines_from (with_answers other k) locals manner (lines ++ it.0 ∷ [])
-            (number + 1) it.1 raws ≡ Ok second) same other_goes) in
+        both : (again ≡ line) ⊎ PartAtQuestion k.answers line.1 again.1 → Parted k.answers asked first second
+        both (inl same) =
+            let behind = rest same in
             record {
-              first_more = asks-then parted.first_more rest.first_more;
-              second_more = asks-then parted.first_more rest.second_more;
-              parts = rest.parts;
+              first_more = asks-then parted.first_more behind.first_more;
+              second_more = asks-then parted.first_more behind.second_more;
+              parts = behind.parts;
             }
-        by (inr part) = record {
+        both (inr part) = record {
           first_more = asks-then parted.first_more own;
           second_more = asks-then parted.second_more others;
           parts = inr (part-longer part own others);

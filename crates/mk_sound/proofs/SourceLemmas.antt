@@ -75,6 +75,9 @@ before-is meaning work (node ∷ nodes) files path leaves one (inr among) =
     ∙ unchanged files (deeds_of_job (job_on meaning work node files)) path
     (leaves (record { node = node; before = files; doings = job_on meaning work node files }) (inl refl))
 
+abbrev question : List ℕ → Bool → Asked
+question path answer = record { path = path; answer = answer }
+
 two-not : (b : Bool) → not b ≡ b → ⊥
 two-not true is = cc
 two-not false is = cc
@@ -117,17 +120,17 @@ module _ (meaning : Meaning) (work : Work) (lines : Tasks) (store : Store)
         ∙ (ap (λ bytes. is_some bytes) (sym (before-store one among part.path still)) ∙ sym part.answered))))
       where
         still : IsStill part.path
-        still = its.sources (record { path = part.path; answer = part.answer })
-            (subst (IsAmong (record { path = part.path; answer = part.answer })) (sym part.is)
-            (among-last part.common (record { path = part.path; answer = part.answer } ∷ part.rest)
-            (record { path = part.path; answer = part.answer }) (inl refl)))
+        still = its.sources (question part.path part.answer)
+            (subst (IsAmong (question part.path part.answer)) (sym part.is)
+            (among-last part.common (question part.path part.answer ∷ part.rest)
+            (question part.path part.answer) (inl refl)))
 
         found : (look : Dated) × IsAmong look asked
-            × (◌≡◌ {A = Asked} (record { path = part.path; answer = not part.answer }) (as_asked look))
-        found = mapped as_asked asked (record { path = part.path; answer = not part.answer })
-            (subst (IsAmong (record { path = part.path; answer = not part.answer })) (sym part.other_is)
-            (among-last part.common (record { path = part.path; answer = not part.answer } ∷ part.other_rest)
-            (record { path = part.path; answer = not part.answer }) (inl refl)))
+            × (◌≡◌ {A = Asked} (question part.path (not part.answer)) (as_asked look))
+        found = mapped as_asked asked (question part.path (not part.answer))
+            (subst (IsAmong (question part.path (not part.answer))) (sym part.other_is)
+            (among-last part.common (question part.path (not part.answer) ∷ part.other_rest)
+            (question part.path (not part.answer)) (inl refl)))
 
         path_is : part.path ≡ found.0.path
         path_is = ap (λ (q : Asked). q.path) found.2
