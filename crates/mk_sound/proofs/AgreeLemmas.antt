@@ -1,5 +1,5 @@
 -- Builds whose tasks agree: an item goes by the lines of one node, or of none.
-use Rattle.std.proofs.Common.{◌≡◌, ◌≢◌, ◌⊎◌, ◌∙◌, ℕ, ◌+◌, ◌^◌, ◌<◌, ◌==◌, nat_le, Bool, true, false, ◌||◌, List, [], ◌∷◌, length, set, slice_get, Option, Some, None, if◌then◌else◌}
+use Rattle.std.proofs.Common.{◌≡◌, ◌≢◌, ◌⊎◌, ◌∙◌, ℕ, ◌+◌, ◌^◌, ◌<◌, nat_le, Bool, true, false, ◌||◌, List, length, set, slice_get, Option, Some, None, if◌then◌else◌}
 use Rattle.std.proofs.Common.{inl, inr, refl, sym, ap, subst}
 use Rattle.std.proofs.lemmas.Bool.{cases_eq}
 use Rattle.mk_decision.specs.Decisions.{IsBegun, IsKept, Work}
@@ -8,7 +8,7 @@ use Rattle.mk_plan.specs.Deciding.{is_stopped}
 use Rattle.mk_plan.specs.declared.plan.NodeState.{NodeState}
 use Rattle.mk_plan.specs.declared.plan.NodeState.TheVariants.{Open, Settled, Failed}
 use Rattle.mk_trace.proofs.TrueRuns.{slice-other}
-use Rattle.mk_trace.specs.Builds.{Build, IsHead, IsLaterHead, IsWhole, Makes, MayChange, MayFollow, MayMake, build_after, build_after_all, rules_of}
+use Rattle.mk_trace.specs.Builds.{Build, IsHead, IsWhole, MayChange, MayMake, build_after, rules_of}
 use Rattle.mk_trace.specs.Collected.{meta_of}
 use Rattle.mk_trace.specs.Items.{Change, gone, head, whole, cut_head, cut_whole, Item, looks, keeps, refuses, starts, passes, waits, steps, ends, changes, leaves, reported}
 use Rattle.mk_trace.specs.Runs as run
@@ -122,6 +122,7 @@ whole-agrees work tasks other build node path bytes same is = record {
 change-agrees : (work : Work) (tasks other : run.Tasks) (build : Build) (node : ℕ) (change : Change)
     → ((one : ℕ) → changed_for node change ≡ Some one → tasks one ≡ other one)
     → MayChange work tasks build node change → MayChange work other build node change
+unfolding head-agrees begun-agrees
 change-agrees work tasks other build node (gone path time) same may = may
 change-agrees work tasks other build node (head path bytes time) same may =
     (head-agrees work tasks other build node path bytes (same node refl) may.0, may.1)
@@ -187,23 +188,23 @@ line-ended work tasks state node number status other apart =
 pub nodes-other : (work : Work) (tasks : run.Tasks) (build : Build) (item : Item) (other : ℕ)
     → (node_of item ≡ Some other → ⊥)
     → slice_get (build_after work tasks build item).run.nodes other ≡ slice_get build.run.nodes other
-nodes-other work tasks build (looks node seen) other no = refl
-nodes-other work tasks build (keeps node) other no =
-    slice-other build.run.nodes node other Settled (λ same. no (ap Some (sym same)))
-nodes-other work tasks build (refuses node number what) other no =
-    slice-other build.run.nodes node other Failed (λ same. no (ap Some (sym same)))
-nodes-other work tasks build (starts node number ticket owner cmd) other no =
-    slice-other build.run.nodes node other Open (λ same. no (ap Some (sym same)))
-nodes-other work tasks build (passes node number) other no =
+nodes-other work tasks build (looks node seen) other away = refl
+nodes-other work tasks build (keeps node) other away =
+    slice-other build.run.nodes node other Settled (λ same. away (ap Some (sym same)))
+nodes-other work tasks build (refuses node number what) other away =
+    slice-other build.run.nodes node other Failed (λ same. away (ap Some (sym same)))
+nodes-other work tasks build (starts node number ticket owner cmd) other away =
+    slice-other build.run.nodes node other Open (λ same. away (ap Some (sym same)))
+nodes-other work tasks build (passes node number) other away =
     line-ended work tasks (run.start_line tasks build.run node number) node number 0 other
-    (λ same. no (ap Some (sym same)))
-    ∙ slice-other build.run.nodes node other Open (λ same. no (ap Some (sym same)))
-nodes-other work tasks build waits other no = refl
-nodes-other work tasks build (steps ticket owner deed time) other no = refl
-nodes-other work tasks build (ends node number owner ended) other no =
-    line-ended work tasks build.run node number ended.status other (λ same. no (ap Some (sym same)))
-nodes-other work tasks build (changes node change) other no = refl
-nodes-other work tasks build (leaves ticket owner) other no = refl
+    (λ same. away (ap Some (sym same)))
+    ∙ slice-other build.run.nodes node other Open (λ same. away (ap Some (sym same)))
+nodes-other work tasks build waits other away = refl
+nodes-other work tasks build (steps ticket owner deed time) other away = refl
+nodes-other work tasks build (ends node number owner ended) other away =
+    line-ended work tasks build.run node number ended.status other (λ same. away (ap Some (sym same)))
+nodes-other work tasks build (changes node change) other away = refl
+nodes-other work tasks build (leaves ticket owner) other away = refl
 
 -- an item is of a node, or is not
 

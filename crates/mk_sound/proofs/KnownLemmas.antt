@@ -1,12 +1,12 @@
 -- The nodes whose lines are known to be those of the clean build: the open ones, and those that are settled.
-use Rattle.std.proofs.Common.{◌≡◌, ◌≢◌, ◌⊎◌, ◌∙◌, ℕ, zero, suc, Bool, true, false, ◌&&◌, nat_le, List, [], ◌∷◌, length, map, set, slice_get, Option, Some, None, if◌then◌else◌}
-use Rattle.std.proofs.Common.{inl, inr, refl, sym, ap, subst}
+use Rattle.std.proofs.Common.{◌≡◌, ◌⊎◌, ◌∙◌, ℕ, zero, suc, Bool, true, false, ◌&&◌, nat_le, List, [], ◌∷◌, length, map, slice_get, Some, if◌then◌else◌}
+use Rattle.std.proofs.Common.{inl, inr, sym, ap}
 use Rattle.mk_decision.specs.Decisions.{Work}
 use Rattle.mk_headline.specs.Plans.{has_job}
 use Rattle.mk_plan.specs.Plans.{node_at}
 use Rattle.mk_plan.specs.declared.plan.NodeState.{NodeState}
 use Rattle.mk_plan.specs.declared.plan.NodeState.TheVariants.{Undecided, Open, Settled}
-use Rattle.mk_trace.specs.Builds.{Build, Duty, free, remove, begin, date, close, stop, behind_end, behind_look, build_after, closing, duty_after, first_build, is_removed, rules_of}
+use Rattle.mk_trace.specs.Builds.{Build, Duty, free, remove, begin, date, close, stop, behind_end, behind_look, build_after, duty_after, first_build, is_removed, rules_of}
 use Rattle.mk_trace.specs.Collected.{has_meta}
 use Rattle.mk_trace.specs.Items.{Change, gone, head, whole, cut_head, cut_whole, Item, looks, keeps, refuses, starts, passes, waits, steps, ends, changes, leaves}
 use Rattle.mk_trace.specs.Runs as run
@@ -86,29 +86,29 @@ ending-node work node other false over apart is = closing-node node other (over 
 change-node : (duty : Duty) (node other : ℕ) (change : Change) → (node_of (changes other change) ≡ Some node → ⊥)
     → (work : Work) (tasks : run.Tasks) → IsDutyFor node (duty_after work tasks duty (changes other change))
     → IsDutyFor node duty
-change-node duty node other (gone path time) no work tasks is = none-free node is
-change-node duty node other (head path bytes time) no work tasks (inl is) = absurd (no cc)
-change-node duty node other (head path bytes time) no work tasks (inr (inl is)) = absurd cc
-change-node duty node other (head path bytes time) no work tasks (inr (inr is)) = absurd cc
-change-node duty node other (whole path bytes time) no work tasks is = none-free node is
-change-node duty node other (cut_head path part time) no work tasks is = none-stop node is
-change-node duty node other (cut_whole path part time) no work tasks is = none-stop node is
+change-node duty node other (gone path time) away work tasks is = none-free node is
+change-node duty node other (head path bytes time) away work tasks (inl is) = absurd (away cc)
+change-node duty node other (head path bytes time) away work tasks (inr (inl is)) = absurd cc
+change-node duty node other (head path bytes time) away work tasks (inr (inr is)) = absurd cc
+change-node duty node other (whole path bytes time) away work tasks is = none-free node is
+change-node duty node other (cut_head path part time) away work tasks is = none-stop node is
+change-node duty node other (cut_whole path part time) away work tasks is = none-stop node is
 
 duty-back : (work : Work) (tasks : run.Tasks) (duty : Duty) (item : Item) (node : ℕ)
     → (node_of item ≡ Some node → ⊥) → IsDutyFor node (duty_after work tasks duty item) → IsDutyFor node duty
-duty-back work tasks duty (looks other seen) node no is = look-back node duty is
-duty-back work tasks duty (keeps other) node no is = is
-duty-back work tasks duty (refuses other number what) node no is = is
-duty-back work tasks duty (starts other number ticket owner cmd) node no is = none-free node is
-duty-back work tasks duty (passes other number) node no is =
-    closing-node node other (nat_le (length (tasks other)) number && has_meta work other) (λ same. no (ap Some same)) is
-duty-back work tasks duty waits node no is = is
-duty-back work tasks duty (steps ticket owner deed time) node no is = is
-duty-back work tasks duty (ends other number owner ended) node no is =
+duty-back work tasks duty (looks other seen) node away is = look-back node duty is
+duty-back work tasks duty (keeps other) node away is = is
+duty-back work tasks duty (refuses other number what) node away is = is
+duty-back work tasks duty (starts other number ticket owner cmd) node away is = none-free node is
+duty-back work tasks duty (passes other number) node away is =
+    closing-node node other (nat_le (length (tasks other)) number && has_meta work other) (λ same. away (ap Some same)) is
+duty-back work tasks duty waits node away is = is
+duty-back work tasks duty (steps ticket owner deed time) node away is = is
+duty-back work tasks duty (ends other number owner ended) node away is =
     ending-node work node other (run.fails (run.line_of (tasks other) number) ended.status)
-    (nat_le (length (tasks other)) number) (λ same. no (ap Some same)) is
-duty-back work tasks duty (changes other change) node no is = change-node duty node other change no work tasks is
-duty-back work tasks duty (leaves ticket owner) node no is = is
+    (nat_le (length (tasks other)) number) (λ same. away (ap Some same)) is
+duty-back work tasks duty (changes other change) node away is = change-node duty node other change away work tasks is
+duty-back work tasks duty (leaves ticket owner) node away is = is
 
 -- what is known behind an item, where it is known of the item's own node
 pub known-next : (work : Work) (lines tasks : run.Tasks) (build : Build) (item : Item) → Known work lines tasks build
@@ -124,16 +124,16 @@ known-next work lines tasks build item known opens dones = record {
   where
     back : (node : ℕ) → (node_of item ≡ Some node → ⊥) → IsOpenJob (build_after work tasks build item) node
         → IsOpenJob build node
-    back node no (inl is) = inl (sym (nodes-other work tasks build item node no) ∙ is)
-    back node no (inr duty) = inr (duty-back work tasks build.duty item node no duty)
+    back node away (inl is) = inl (sym (nodes-other work tasks build item node away) ∙ is)
+    back node away (inr duty) = inr (duty-back work tasks build.duty item node away duty)
 
     open-by : (node : ℕ) → IsOpenJob (build_after work tasks build item) node
         → (node_of item ≡ Some node) ⊎ (node_of item ≡ Some node → ⊥) → tasks node ≡ lines node
     open-by node is (inl of) = opens node of is
-    open-by node is (inr no) = known.in_hand node (back node no is)
+    open-by node is (inr away) = known.in_hand node (back node away is)
 
     done-by : (node : ℕ) → has_job (node_at work.plan node) ≡ true
         → slice_get (build_after work tasks build item).run.nodes node ≡ Some Settled
         → (node_of item ≡ Some node) ⊎ (node_of item ≡ Some node → ⊥) → tasks node ≡ lines node
     done-by node has is (inl of) = dones node of has is
-    done-by node has is (inr no) = known.done node has (sym (nodes-other work tasks build item node no) ∙ is)
+    done-by node has is (inr away) = known.done node has (sym (nodes-other work tasks build item node away) ∙ is)

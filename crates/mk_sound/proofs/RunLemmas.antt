@@ -1,9 +1,9 @@
 -- A run whose clean build is sound is ready, and so leaves what the clean build leaves.
-use Rattle.std.proofs.Common.{◌≡◌, ◌⊎◌, ◌∙◌, ℕ, ◌<◌, Bool, true, false, not, ◌&&◌, List, [], ◌∷◌, length, Option, Some, None, Result, Ok, slice_get, if◌then◌else◌}
+use Rattle.std.proofs.Common.{◌≡◌, ◌⊎◌, ◌∙◌, ℕ, Bool, true, false, not, ◌&&◌, List, [], ◌∷◌, Option, Some, None, Ok, if◌then◌else◌}
 use Rattle.std.proofs.Common.{inl, inr, refl, sym, ap, subst}
 use Rattle.std.proofs.lemmas.Bool.{false≢true}
 use Rattle.std.specs.List.{AllByRecursion}
-use Rattle.mk_clean.specs.Clean.{CleanJob, DependsOn, source, through, IsAmong, IsWell, AllWell}
+use Rattle.mk_clean.specs.Clean.{CleanJob, DependsOn, source, through, IsAmong, AllWell}
 use Rattle.mk_clean.specs.Declared.{IsDeclared, IsMadeBefore, IsOwn, IsPrivate, IsSource}
 use Rattle.mk_cli.specs.declared.order.Order.{Order}
 use Rattle.mk_decision.specs.Decisions.{Work}
@@ -14,12 +14,11 @@ use Rattle.mk_graph.specs.declared.Made.{Made}
 use Rattle.mk_headline.proofs.EndLemmas.{all-settled, none-left}
 use Rattle.mk_headline.proofs.PlanLemmas.{job-among, job-has}
 use Rattle.mk_headline.specs.Plans.{clean_plan, has_job, jobs_from, lines_of, makes_file}
-use Rattle.mk_headline.specs.Premises.{GoesByMetaMode, IsWellMade}
+use Rattle.mk_headline.specs.Premises.{IsWellMade}
 use Rattle.mk_makefile.specs.Questions.{AreAsked}
-use Rattle.mk_makefile.specs.declared.fault.ReadFault.{ReadFault}
 use Rattle.mk_meta.specs.Jobs.{working}
 use Rattle.mk_meta.specs.TrueHistory.{IsTrueHistory}
-use Rattle.mk_modes.specs.Building.{IsBuilt, Point, point}
+use Rattle.mk_modes.specs.Building.{Point, point}
 use Rattle.mk_modes.specs.Meaning.{Meant, only, prints, explains, queries, shows, builds, by_reading}
 use Rattle.mk_modes.specs.Modes.{Followed, Goes, Held}
 use Rattle.mk_modes.specs.declared.building.Went.{Went}
@@ -27,17 +26,16 @@ use Rattle.mk_modes.specs.declared.report.End.{End}
 use Rattle.mk_modes.specs.declared.report.End.TheVariants.{Done}
 use Rattle.mk_plan.specs.Plans.{node_at, planned}
 use Rattle.mk_plan.specs.Tasks.{task_with}
-use Rattle.mk_plan.specs.declared.plan.NodeState.TheVariants.{Settled}
 use Rattle.mk_plan.specs.declared.plan.PlanNode.{PlanNode}
 use Rattle.mk_pool.specs.Pool.{AreDistinct}
-use Rattle.mk_run.proofs.CleanRunLemmas.{asked-files, asked-history, asked-state, done-before, done-build, same-jobs, well-made}
+use Rattle.mk_run.proofs.CleanRunLemmas.{asked-files, asked-history, asked-state, done-before, done-build, well-made}
 use Rattle.mk_run.proofs.TrueRunLemmas.{asked-then, goes-told, looks-ask, questions-ask, told-at, told-before}
-use Rattle.mk_run.specs.CleanRuns.{ArePlansAlike, HasSameTask, IsReadyRun, LeavesCleanFiles, bare, clean_files_of, clean_jobs_of, jobs_on, left_by, task_on}
-use Rattle.mk_run.specs.TrueRuns.{Built, IsTrueOrderRun, LeavesClean, build, build_of, built_in, dry}
+use Rattle.mk_run.specs.CleanRuns.{IsReadyRun, bare, clean_files_of, clean_jobs_of, jobs_on, left_by, task_on}
+use Rattle.mk_run.specs.TrueRuns.{LeavesClean, build, build_of, built_in}
 use Rattle.mk_scopes.specs.declared.scopes.Env.{Env}
 use Rattle.mk_sound.proofs.SourceLemmas.{job-of}
 use Rattle.mk_sound.proofs.WalkLemmas.{have_clean_tasks}
-use Rattle.mk_sound.specs.Sound.{HasItsTask, IsSound, IsSoundRun, LeavesWhatIsSound, RunsLeaveCleanFiles, SoundRunsLeaveClean}
+use Rattle.mk_sound.specs.Sound.{IsSound, IsSoundRun, LeavesWhatIsSound, RunsLeaveCleanFiles, SoundRunsLeaveClean}
 use Rattle.mk_trace.proofs.AlongLemmas.{OnlyAsked, questions-children}
 use Rattle.mk_trace.proofs.QuestionLemmas.{questions-keep-truth}
 use Rattle.mk_trace.specs.Builds.{IsBuild, Makes, build_after_all, first_build, moment, rules_of}
@@ -46,9 +44,6 @@ use Rattle.mk_trace.specs.Ends.{IsOver, StandsBy, is_cut}
 use Rattle.mk_trace.specs.Items.{FitsAll, Happened, Item, happened_all}
 use Rattle.mk_trace.specs.Runs as run
 use Rattle.mk_trace.specs.TrueBuilds.{LeavesFiles}
-use Rattle.mk_trace.specs.declared.result.BuildResult.{BuildResult}
-use Rattle.mk_trace.specs.declared.result.BuildResult.TheVariants as result
-use Rattle.mk_values.specs.declared.facts.Asked.{Asked}
 use Rattle.mk_world.proofs.LawLemmas.{runs_stay_lawful}
 use Rattle.mk_world.specs.Deeds.{Store}
 use Rattle.mk_world.specs.History.{State as Stand, MayAll as MayHappen, files_of, state_of}

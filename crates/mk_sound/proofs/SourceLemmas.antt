@@ -1,5 +1,5 @@
 -- What a sound clean build has at sources, and the tasks of nodes that were judged by looks which saw that.
-use Rattle.std.proofs.Common.{◌≡◌, ◌⊎◌, ◌∙◌, ℕ, Bool, true, false, not, ◌||◌, List, [], ◌∷◌, ◌++◌, length, map, Option, Some, None, Ok, is_some, if◌then◌else◌}
+use Rattle.std.proofs.Common.{◌≡◌, ◌⊎◌, ◌∙◌, ℕ, Bool, true, false, not, ◌||◌, List, [], ◌∷◌, ◌++◌, map, Option, None, Ok, is_some, if◌then◌else◌}
 use Rattle.std.proofs.Common.{inl, inr, refl, sym, ap, subst}
 use Rattle.mk_clean.proofs.CleanLemmas.{unchanged}
 use Rattle.mk_clean.specs.Clean.{CleanJob, IsAmong, LeavesIt}
@@ -23,7 +23,6 @@ use Rattle.mk_world.specs.Deeds.{Store}
 use Rattle.mk_world.specs.Looks.{Dated, Seen, dated, is_missing, read}
 use Rattle.mk_world.specs.Talks.{Meaning}
 use Rattle.mk_world.specs.declared.command.Task.{Task}
-use Rattle.mk_world.specs.declared.command.TaskLine.{TaskLine}
 
 -- lists
 

@@ -3,8 +3,8 @@ use Rattle.std.proofs.Common.{◌≡◌, ◌≢◌, ◌⊎◌, ◌∙◌, ℕ, �
 use Rattle.std.proofs.Common.{inl, inr, refl, sym, ap, subst, set}
 use Rattle.std.proofs.lemmas.Bool.{false≢true}
 use Rattle.std.specs.Option.{option_map}
-use Rattle.mk_clean.proofs.BesideLemmas.{Beside, at_first, turns_keep}
-use Rattle.mk_clean.specs.Clean.{CleanJob, IsAmong, Plan, clean_build}
+use Rattle.mk_clean.proofs.BesideLemmas.{at_first, turns_keep}
+use Rattle.mk_clean.specs.Clean.{IsAmong, Plan, clean_build}
 use Rattle.mk_clean.specs.Declared.{IsDeclared}
 use Rattle.mk_clean.specs.Turns as turn
 use Rattle.mk_decision.specs.Decisions.{IsBegun, IsKept, Work}
@@ -23,7 +23,7 @@ use Rattle.mk_run.proofs.CleanRunLemmas.{same-jobs}
 use Rattle.mk_run.specs.CleanRuns.{bare, clean_jobs_of}
 use Rattle.mk_sound.proofs.AgreeLemmas.{Agree, build-agrees, goes_by, make-agrees, node_of, run-agrees}
 use Rattle.mk_sound.proofs.KnownLemmas.{Known, known-first, known-next}
-use Rattle.mk_sound.proofs.SourceLemmas.{IsStill, SawRight, among-last, task-lines}
+use Rattle.mk_sound.proofs.SourceLemmas.{IsStill, SawRight, task-lines}
 use Rattle.mk_sound.specs.Sound.{BuildsHaveCleanTasks, IsSound}
 use Rattle.mk_trace.proofs.BegunLemmas.{Steady, end-open, steady-all}
 use Rattle.mk_trace.proofs.ItemLemmas.{state_of-happened}
@@ -39,7 +39,7 @@ use Rattle.mk_world.specs.Calls.{when_of}
 use Rattle.mk_world.specs.Deeds.{Store}
 use Rattle.mk_world.specs.History.{FileMap, Filed, State as Stand, MayAll as MayHappen, after_all as stand_after, contents, files_of, state_of}
 use Rattle.mk_world.specs.Lawful.{IsLawful}
-use Rattle.mk_world.specs.Looks.{Dated, Seen, dated, is_missing, read}
+use Rattle.mk_world.specs.Looks.{Seen, dated, is_missing, read}
 use Rattle.mk_world.specs.Talks.{Meaning}
 use Rattle.mk_world.specs.declared.history.History.{History}
 
