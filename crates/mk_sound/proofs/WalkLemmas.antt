@@ -1,6 +1,6 @@
 -- Item by item, a build has the tasks of its sound clean build.
 use Rattle.std.proofs.Common.{◌≡◌, ◌≢◌, ◌⊎◌, ◌∙◌, ℕ, ◌<◌, ◌==◌, Bool, true, false, not, List, [], ◌∷◌, ◌++◌, length, slice_get, Option, Some, None, is_some, if◌then◌else◌}
-use Rattle.std.proofs.Common.{inl, inr, refl, sym, ap, subst, set}
+use Rattle.std.proofs.Common.{inl, inr, refl, sym, ap, subst, set, arith}
 use Rattle.std.proofs.lemmas.Bool.{false≢true}
 use Rattle.std.specs.Option.{option_map}
 use Rattle.mk_clean.proofs.BesideLemmas.{at_first, turns_keep}
@@ -64,7 +64,7 @@ when-is files path = by (files path)
     by (Some file) = refl
 
 commands-has : (commands : List (List ℕ)) → 0 < length commands → not (is_nil commands) ≡ true
-commands-has [] some = absurd (omega some)
+commands-has [] some = absurd (omega (arith, some))
 commands-has (one ∷ commands) some = refl
 
 none-has : (commands : List (List ℕ)) → commands ≡ [] → not (is_nil commands) ≡ true → ⊥
