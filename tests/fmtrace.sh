@@ -181,9 +181,10 @@ mkdir "$room/cut"
 ) >"$room/cut.out"
 count 'a log that is cut' "$(cat "$room/cut.out")"
 
-# The processor time of a command and all that it began, in milliseconds, the least of ten, and what strace alone takes for it.
-if command -v python3 >/dev/null; then
-    both=$(BMAKE_FILEMON=$room/cpu.log python3 - "$fmtrace" "$room/cpu.trace" <<'PY'
+# The processor time of a command and all that it began, in milliseconds: as it is, recorded, and under strace alone. Each
+# is the least of ten, which take turns.
+least() {
+    BMAKE_FILEMON=$room/cpu.log python3 - "$fmtrace" "$room/cpu.trace" "$@" <<'PY'
 import resource, subprocess, sys, ctypes, os
 ctypes.CDLL(None).prctl(36, 1, 0, 0, 0)
 def spent():
@@ -191,22 +192,46 @@ def spent():
     return use.ru_utime + use.ru_stime
 def once(words):
     before = spent()
-    subprocess.run(words)
+    subprocess.run(words, check=True)
     while True:
         try: os.wait()
         except ChildProcessError: break
     return spent() - before
-def least(*words):
-    return int(1000 * min(once([*words, 'true']) for _ in range(10)))
-print(least(sys.argv[1]), least('strace', '-D', '-f', '-q', '-y', '--seccomp-bpf', '-e', 'trace=execve,openat', '-o', sys.argv[2], '--'))
+program, trace, *command = sys.argv[1:]
+calls = ('execve,openat,access,faccessat2,newfstatat,statx,unlink,unlinkat,rename,renameat2,mkdir,chdir,fchdir,getdents64,'
+    'vfork,clone,clone3')
+strace = ['strace', '-D', '-f', '-q', '-y', '--seccomp-bpf', '-s', '0', '-e', f'trace={calls}', '-o', trace, '--']
+before = [[], [program], strace]
+times = [9e9] * 3
+for _ in range(10):
+    for at, words in enumerate(before):
+        times[at] = min(times[at], once([*words, *command]))
+print(*(round(1000 * it) for it in times))
 PY
-    )
-    recorded=${both% *}
-    traced=${both#* }
-    echo "fmtrace true: $recorded ms of processor time, strace alone $traced ms"
-    # At most 8 ms, and where strace alone takes that, a third more than it.
-    count 'the time of a short command' \
-        "$([ "$recorded" -le 8 ] || [ $((3 * recorded)) -le $((4 * traced)) ] || echo "$recorded ms, strace alone $traced ms")"
+}
+if command -v python3 >/dev/null; then
+    read -r plain recorded traced <<<"$(least true)"
+    echo "true: $plain ms of processor time, recorded $recorded ms, under strace alone $traced ms"
+    # At most 8 ms, and where strace is slow, at most twice what it takes.
+    count 'the time of a short command' "$([ "$recorded" -le 8 ] || [ "$recorded" -le $((2 * traced)) ] ||
+        echo "$recorded ms, under strace alone $traced ms")"
+fi
+# A compiler that reads 20 headers: at most a quarter more than its own time, and where strace is slow, at most a fifth more
+# than under strace.
+if command -v python3 >/dev/null && command -v cc >/dev/null; then
+    mkdir "$room/headers"
+    for i in $(seq 20); do echo "static inline int f$i(int x) { return x * $i; }" >"$room/headers/h$i.h"; done
+    {
+        for i in $(seq 20); do echo "#include \"h$i.h\""; done
+        printf '#include <stdio.h>\n#include <stdlib.h>\n#include <string.h>\n'
+        for i in $(seq 8); do
+            echo "int g$i(int a) { int s = 0; for (int i = 0; i < a; i++) s += f$i(i); return s; }"
+        done
+    } >"$room/headers/many.c"
+    read -r plain recorded traced <<<"$(least cc -O2 "-I$room/none" "-I$room/headers" -c "$room/headers/many.c" -o "$room/many.o")"
+    echo "cc: $plain ms of processor time, recorded $recorded ms, under strace alone $traced ms"
+    count 'the time of a compiler' "$([ $((4 * recorded)) -le $((5 * plain)) ] || [ $((5 * recorded)) -le $((6 * traced)) ] ||
+        echo "$plain ms, recorded $recorded ms, under strace alone $traced ms")"
 fi
 
 # ---- Builds: an edit that has to be seen, and one that has not ----
