@@ -23,6 +23,15 @@ pub struct Level {
     pub depth: usize,
 }
 
+// Most texts have one part, and most references one modifier at most: a list of one has room for one.
+fn part_room(place: Place, text: &[u8]) -> usize {
+    if is_over(place, text) { 0 } else { 1 }
+}
+
+fn mod_room(text: &[u8]) -> usize {
+    if text.starts_with(b":") { 1 } else { 0 }
+}
+
 /// The text up to its end.
 #[cycle(read)]
 pub fn text_at<'t>(
@@ -36,7 +45,7 @@ pub fn text_at<'t>(
         (texts.text_in (references.ref_at level.total level.depth) place text.now) }
     ensures shorter { IfOk result (λ x. length x.1.now ≤ length text.now) }
 {
-    let mut tree = Items::new(alloc, 0)?;
+    let mut tree = Items::new(alloc, part_room(place, text))?;
     let mut place = place;
     let mut rest = text;
     'parts: while !is_over(place, rest) {
@@ -151,7 +160,7 @@ pub fn mods_at<'t>(
         level.total opened round text.now) }
     ensures shorter { IfOk result (λ x. length x.1.now ≤ length text.now) }
 {
-    let mut mods = Items::new(alloc, 0)?;
+    let mut mods = Items::new(alloc, mod_room(text))?;
     let mut rest = text;
     'mods: while !rest.is_empty() {
         let behind = skip(rest, 1);

@@ -17,7 +17,8 @@ use mk_export::Exported;
 use mk_plan::Plan;
 use mk_trace::{Event, put};
 use mk_world::{
-    Cmd, Ended, Kids, Sink, SinkFault, TaskLine, Ticket, Time, World, WorldFault, write_all,
+    Cmd, Ended, Kids, Progress, Sink, SinkFault, TaskLine, Ticket, Time, World, WorldFault,
+    write_all,
 };
 use std::alloc::Global;
 
@@ -89,12 +90,14 @@ pub fn start_child<W: World>(
     Ok(())
 }
 
-/// Waits for a child and takes it in. Tells of the wait, and leaves room to tell of the child's end.
+/// Waits for a child and takes it in, while the progress may be shown. Tells of the wait, and leaves room
+/// to tell of the child's end.
 pub fn wait_child<W: World>(
     alloc: Global,
     world: &mut W,
     kids: &mut Kids<W::Kid>,
     events: &mut Vec<Event>,
+    progress: Option<Progress>,
 ) -> Result<Ended, WorldFault>
     requires exact { W.runs world.old kids.old.tickets }
     requires some { 0 < length kids.old.tickets }
@@ -115,7 +118,7 @@ pub fn wait_child<W: World>(
 {
     make_room(events, 2)?;
     put(events, Event::Wait);
-    let ended = world.wait_any(alloc, kids)?;
+    let ended = world.wait_any(alloc, kids, progress)?;
     Ok(ended)
 }
 

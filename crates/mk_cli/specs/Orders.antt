@@ -20,6 +20,7 @@ no_flags = record {
   silent = false;
   dry = false;
   query = false;
+  progress = false;
   requested = [];
 }
 
@@ -77,6 +78,10 @@ with_jobs order jobs = record order { flags = record order.flags { jobs = jobs }
 -- why targets are out of date is asked
 abbrev pub with_explain : Order → Order
 with_explain order = record order { explain = true }
+
+-- how far the build has come is to be shown
+abbrev pub with_progress : Order → Order
+with_progress order = record order { flags = record order.flags { progress = true } }
 
 -- this many makefiles to generate
 abbrev pub with_generate : Order → ℕ → Order

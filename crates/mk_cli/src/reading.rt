@@ -47,6 +47,7 @@ fn no_flags(alloc: Global) -> Flags
         silent: false,
         dry: false,
         query: false,
+        progress: false,
         requested: Items::new(alloc, 0).unwrap(),
     }
 }
@@ -99,6 +100,13 @@ fn is_explain(word: &[u8]) -> bool
     ensures { result ≡ spec.is_explain word.now }
 {
     word == b"--explain".as_slice()
+}
+
+// Whether a word is `--progress`.
+fn is_progress(word: &[u8]) -> bool
+    ensures { result ≡ spec.is_progress word.now }
+{
+    word == b"--progress".as_slice()
 }
 
 impl Reading {
@@ -230,6 +238,10 @@ impl Reading {
         }
         if is_explain(word) {
             self.order.explain = true;
+            return Ok(());
+        }
+        if is_progress(word) {
+            self.order.flags.progress = true;
             return Ok(());
         }
         if is_option(word) {

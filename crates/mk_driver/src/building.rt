@@ -87,6 +87,7 @@ fn make_next<W: World, S: Sink>(
 {
     take_in_ready(maker, world, out, kids, course)?;
     if let Next::Decide(node) = course.sched.next() {
+        course.decided = course.decided.saturating_add(1);
         decide(maker, world, kids, course, node)?;
         return Ok(true);
     }
@@ -175,6 +176,7 @@ fn new_course<'p>(
         last_shown: None,
         failure: None,
         newest: Time(0),
+        decided: 0,
     })
 }
 

@@ -15,7 +15,7 @@ ghost use Rattle.mk_world.specs.declared.fault.WorldFault.TheVariants.{Failed as
 ghost use Rattle.mk_world.specs.declared.command.TaskLine.{TaskLine as Line};
 
 use crate::collected::keep_end;
-use crate::course::{Course, are_many};
+use crate::course::{Course, are_many, progress_of};
 use crate::job::{Job, line_at, take_job};
 use crate::line::run_on;
 use crate::meta::finish_job;
@@ -154,7 +154,8 @@ pub fn take_in<W: World, S: Sink>(
     ensures sink_cause { HasCause halts.Sink (S.faults out.old) (S.faults out.new) result }
     ensures children { W.runs world.new kids.new.tickets }
 {
-    let ended = wait_child(maker.alloc, world, kids, &mut course.events)?;
+    let progress = progress_of(maker, course);
+    let ended = wait_child(maker.alloc, world, kids, &mut course.events, progress)?;
     let mut job = take_job(&mut course.jobs, ended.ticket.0);
     let status = ended.status;
     put(&mut course.events, Event::End(job.node, job.number, status));

@@ -18,6 +18,8 @@ pub struct Flags {
     pub dry: bool,
     /// `-q`: nothing is made; the answer is whether the targets are up to date.
     pub query: bool,
+    /// `--progress`: while make waits for commands, a line on a terminal tells how far it has come.
+    pub progress: bool,
     /// The targets asked for, in their order. Where there are none, the makefile's own are made.
     pub requested: Texts,
 }

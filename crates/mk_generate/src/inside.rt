@@ -53,6 +53,7 @@ fn flags(alloc: Global) -> Result<Flags, NoMemory>
         silent: true,
         dry: false,
         query: false,
+        progress: false,
         requested,
     })
 }

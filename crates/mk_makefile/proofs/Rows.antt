@@ -83,6 +83,7 @@ order = record {
     silent = false;
     dry = false;
     query = false;
+    progress = false;
     requested = [];
   };
 }

@@ -38,7 +38,7 @@ use crate::schedule::{Schedule, Turns};
 use crate::writing::Writing;
 use mk_bytes::{NoMemory, Pairs, Text, Texts};
 use mk_commands::{Stored, copy_bytes};
-use mk_world::{Cmd, Ended, Kids, Ticket, Time, When, World, WorldFault};
+use mk_world::{Cmd, Ended, Kids, Progress, Ticket, Time, When, World, WorldFault};
 use std::alloc::Global;
 
 /// A world in memory. It tells everything.
@@ -656,7 +656,12 @@ impl World for MemWorld {
     /// have come to their end; where none has, the oldest child is taken in. It does all its
     /// remaining steps first, and no other child does any. The clock needs numbers for these, beside
     /// that for the step of the child that goes on. A call that fails takes no second number.
-    fn wait_any(&mut self, _: Global, kids: &mut Kids<()>) -> Result<Ended, WorldFault>
+    fn wait_any(
+        &mut self,
+        _: Global,
+        kids: &mut Kids<()>,
+        _: Option<Progress>,
+    ) -> Result<Ended, WorldFault>
         requires exact { tickets_of (state_of self.old.chronicle).children ≡ kids.old.tickets }
         requires some { 0 < length kids.old.tickets }
         ensures done { IfOk result (λ ended. Adds language (Some self.old.chronicle)

@@ -13,6 +13,7 @@ mod history;
 mod kids;
 mod law;
 mod listing;
+mod progress;
 mod shared;
 mod sink;
 mod step;
@@ -25,6 +26,7 @@ pub use history::{Bases, Child, Children, File, Happening, Happenings, History, 
 pub use kids::Kids;
 pub use law::{one_listing, runs_stay_lawful, same_doing};
 pub use listing::Names;
+pub use progress::Progress;
 pub use shared::SharedPairs;
 pub use sink::{Sink, write_all};
 pub use step::{Answer, Answers, Deed, Deeds, Ended, Next, Op, Ops, Request};

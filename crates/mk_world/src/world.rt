@@ -12,6 +12,7 @@ ghost use Rattle.mk_world.specs.declared.history.History.{History};
 use crate::command::Cmd;
 use crate::fault::WorldFault;
 use crate::kids::Kids;
+use crate::progress::Progress;
 use crate::step::Ended;
 use crate::time::{Ticket, Time, When};
 use mk_bytes::{Text, Texts};
@@ -150,8 +151,14 @@ pub trait World {
         ensures children { runs self.new kids.new.tickets };
 
     /// Waits until a child has ended, and takes it out of `kids`; the others stay in order. After a
-    /// refusal `kids` is as before.
-    fn wait_any(&mut self, alloc: Global, kids: &mut Kids<Self::Kid>) -> Result<Ended, WorldFault>
+    /// refusal `kids` is as before. Meanwhile the progress may be shown, where there is one to show: no
+    /// answer hangs on it.
+    fn wait_any(
+        &mut self,
+        alloc: Global,
+        kids: &mut Kids<Self::Kid>,
+        progress: Option<Progress>,
+    ) -> Result<Ended, WorldFault>
         requires exact { runs self.old kids.old.tickets }
         requires some { 0 < length kids.old.tickets }
         ensures done { IfOk result (λ ended. Adds meaning (history self.old) (history self.new) (OwnEnd meaning ended)) }
