@@ -36,6 +36,7 @@ const HELP: &[u8] = b"usage: bmake [options] [NAME=VALUE ..] [TARGET ..]
   -q           make nothing: status 1 where a target is out of date
   -r           taken, and without effect: no rules are built in
   --explain    make nothing: tell of each target that is out of date why it is
+  --progress   where standard error is a terminal, show there how far the build has come
   --generate N make a project of N targets in memory and build it twice, where it is the first word
   --           the words after it are no options
   NAME=VALUE   set this variable above all others; also with +=, ?= and :=
