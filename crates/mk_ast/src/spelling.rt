@@ -1,5 +1,6 @@
 //! Trees, written as texts.
 ghost use Rattle.std.specs.Prelude.{◌≡◌, ◌++◌, [], ◌∷◌, IfOk, OnOk};
+ghost use Rattle.mk_bytes.specs.Bytes.{at_sign, square_close, square_open};
 ghost use Rattle.mk_ast.specs.References.{tree_of_text};
 ghost use Rattle.mk_ast.specs.Spell as spec;
 ghost use Rattle.mk_ast.specs.Tree.{Tree as PlainTree};
@@ -119,11 +120,7 @@ fn put_mod(out: &mut Text, one: &ModTree) -> Result<(), NoMemory>
         ModTree::Separator(written) => put_both(out, b"ts", written.bytes()),
         ModTree::OneWord(written) => put(out, written.bytes()),
         ModTree::ManyWords(written) => put(out, written.bytes()),
-        ModTree::Select(places) => {
-            out.push(b"[")?;
-            put_closed(out, places, b']')?;
-            Ok(())
-        }
+        ModTree::Select(places) => put_select(out, places),
         ModTree::Range(count) => match count {
             None => put(out, b"range"),
             Some(text) => put_after(out, b"range=", text),
@@ -136,12 +133,7 @@ fn put_mod(out: &mut Text, one: &ModTree) -> Result<(), NoMemory>
             put_after(out, b":", second)?;
             Ok(())
         }
-        ModTree::Each(name, body) => {
-            put_both(out, b"@", name.bytes())?;
-            out.push(b"@")?;
-            put_closed(out, body, b'@')?;
-            Ok(())
-        }
+        ModTree::Each(name, body) => put_each(out, name.bytes(), body),
         ModTree::Suffix(old, new) => {
             put_closed(out, old, b'=')?;
             put_tree(out, new)?;
@@ -149,6 +141,29 @@ fn put_mod(out: &mut Text, one: &ModTree) -> Result<(), NoMemory>
         }
         ModTree::Empty => put(out, b""),
     }
+}
+
+// The places of `:[ ]`.
+#[cycle(put)]
+fn put_select(out: &mut Text, places: &Tree) -> Result<(), NoMemory>
+    ensures { OnOk result (out.new
+        ≡ out.old ++ (square_open ∷ (spec.spell (tree_view places.now) ++ square_close ∷ []))) }
+{
+    out.push(b"[")?;
+    put_closed(out, places, b']')?;
+    Ok(())
+}
+
+// The variable and the body of `:@`.
+#[cycle(put)]
+fn put_each(out: &mut Text, name: &[u8], body: &Tree) -> Result<(), NoMemory>
+    ensures { OnOk result (out.new ≡ out.old ++ (at_sign
+        ∷ (name.now ++ at_sign ∷ (spec.spell (tree_view body.now) ++ at_sign ∷ [])))) }
+{
+    put_both(out, b"@", name)?;
+    out.push(b"@")?;
+    put_closed(out, body, b'@')?;
+    Ok(())
 }
 
 fn put_both(out: &mut Text, first: &[u8], second: &[u8]) -> Result<(), NoMemory>

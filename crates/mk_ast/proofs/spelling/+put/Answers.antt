@@ -4,8 +4,7 @@ use Rattle.mk_ast.specs.Spell.{spell_mod}
 use Rattle.mk_ast.specs.View.{mod_view}
 use Rattle.mk_ast.proofs.SpelledLists.{parts_text-turn, parts_text-done, mods_text-turn}
 use Rattle.mk_ast.proofs.SpelledLists.{mods_text-done}
-use Rattle.mk_ast.proofs.Spells.{spell-Ref, spell-Subst, spell-Select, spell-Choose, spell-Each}
-use Rattle.mk_ast.proofs.Spells.{spell-Suffix}
+use Rattle.mk_ast.proofs.Spells.{spell-Ref, spell-Subst, spell-Choose, spell-Suffix}
 use Rattle.mk_ast.proofs.spelling.+put.Goals as goal
 
 pub put_mod-returns-in_ok-push-in-Subst-2 : goal.put_mod-returns-in_ok-push-in-Subst-2
@@ -20,14 +19,9 @@ put_mod-returns-in_ok-push-in-Subst-2 t c =
       c.in_ok-push-in-Subst.ensures.ok,
     ) (simp append_assoc)
 
-pub put_mod-returns-in_ok-put_closed-in-Select : goal.put_mod-returns-in_ok-put_closed-in-Select
-put_mod-returns-in_ok-put_closed-in-Select t c =
-    rw (
-      c.in-Select.is,
-      spell-Select c.in-Select.places,
-      c.in_ok-put_closed-in-Select.ensures,
-      c.in_ok-push-in-Select.ensures.ok,
-    ) (simp append_assoc)
+pub put_select-returns : goal.put_select-returns
+put_select-returns t c =
+    rw (c.in_ok-put_closed.ensures, c.in_ok-push.ensures.ok) (simp append_assoc)
 
 pub put_mod-returns-in_ok-put_after-in-Choose-2 : goal.put_mod-returns-in_ok-put_after-in-Choose-2
 put_mod-returns-in_ok-put_after-in-Choose-2 t c =
@@ -38,15 +32,12 @@ put_mod-returns-in_ok-put_after-in-Choose-2 t c =
       c.in_ok-put_after-in-Choose.ensures,
     ) (simp append_assoc)
 
-pub put_mod-returns-in_ok-put_closed-in-Each : goal.put_mod-returns-in_ok-put_closed-in-Each
-put_mod-returns-in_ok-put_closed-in-Each t c =
+pub put_each-returns : goal.put_each-returns
+put_each-returns t c =
     rw (
-      c.in-Each.is,
-      spell-Each c.in-Each.name c.in-Each.body,
-      c.in_ok-put_closed-in-Each.ensures,
-      c.in_ok-push-in-Each.ensures.ok,
-      c.in_ok-put_both-in-Each.ensures,
-      c.bytes-in-Each.ensures.value,
+      c.in_ok-put_closed.ensures,
+      c.in_ok-push.ensures.ok,
+      c.in_ok-put_both.ensures,
     ) (simp append_assoc)
 
 pub put_mod-returns-in_ok-put_tree-in-Suffix : goal.put_mod-returns-in_ok-put_tree-in-Suffix
