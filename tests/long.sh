@@ -213,5 +213,12 @@ P=t${i}
 .endfor
 MAKEFILE
 
+# A directory that a pattern lists: its files are 20000.
+mkdir "$room/sources" && (cd "$room/sources" && seq -f 'f%g.c' 20000 | xargs touch)
+seconds=5 row 'a pattern in a directory of 20000 files' $'20000\n' '' 0 t <<'MAKEFILE'
+t: sources/*.c
+	@echo ${.ALLSRC:[#]}
+MAKEFILE
+
 echo "$passed passed, $failed failed"
 [ "$failed" = 0 ]
