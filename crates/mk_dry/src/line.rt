@@ -65,7 +65,7 @@ fn run_line<W: World, S: Sink>(
     let started = start_child(alloc, world, kids, events, place, TICKET, Time(0), &cmd);
     drop(cmd);
     started?;
-    let ended = wait_child(alloc, world, kids, events)?;
+    let ended = wait_child(alloc, world, kids, events, None)?;
     put(events, Event::End(place.node, place.number, ended.status));
     write_all(out, &[ended.output.bytes()])?;
     Ok(ended.status)
