@@ -3,6 +3,7 @@ pub mod Commands
 pub mod Known
 pub mod Logs
 pub mod PieceSizes
+pub mod Progress
 pub mod Sights
 pub mod Statuses
 pub mod Stops

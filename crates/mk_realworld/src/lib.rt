@@ -14,6 +14,7 @@ mod late;
 mod listing;
 mod named;
 mod output;
+mod progress;
 mod refusal;
 mod room;
 mod setting;

@@ -49,6 +49,11 @@ impl Named {
         }
     }
 
+    /// The process's standard error.
+    pub fn stderr(&self) -> &Stderr {
+        &self.stderr
+    }
+
     /// Names a call that failed, with what it was about and why, where no other one was named before.
     pub fn name(&mut self, call: &[u8], path: &[u8], reason: Reason) {
         if !self.is_done {

@@ -4,12 +4,13 @@
 ghost use Rattle.std.specs.Prelude.{◌≡◌, ◌<◌, [], ◌∷◌, length, slice_get, Some, IfOk, IfSome};
 
 use crate::child::{RealKid, Told};
+use crate::progress::StatusLine;
 use crate::refusal::{Reason, Refusal};
 use crate::shell::Streams;
 use crate::system::System;
 use libc::net;
 use libc::types::pollfd;
-use mk_world::{Cmd, Ended, Kids, Ticket};
+use mk_world::{Cmd, Ended, Kids, Progress, Ticket};
 use std::fs::{File, Files};
 use std::process::{OpenProcess, Processes};
 use std::thread;
@@ -194,10 +195,11 @@ fn some_ended<P: OpenProcess + Drop>(
     oldest_ended(kids, asks_all)
 }
 
-// Waits until a child has ended.
+// Waits until a child has ended. Meanwhile the line may come.
 fn next_ended<R: Clock, P: OpenProcess + Drop>(
     system: &mut System<R>,
     kids: &mut Kids<RealKid<P>>,
+    line: &mut StatusLine,
 ) -> Result<Found, Refusal>
     requires { 0 < length kids.old.tickets }
     ensures same { kids.new ≡ kids.old }
@@ -215,6 +217,7 @@ fn next_ended<R: Clock, P: OpenProcess + Drop>(
             pause = pause.max(TICK);
         }
         let news = listen(system, kids, is_one_over, pause)?;
+        line.show(&system.rt, system.named.stderr());
         asks_all = news == News::Nothing;
         pause = match news {
             News::Nothing => longer(pause),
@@ -226,17 +229,22 @@ fn next_ended<R: Clock, P: OpenProcess + Drop>(
 }
 
 /// Waits until a child has ended, and takes in what it printed and its log. It stays among the children.
+/// Where a progress is given, a terminal shows it while the wait is long, and no longer.
 #[tactic(auto, using(crate::proofs::KidLemmas::with_kid_unchanged))]
 pub fn wait_over<R: Files<File = File> + Clock + AllocGlobal, P: OpenProcess + Drop>(
     system: &mut System<R>,
     kids: &mut Kids<RealKid<P>>,
+    progress: Option<Progress>,
 ) -> Result<Over, Refusal>
     requires { 0 < length kids.old.tickets }
     ensures same { kids.new ≡ kids.old }
     ensures place { IfOk result (λ over. over.place < length kids.old.tickets) }
     ensures told { IfOk result (λ over. Some over.told.ticket ≡ slice_get kids.old.kids over.place) }
 {
-    let found = next_ended(system, kids)?;
+    let mut line = StatusLine::new(&system.rt, system.rt.alloc(), progress, kids.len());
+    let found = next_ended(system, kids, &mut line);
+    line.erase(system.named.stderr());
+    let found = found?;
     let told = kids.kid(found.place).told(system)?;
     Ok(Over {
         place: found.place,
@@ -253,7 +261,7 @@ fn take_only<R: Files<File = File> + Clock + AllocGlobal, P: OpenProcess + Drop>
     requires { kids.tickets ≡ 0 ∷ [] }
     ensures { IfOk result (λ ended. ended.ticket.0 ≡ 0) }
 {
-    let over = wait_over(system, &mut kids);
+    let over = wait_over(system, &mut kids, None);
     let (_, kid) = kids.take(0);
     kids.finish();
     match over {

@@ -17,7 +17,7 @@ use crate::system::System;
 use crate::waiting::{run, wait_over};
 use crate::write::{remove, write_later};
 use mk_bytes::{NoMemory, Text, Texts};
-use mk_world::{Cmd, Ended, Kids, Ticket, Time, When, World, WorldFault};
+use mk_world::{Cmd, Ended, Kids, Progress, Ticket, Time, When, World, WorldFault};
 use std::alloc::Global;
 use std::fs::{File, Files};
 use std::io::Stderr;
@@ -282,11 +282,14 @@ impl<R: Files<File = File> + Processes + Clock + AllocGlobal + Clone + Drop> Wor
 
     /// Waits for what children print, and for their ends; of several that have ended, the oldest is
     /// taken in. A child that a signal ended has the status 255. What a process in the background prints
-    /// behind the end of its shell belongs to nobody.
+    /// behind the end of its shell belongs to nobody. Where a progress is given, standard error is a
+    /// terminal and the wait lasts longer than a tenth of a second, a line tells the progress there until
+    /// the wait is over.
     fn wait_any(
         &mut self,
         _: Global,
         kids: &mut Kids<RealKid<R::Started>>,
+        progress: Option<Progress>,
     ) -> Result<Ended, WorldFault>
         requires some { 0 < length kids.old.tickets }
         ensures taken { IfOk result
@@ -298,7 +301,7 @@ impl<R: Files<File = File> + Processes + Clock + AllocGlobal + Clone + Drop> Wor
             (self.new.system ≡ self.old.system) result }
     {
         self.go_on()?;
-        match wait_over(&mut self.system, kids) {
+        match wait_over(&mut self.system, kids, progress) {
             Ok(over) => {
                 let (ticket, kid) = kids.take(over.place);
                 drop(kid);
