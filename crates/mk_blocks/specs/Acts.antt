@@ -9,5 +9,7 @@ pub data Act : Type 0 where
   looked : (path : List ℕ) → Act
   -- it asks for the time of a path, to tell whether a file is there
   dated : (path : List ℕ) → Act
+  -- it asks for the names in a directory
+  listed : (dir : List ℕ) → Act
   -- it has a command run
   ran : (cmd : Cmd) → Act

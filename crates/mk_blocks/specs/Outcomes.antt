@@ -3,7 +3,7 @@ use Rattle.std.specs.Prelude.{List, [], ◌++◌, Result, Ok, Err}
 use Rattle.mk_blocks.specs.Acts.{Act}
 
 pub record Outcome (A E : Type 0) : Type 0 where
-  -- the messages that it writes, and the files, times and commands that it asks for, in order
+  -- the messages that it writes, and the files, times, listings and commands that it asks for, in order
   pub acts : List Act
   pub answer : Result A E
 

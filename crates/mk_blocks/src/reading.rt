@@ -32,8 +32,9 @@ pub const MAX_FILES: usize = 64;
 /// reached.
 /// `TooManyLines` where a line or turn above [`MAX_LINES`] would be processed, and `TooManyFiles`
 /// where an included file would be open above [`MAX_FILES`]. All messages of the lines before such
-/// a fault have been written, and all files, times and commands asked for that they ask for. `Failed`
-/// where the outside failed, and `NoMemory` where memory ran out: a first part of that was done then.
+/// a fault have been written, and all files, times, listings and commands asked for that they ask for.
+/// `Failed` where the outside failed, and `NoMemory` where memory ran out: a first part of that was done
+/// then.
 ///
 /// [`MAX_LINES`]: crate::MAX_LINES
 pub fn read_file<L: Language>(

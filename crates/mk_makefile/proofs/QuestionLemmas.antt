@@ -14,7 +14,7 @@ use Rattle.mk_world.specs.declared.time.When.{When}
 use Rattle.mk_world.proofs.IdleLemmas.{IsIdle, adds_alone, same_idle}
 use Rattle.mk_makefile.specs.Leads.{Led}
 use Rattle.mk_makefile.specs.Notes.{asked_by, question_of, questions_in}
-use Rattle.mk_makefile.specs.Questions.{AreAsked, AreTimes, IsAsked, Question, bytes_of, cut, cuts_in, output_of, readings_in, runnings_in, time_of, times_in}
+use Rattle.mk_makefile.specs.Questions.{AreAsked, AreTimes, IsAsked, Question, bytes_of, cut, cuts_in, listings_in, names_of, output_of, readings_in, runnings_in, time_of, times_in}
 use Rattle.mk_makefile.specs.Questions.{times_in-append}
 use Rattle.mk_makefile.specs.declared.note.Note.{Note}
 
@@ -92,19 +92,29 @@ asked_by-push notes more note asked is one =
     ∙ times_in-append (questions_in notes) (questions_in (note ∷ []))
     ∙ ap (λ l. asked_by notes ++ l) one
 
--- questions of `exists` ask for no bytes and no command
+-- questions of `exists` ask for no bytes, no directory and no command
 
 pub readings_in-none : (questions : List Question) → AreTimes questions → readings_in questions ≡ []
 readings_in-none [] times = refl
 readings_in-none (bytes_of path found ∷ more) times = absurd times
 readings_in-none (time_of path when ∷ more) times = readings_in-none more times
+readings_in-none (names_of dir names ∷ more) times = absurd times
 readings_in-none (output_of cmd ended ∷ more) times = absurd times
 readings_in-none (cut cmd ∷ more) times = absurd times
+
+pub listings_in-none : (questions : List Question) → AreTimes questions → listings_in questions ≡ []
+listings_in-none [] times = refl
+listings_in-none (bytes_of path found ∷ more) times = absurd times
+listings_in-none (time_of path when ∷ more) times = listings_in-none more times
+listings_in-none (names_of dir names ∷ more) times = absurd times
+listings_in-none (output_of cmd ended ∷ more) times = absurd times
+listings_in-none (cut cmd ∷ more) times = absurd times
 
 pub runnings_in-none : (questions : List Question) → AreTimes questions → runnings_in questions ≡ []
 runnings_in-none [] times = refl
 runnings_in-none (bytes_of path found ∷ more) times = absurd times
 runnings_in-none (time_of path when ∷ more) times = runnings_in-none more times
+runnings_in-none (names_of dir names ∷ more) times = absurd times
 runnings_in-none (output_of cmd ended ∷ more) times = absurd times
 runnings_in-none (cut cmd ∷ more) times = absurd times
 
@@ -112,5 +122,6 @@ pub cuts_in-none : (questions : List Question) → AreTimes questions → cuts_i
 cuts_in-none [] times = refl
 cuts_in-none (bytes_of path found ∷ more) times = absurd times
 cuts_in-none (time_of path when ∷ more) times = cuts_in-none more times
+cuts_in-none (names_of dir names ∷ more) times = absurd times
 cuts_in-none (output_of cmd ended ∷ more) times = absurd times
 cuts_in-none (cut cmd ∷ more) times = absurd times

@@ -21,7 +21,7 @@ use Rattle.mk_glob.specs.Patterns.{parts_of}
 use Rattle.mk_lines.specs.Comment.{before_comment, unescaped}
 use Rattle.mk_lines.specs.Lines.{physical_lines, line_groups, joined}
 use Rattle.mk_for.specs.Substitution.{replaced_behind}
-use Rattle.mk_blocks.specs.Acts.{Act, wrote, looked, dated, ran}
+use Rattle.mk_blocks.specs.Acts.{Act, wrote, looked, dated, listed, ran}
 use Rattle.mk_blocks.specs.Blocks.{parse, closed, branches}
 use Rattle.mk_blocks.specs.Meaning.{file_at, meaning, chosen}
 use Rattle.mk_blocks.specs.Runs.{all_turns}
@@ -60,6 +60,7 @@ abbrev answers : Files → Answers
 answers files = record {
   exists = λ place path. is_some (bytes_at files path);
   contents = λ place path. bytes_at files path;
+  listings = λ place dir. None;
   outputs = λ place cmd. cmd.text ++ 10 ∷ cmd.text ++ 10 ∷ [];
 }
 
@@ -100,6 +101,7 @@ messages_in [] = []
 messages_in (wrote message ∷ acts) = message ∷ messages_in acts
 messages_in (looked path ∷ acts) = messages_in acts
 messages_in (dated path ∷ acts) = messages_in acts
+messages_in (listed dir ∷ acts) = messages_in acts
 messages_in (ran cmd ∷ acts) = messages_in acts
 
 abbrev shown : Reads Made → List ℕ → List (List ℕ) × Found
@@ -155,7 +157,7 @@ row_messages : read (codes "V=1" ∷ codes ".info a $V" ∷ codes ".warning b" �
 unfolding physical_lines line_groups joined before_comment unescaped replaced_behind parse closed branches file_at meaning chosen all_turns blocks_checked turns_from equals_at in_at text_at mods_at ref_at rows.begins is_word is_left_out_word begins more_at inner_at is_call skip_blanks all_modified each_behind truth_of any_truth all_truth without_front without_back parts.joined found_at digits parts_of semicolon_from place_from alternatives_from spelled_in
 row_messages = refl
 
--- the files, times and commands that are asked for: none of a branch that is not chosen, and of places
+-- the files, times, listings and commands that are asked for: none of a branch that is not chosen, and of places
 -- where a file is sought all up to the one at which it is
 abbrev asked_for : List (List ℕ) → List Act
 asked_for ls = asked_in (reading (answers ((codes "makefile", lines ls) ∷ (codes "near/c", []) ∷ [])) env order).acts
@@ -172,6 +174,18 @@ row_dated : asked_for (codes "A!=a" ∷ codes ".if exists(f)" ∷ codes ".endif"
     ∷ dated (codes "f") ∷ ran (record { text = codes "b"; cwd = codes "/w"; exports = [] }) ∷ []
 unfolding physical_lines line_groups joined before_comment unescaped replaced_behind parse closed branches file_at meaning chosen all_turns blocks_checked turns_from equals_at in_at text_at mods_at ref_at rows.begins is_word is_left_out_word begins more_at inner_at is_call skip_blanks all_modified each_behind truth_of any_truth all_truth without_front without_back parts.joined found_at digits parts_of semicolon_from place_from alternatives_from spelled_in
 row_dated = refl
+
+-- the directories of patterns, those of targets first, before the command behind their line
+row_listed : asked_for (codes "*.o t: d/*.c a" ∷ codes "B!=b" ∷ [])
+    ≡ looked (codes "makefile") ∷ listed (codes ".") ∷ listed (codes "d")
+    ∷ ran (record { text = codes "b"; cwd = codes "/w"; exports = [] }) ∷ []
+unfolding physical_lines line_groups joined before_comment unescaped replaced_behind parse closed branches file_at meaning chosen all_turns blocks_checked turns_from equals_at in_at text_at mods_at ref_at rows.begins is_word is_left_out_word begins more_at inner_at is_call skip_blanks all_modified each_behind truth_of any_truth all_truth without_front without_back parts.joined found_at digits parts_of semicolon_from place_from alternatives_from spelled_in
+row_listed = refl
+
+-- of a line no target is left
+row_none : read (codes "*.o: d/*.c" ∷ []) ≡ bad 1 what.NoTargets
+unfolding physical_lines line_groups joined before_comment unescaped replaced_behind parse closed branches file_at meaning chosen all_turns blocks_checked turns_from equals_at in_at text_at mods_at ref_at rows.begins is_word is_left_out_word begins more_at inner_at is_call skip_blanks all_modified each_behind truth_of any_truth all_truth without_front without_back parts.joined found_at digits parts_of semicolon_from place_from alternatives_from spelled_in
+row_none = refl
 
 -- an error ends the reading, behind the messages before it
 row_error : read (codes ".warning w" ∷ codes ".error e" ∷ [])

@@ -2,18 +2,19 @@
 use Rattle.std.specs.Prelude.{◌≡◌, ℕ, List, [], ◌∷◌, ◌++◌, Option, Some, None}
 use Rattle.std.proofs.Common.{refl, sym, ap, subst, ◌∙◌, append_assoc}
 use Rattle.std.proofs.lemmas.List.{append-nil}
-use Rattle.mk_blocks.specs.Acts.{Act, wrote, looked, dated, ran}
+use Rattle.mk_blocks.specs.Acts.{Act, wrote, looked, dated, listed, ran}
 use Rattle.mk_values.specs.declared.facts.Asked.{Asked}
 use Rattle.mk_world.specs.Sinks.{Gains, GainsPart}
 use Rattle.mk_world.proofs.SinkLemmas.{Gains-nothing, Gains-then, GainsPart-more, GainsPart-then}
-use Rattle.mk_makefile.specs.Questions.{Question, AreTimes, bytes_of, time_of, output_of, cut, times_in}
+use Rattle.mk_makefile.specs.Questions.{Question, AreTimes, bytes_of, time_of, names_of, output_of, cut, times_in}
 
--- The files, times and commands that questions ask for, each an act, in order. A command that was not
+-- The files, times, listings and commands that questions ask for, each an act, in order. A command that was not
 -- answered is one of them.
 abbrev pub acts_of : List Question → List Act
 acts_of [] = []
 acts_of (bytes_of path found ∷ more) = looked path ∷ acts_of more
 acts_of (time_of path when ∷ more) = dated path ∷ acts_of more
+acts_of (names_of dir names ∷ more) = listed dir ∷ acts_of more
 acts_of (output_of cmd ended ∷ more) = ran cmd ∷ acts_of more
 acts_of (cut cmd ∷ more) = ran cmd ∷ acts_of more
 
@@ -22,12 +23,13 @@ abbrev pub dates : List Asked → List Act
 dates [] = []
 dates (one ∷ more) = dated one.path ∷ dates more
 
--- the files, times and commands among acts
+-- the files, times, listings and commands among acts
 abbrev pub asked_in : List Act → List Act
 asked_in [] = []
 asked_in (wrote message ∷ acts) = asked_in acts
 asked_in (looked path ∷ acts) = looked path ∷ asked_in acts
 asked_in (dated path ∷ acts) = dated path ∷ asked_in acts
+asked_in (listed dir ∷ acts) = listed dir ∷ asked_in acts
 asked_in (ran cmd ∷ acts) = ran cmd ∷ asked_in acts
 
 -- the bytes of the messages among acts
@@ -36,17 +38,18 @@ written [] = []
 written (wrote message ∷ acts) = message ++ written acts
 written (looked path ∷ acts) = written acts
 written (dated path ∷ acts) = written acts
+written (listed dir ∷ acts) = written acts
 written (ran cmd ∷ acts) = written acts
 
--- Exactly these acts were done: a sink gained their messages, and their files, times and commands were
--- asked for behind those before, in their order.
+-- Exactly these acts were done: a sink gained their messages, and their files, times, listings and
+-- commands were asked for behind those before, in their order.
 pub record Did (before after : Option (List ℕ)) (asked asked_now acts : List Act) : Type 0 where
   pub gains : Gains before after (written acts)
   pub asks : asked_now ≡ asked ++ asked_in acts
 
--- A first part of the messages was written, and a first part of the files, times and commands asked
--- for. Behind it there may be further times: those that the last evaluation asked for before the outside
--- failed in it, or memory ran out.
+-- A first part of the messages was written, and a first part of the files, times, listings and commands
+-- asked for. Behind it there may be further times: those that the last evaluation asked for before the
+-- outside failed in it, or memory ran out.
 pub record DidPart (before after : Option (List ℕ)) (asked asked_now acts : List Act) : Type 0 where
   pub gains : GainsPart before after (written acts)
   pub part : List Act
@@ -62,6 +65,8 @@ acts_of-append (bytes_of path found ∷ more) second =
     ap (λ (l : List Act). looked path ∷ l) (acts_of-append more second)
 acts_of-append (time_of path when ∷ more) second =
     ap (λ (l : List Act). dated path ∷ l) (acts_of-append more second)
+acts_of-append (names_of dir names ∷ more) second =
+    ap (λ (l : List Act). listed dir ∷ l) (acts_of-append more second)
 acts_of-append (output_of cmd ended ∷ more) second =
     ap (λ (l : List Act). ran cmd ∷ l) (acts_of-append more second)
 acts_of-append (cut cmd ∷ more) second =
@@ -75,6 +80,7 @@ acts_of-times [] times = refl
 acts_of-times (time_of path when ∷ more) times =
     ap (λ (l : List Act). dated path ∷ l) (acts_of-times more times)
 acts_of-times (bytes_of path found ∷ more) times = absurd times
+acts_of-times (names_of dir names ∷ more) times = absurd times
 acts_of-times (output_of cmd ended ∷ more) times = absurd times
 acts_of-times (cut cmd ∷ more) times = absurd times
 
@@ -94,6 +100,8 @@ asked_in-append (looked path ∷ more) second =
     ap (λ (l : List Act). looked path ∷ l) (asked_in-append more second)
 asked_in-append (dated path ∷ more) second =
     ap (λ (l : List Act). dated path ∷ l) (asked_in-append more second)
+asked_in-append (listed dir ∷ more) second =
+    ap (λ (l : List Act). listed dir ∷ l) (asked_in-append more second)
 asked_in-append (ran cmd ∷ more) second =
     ap (λ (l : List Act). ran cmd ∷ l) (asked_in-append more second)
 
@@ -105,6 +113,7 @@ written-append (wrote message ∷ more) second =
     ∙ sym (append_assoc message (written more) (written second))
 written-append (looked path ∷ more) second = written-append more second
 written-append (dated path ∷ more) second = written-append more second
+written-append (listed dir ∷ more) second = written-append more second
 written-append (ran cmd ∷ more) second = written-append more second
 
 GainsPart-whole : (a b : Option (List ℕ)) (bytes : List ℕ) → Gains a b bytes → GainsPart a b bytes

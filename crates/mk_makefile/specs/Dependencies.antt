@@ -7,9 +7,9 @@ use Rattle.mk_bytes.specs.Agrees.{◌>>=◌}
 use Rattle.mk_bytes.specs.Bytes.{dollar}
 use Rattle.mk_bytes.specs.Paths.{clean}
 use Rattle.mk_cli.specs.Assignments.{without_blanks_before}
-use Rattle.mk_depline.specs.Lines.{dep_line}
 use Rattle.mk_depline.specs.declared.fault.DepFault.{DepFault}
 use Rattle.mk_depline.specs.declared.fault.DepFault.TheVariants as line
+use Rattle.mk_depline.specs.declared.line.DepLine.{DepLine}
 use Rattle.mk_rules.specs.Lines.{line_read}
 use Rattle.mk_rules.specs.Rules.{Ruled, commanded}
 use Rattle.mk_rules.specs.declared.fault.RuleFault.{RuleFault}
@@ -77,9 +77,7 @@ abbrev pub with_first : Option (List ℕ) → Ruled → Ruled
 with_first None r = r
 with_first (Some command) r = commanded r command
 
--- What an expanded line and its command add.
-abbrev pub ruled : Ruled → List ℕ → Option (List ℕ) → List ℕ → Result Ruled What
-ruled r cwd command text =
-    wrong_by of_line (dep_line text cwd r.suffixes)
-    >>= λ line. wrong_by of_rule (line_read r line)
-    >>= λ next. Ok (with_first command next)
+-- What a line and its command add.
+abbrev pub ruled : Ruled → Option (List ℕ) → DepLine → Result Ruled What
+ruled r command line =
+    wrong_by of_rule (line_read r line) >>= λ next. Ok (with_first command next)

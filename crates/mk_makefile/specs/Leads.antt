@@ -6,7 +6,7 @@ use Rattle.mk_world.specs.Talks.{Meaning}
 use Rattle.mk_world.specs.Told.{Told}
 use Rattle.mk_world.specs.declared.history.History.{History}
 use Rattle.mk_makefile.specs.Notes.{question_of, questions_in}
-use Rattle.mk_makefile.specs.Questions.{Question, AreAsked, AreTimes, bytes_of, cut, output_of, time_of}
+use Rattle.mk_makefile.specs.Questions.{Question, AreAsked, AreTimes, bytes_of, cut, names_of, output_of, time_of}
 use Rattle.mk_makefile.specs.declared.note.Note.{Note}
 
 -- The questions that were noted in addition are those of `exists` alone. They were asked, and nothing
@@ -41,6 +41,7 @@ AreTimes-both : (first second : List Question) → AreTimes first → AreTimes s
 AreTimes-both [] second times more = more
 AreTimes-both (time_of path when ∷ first) second times more = AreTimes-both first second times more
 AreTimes-both (bytes_of path found ∷ first) second times more = absurd times
+AreTimes-both (names_of dir names ∷ first) second times more = absurd times
 AreTimes-both (output_of cmd ended ∷ first) second times more = absurd times
 AreTimes-both (cut cmd ∷ first) second times more = absurd times
 

@@ -23,3 +23,4 @@ pub mod SomeAnswers
 pub mod Steps
 pub mod Values
 pub mod Variables
+pub mod Wildcards

@@ -6,18 +6,20 @@ use Rattle.mk_values.specs.declared.facts.Asked.{Asked}
 use Rattle.mk_makefile.specs.declared.state.Draft.{Draft}
 use Rattle.mk_scopes.specs.Scopes.{Variables}
 use Rattle.mk_makefile.specs.Notes.{questions_in}
-use Rattle.mk_makefile.specs.Questions.{readings_in, runnings_in, times_in}
+use Rattle.mk_makefile.specs.Questions.{listings_in, readings_in, runnings_in, times_in}
 use Rattle.mk_makefile.specs.declared.fault.What.{What}
 use Rattle.mk_makefile.specs.declared.state.State.{State}
 
 -- What the lines so far leave under the orders of a command line, and how much was asked: the
--- questions of `exists`, and the numbers of files that were read and of commands that were run.
+-- questions of `exists`, and the numbers of files that were read, of directories that were listed and of
+-- commands that were run.
 pub record Moment : Type 0 where
   pub made : Draft
   pub in_group : Bool
   pub order : Order
   pub asked : List Asked
   pub read : ℕ
+  pub listed : ℕ
   pub ran : ℕ
 
 abbrev pub moment_of : State → Order → Moment
@@ -27,6 +29,7 @@ moment_of s order = record {
   order = order;
   asked = times_in (questions_in s.notes.items);
   read = length (readings_in (questions_in s.notes.items));
+  listed = length (listings_in (questions_in s.notes.items));
   ran = length (runnings_in (questions_in s.notes.items));
 }
 

@@ -26,6 +26,7 @@ first_moment env order = record {
   order = order;
   asked = [];
   read = 0;
+  listed = 0;
   ran = 0;
 }
 

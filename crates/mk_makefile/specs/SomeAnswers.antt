@@ -3,8 +3,8 @@
 use Rattle.std.specs.Prelude.{ℕ, Bool, false, List, [], Option, Some, None, slice_get}
 use Rattle.std.proofs.Common.{refl}
 use Rattle.mk_values.specs.declared.facts.Asked.{Asked}
-use Rattle.mk_makefile.specs.Questions.{Answered, Answers, Question, Reading, Running}
-use Rattle.mk_makefile.specs.Questions.{readings_in, runnings_in, times_in}
+use Rattle.mk_makefile.specs.Questions.{Answered, Answers, Listing, Question, Reading, Running}
+use Rattle.mk_makefile.specs.Questions.{listings_in, readings_in, runnings_in, times_in}
 
 abbrev told : Option Asked → Bool
 told None = false
@@ -13,6 +13,10 @@ told (Some one) = one.answer
 abbrev content : Option Reading → Option (List ℕ)
 content None = None
 content (Some one) = one.found
+
+abbrev listing : Option Listing → Option (List (List ℕ))
+listing None = None
+listing (Some one) = one.names
 
 abbrev output : Option Running → List ℕ
 output None = []
@@ -23,6 +27,7 @@ abbrev pub answers_to : List Question → Answers
 answers_to questions = record {
   exists = λ place path. told (slice_get (times_in questions) place);
   contents = λ place path. content (slice_get (readings_in questions) place);
+  listings = λ place dir. listing (slice_get (listings_in questions) place);
   outputs = λ place cmd. output (slice_get (runnings_in questions) place);
 }
 
@@ -30,5 +35,6 @@ pub are_answered : (questions : List Question) → Answered (answers_to question
 are_answered questions = record {
   exists = λ place one is. rw is refl;
   contents = λ place one is. rw is refl;
+  listings = λ place one is. rw is refl;
   outputs = λ place one is. rw is refl;
 }

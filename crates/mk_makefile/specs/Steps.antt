@@ -6,11 +6,14 @@ use Rattle.mk_directive.specs.Directives.{Directed, directive_on}
 use Rattle.mk_directive.specs.declared.directive.Directive.{Directive}
 use Rattle.mk_directive.specs.declared.directive.Directive.TheVariants.{Undef, Error, Warning, Info, Export, Unexport}
 use Rattle.mk_ast.specs.declared.fault.AstFault.{AstFault}
+use Rattle.mk_depline.specs.Lines.{dep_line}
+use Rattle.mk_depline.specs.declared.fault.DepFault.{DepFault}
+use Rattle.mk_depline.specs.declared.line.DepLine.{DepLine}
 use Rattle.mk_values.specs.Texts.{of_tree}
 use Rattle.mk_rules.specs.Rules.{Ruled, commanded}
 use Rattle.mk_scopes.specs.declared.scopes.Class.TheVariants.{Global}
 use Rattle.mk_makefile.specs.Assignments.{Parts, assignment}
-use Rattle.mk_makefile.specs.Dependencies.{Parted, parted, ruled}
+use Rattle.mk_makefile.specs.Dependencies.{Parted, of_line, parted, ruled}
 use Rattle.mk_makefile.specs.Exports.{exported_by, unexported_by}
 use Rattle.mk_makefile.specs.Kinds.{command_in, plain_text, is_only_white}
 use Rattle.mk_makefile.specs.Messages.{message, stop}
@@ -18,6 +21,7 @@ use Rattle.mk_makefile.specs.Moments.{Doing, Moment, closed, stands}
 use Rattle.mk_makefile.specs.Questions.{Answers}
 use Rattle.mk_makefile.specs.Variables.{assigned_by, undefined_by}
 use Rattle.mk_makefile.specs.Values.{value}
+use Rattle.mk_makefile.specs.Wildcards.{line_listed}
 use Rattle.mk_makefile.specs.declared.fault.What.{What}
 use Rattle.mk_makefile.specs.declared.fault.What.TheVariants.{Expand, LostCommand}
 
@@ -40,14 +44,24 @@ abbrev pub opened : Result Ruled What → Moment → Doing (Unit {0})
 opened (Ok rules) s = stands (record (with_rules s rules) { in_group = true })
 opened (Err what) s = refused what
 
+-- a line whose names are those of files
+abbrev pub line_opened : Option (List ℕ) → DepLine → Moment → Doing (Unit {0})
+line_opened command line s = opened (ruled s.made.rules command line) s
+
+abbrev pub by_line : Answers → Option (List ℕ) → Result DepLine DepFault → Moment → Doing (Unit {0})
+by_line answers command (Err fault) s = refused (of_line fault)
+by_line answers command (Ok line) s =
+    line_listed answers line s >>= λ found. line_opened command found.0 found.1
+
 -- a line whose references are expanded
-abbrev pub line_added : Option (List ℕ) → List ℕ → Moment → Doing (Unit {0})
-line_added command text s = opened (ruled s.made.rules s.made.scopes.cwd command text) s
+abbrev pub line_added : Answers → Option (List ℕ) → List ℕ → Moment → Doing (Unit {0})
+line_added answers command text s =
+    by_line answers command (dep_line text s.made.scopes.cwd s.made.rules.suffixes) s
 
 abbrev pub by_parts : Answers → Result Parted AstFault → Moment → Doing (Unit {0})
 by_parts answers (Err fault) s = refused (Expand (of_tree fault))
 by_parts answers (Ok parts) s =
-    value answers false parts.0 s >>= λ shown. line_added parts.1 shown.0 shown.1
+    value answers false parts.0 s >>= λ shown. line_added answers parts.1 shown.0 shown.1
 
 -- A dependency line: what stands before its command is expanded.
 abbrev pub dependency_read : Answers → List ℕ → Moment → Doing (Unit {0})

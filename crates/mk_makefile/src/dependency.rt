@@ -1,16 +1,15 @@
 //! Dependency lines (make(1), "FILE DEPENDENCY SPECIFICATIONS"), and the commands on them.
-ghost use Rattle.std.specs.Prelude.{◌≡◌, ◌<◌, length, OnOk, IfOk, IfErr, IfSome, IsTrue, Ok};
+ghost use Rattle.std.specs.Prelude.{◌≡◌, ◌<◌, length, OnOk, IfOk, IfErr, IfSome, Ok};
 ghost use Rattle.std.specs.Option.{option_copied};
 ghost use Rattle.mk_ast.specs.declared.fault.AstFault.TheVariants.{NoMemory as no_memory};
 ghost use Rattle.mk_bytes.specs.Agrees.{Agrees};
-ghost use Rattle.mk_bytes.specs.Paths.{is_clean_directory};
 ghost use Rattle.mk_makefile.specs.Dependencies as spec;
 ghost use Rattle.mk_makefile.specs.DependencyView.{IsRefusedLine, parts_seen};
 
 use crate::fault::Refusal;
 use mk_ast::AstFault;
 use mk_bytes::without_blanks_before;
-use mk_depline::parse_dep;
+use mk_depline::DepLine;
 use mk_form::reference_end;
 use mk_rules::Rules;
 use std::alloc::Global;
@@ -42,25 +41,14 @@ pub fn parted<'t>(alloc: Global, line: &'t [u8]) -> Result<(&'t [u8], Option<&'t
     }
 }
 
-/// Adds what an expanded line says, with the first command of its group. After a refusal the rules are
-/// given up.
-pub fn add_line(
-    alloc: Global,
-    rules: &mut Rules,
-    cwd: &[u8],
-    command: Option<&[u8]>,
-    text: &[u8],
-) -> Result<(), Refusal>
-    requires directory { IsTrue (is_clean_directory cwd.now) }
+/// Adds what a line says, with the first command of its group. After a refusal the rules are given up.
+pub fn add_line(rules: &mut Rules, command: Option<&[u8]>, line: &DepLine) -> Result<(), Refusal>
     ensures done { OnOk result
-        (spec.ruled rules.old cwd.now (option_copied command.entry) text.now ≡ Ok rules.new) }
+        (spec.ruled rules.old (option_copied command.entry) line.now ≡ Ok rules.new) }
     ensures refused { IfErr result (IsRefusedLine
-        (spec.ruled rules.old cwd.now (option_copied command.entry) text.now)) }
+        (spec.ruled rules.old (option_copied command.entry) line.now)) }
 {
-    let line = parse_dep(alloc, text, cwd, rules.suffixes())?;
-    let added = rules.add_line(&line);
-    drop(line);
-    added?;
+    rules.add_line(line)?;
     if let Some(command) = command {
         rules.add_command(command)?;
     }

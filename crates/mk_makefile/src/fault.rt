@@ -51,7 +51,7 @@ pub enum What {
     NoOperator,
     /// A dependency line has the operator `::`.
     DoubleColon,
-    /// A dependency line has no target.
+    /// A dependency line has no target, or none is left of it: its patterns match nothing.
     NoTargets,
     /// A special target stands beside another target.
     MixedSpecial,

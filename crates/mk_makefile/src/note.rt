@@ -1,4 +1,4 @@
-use mk_bytes::Text;
+use mk_bytes::{Text, Texts};
 use mk_world::{Cmd, Ended, When};
 use std::snapshot::Snapshot;
 
@@ -10,6 +10,8 @@ pub enum Note {
     Read(Snapshot<Text>, Snapshot<Option<Text>>),
     /// The time of a path was asked for.
     Time(Snapshot<Text>, Snapshot<When>),
+    /// The names in a directory were asked for.
+    Listed(Snapshot<Text>, Snapshot<Option<Texts>>),
     /// A command was run to its end.
     Ran(Snapshot<Cmd>, Snapshot<Ended>),
     /// A command was not answered, and may have been run.

@@ -9,20 +9,17 @@ use Rattle.mk_depline.specs.declared.fault.DepFault.{DepFault}
 use Rattle.mk_depline.specs.declared.fault.DepFault.TheVariants as line
 use Rattle.mk_depline.specs.declared.line.DepLine.{DepLine}
 use Rattle.mk_values.specs.Texts.{of_tree}
-use Rattle.mk_makefile.specs.Dependencies.{Parted, of_line, of_rule, parted, ruled, with_first}
+use Rattle.mk_makefile.specs.Dependencies.{Parted, of_line, parted, ruled}
 use Rattle.mk_makefile.specs.DependencyView.{IsRefusedLine}
 use Rattle.mk_makefile.specs.Questions.{Answers}
-use Rattle.mk_makefile.specs.Refusals.{of_ast, of_line_fault, of_rule_fault}
+use Rattle.mk_makefile.specs.Refusals.{of_ast, of_line_fault}
 use Rattle.mk_makefile.specs.Moments.{Doing, Moment}
-use Rattle.mk_makefile.specs.Steps.{by_parts, dependency_read, line_added, with_rules}
+use Rattle.mk_makefile.specs.Steps.{by_line, by_parts, dependency_read, line_added, line_opened, with_rules}
 use Rattle.mk_makefile.specs.declared.fault.Refusal.{Refusal}
 use Rattle.mk_makefile.specs.declared.fault.Refusal.TheVariants as refusal
 use Rattle.mk_makefile.specs.declared.fault.What.{What}
 use Rattle.mk_makefile.specs.declared.fault.What.TheVariants.{Expand}
-use Rattle.mk_rules.specs.Lines.{line_read}
 use Rattle.mk_rules.specs.Rules.{Ruled}
-use Rattle.mk_rules.specs.declared.fault.RuleFault.{RuleFault}
-use Rattle.mk_rules.specs.declared.fault.RuleFault.TheVariants as rule
 use Rattle.mk_reader.specs.Ties.{Outer}
 use Rattle.mk_reader.specs.declared.reader.Reader.{Reader}
 use Rattle.mk_reader.proofs.GaveLemmas.{Given, Stays}
@@ -40,12 +37,6 @@ line_sort line.Brace = inr refl
 line_sort line.RuleSources = inr refl
 line_sort line.NoMemory = inl refl
 
-rule_sort : (fault : RuleFault)
-    → (of_rule_fault fault ≡ refusal.NoMemory) ⊎ (of_rule_fault fault ≡ refusal.Wrong (of_rule fault))
-rule_sort rule.Operators = inr refl
-rule_sort rule.TooManyNames = inr refl
-rule_sort rule.NoMemory = inl refl
-
 ast_sort : (fault : AstFault)
     → (of_ast fault ≡ refusal.NoMemory) ⊎ (of_ast fault ≡ refusal.Wrong (Expand (of_tree fault)))
 ast_sort (ast.Unclosed at) = inr refl
@@ -53,37 +44,6 @@ ast_sort (ast.UnknownModifier at) = inr refl
 ast_sort (ast.BadModifier at) = inr refl
 ast_sort (ast.TooDeep at) = inr refl
 ast_sort ast.NoMemory = inl refl
-
--- What an expanded line adds
-
-module _ (r : Ruled) (cwd : List ℕ) (command : Option (List ℕ)) (text : List ℕ) where
-  pub line-refused : (fault : DepFault)
-      → AgreesErr line.NoMemory fault (dep_line text cwd r.suffixes)
-      → IsRefusedLine (ruled r cwd command text) (of_line_fault fault)
-  line-refused fault (inl want) = inl (rw want refl)
-  line-refused fault (inr is) = sorted_so (line_sort fault)
-    where
-      sorted_so : (of_line_fault fault ≡ refusal.NoMemory)
-          ⊎ (of_line_fault fault ≡ refusal.Wrong (of_line fault))
-          → IsRefusedLine (ruled r cwd command text) (of_line_fault fault)
-      sorted_so (inl want) = inl want
-      sorted_so (inr own) = inr (of_line fault, rw is refl, own)
-
-  module _ (line : DepLine) (read : dep_line text cwd r.suffixes ≡ Ok line) where
-    pub rule-refused : (fault : RuleFault) → AgreesErr rule.NoMemory fault (line_read r line)
-        → IsRefusedLine (ruled r cwd command text) (of_rule_fault fault)
-    rule-refused fault (inl want) = inl (rw want refl)
-    rule-refused fault (inr is) = sorted_so (rule_sort fault)
-      where
-        sorted_so : (of_rule_fault fault ≡ refusal.NoMemory)
-            ⊎ (of_rule_fault fault ≡ refusal.Wrong (of_rule fault))
-            → IsRefusedLine (ruled r cwd command text) (of_rule_fault fault)
-        sorted_so (inl want) = inl want
-        sorted_so (inr own) = inr (of_rule fault, rw (read, is) refl, own)
-
-    pub ruled-by : (next : Ruled) → line_read r line ≡ Ok next
-        → ruled r cwd command text ≡ Ok (with_first command next)
-    ruled-by next is = rw (read, is) refl
 
 -- A fault of a reference
 
@@ -119,18 +79,61 @@ pub parts-read : (answers : Answers) (line : List ℕ) (parts : Parted) (s : Mom
     → parted line ≡ Ok parts → dependency_read answers line s ≡ by_parts answers (Ok parts) s
 parts-read answers line parts s is = ap (λ (p : Result Parted AstFault). by_parts answers p s) is
 
+-- A fault of an expanded line
+
+module _ {W S : Type 0} (o : Outer W S) (x : Reader W S) (view : Unit {0} → Unit {0})
+    (command : Option (List ℕ)) (text : List ℕ)
+  where
+    line_refused : (fault : DepFault) (found : Result DepLine DepFault)
+        → (fault ≡ line.NoMemory) ⊎ (found ≡ Err fault)
+        → Given o x x view (Err (of_line_fault fault)) (λ answers. by_line answers command found (stood o x))
+    line_refused fault found (inl want) =
+        subst (λ (f : DepFault). Given o x x view (Err (of_line_fault f))
+        (λ answers. by_line answers command found (stood o x))) (sym want)
+        (here-want o x view (λ answers. by_line answers command found (stood o x)))
+    line_refused fault found (inr is) = sorted_so (line_sort fault)
+      where
+        sorted_so : (of_line_fault fault ≡ refusal.NoMemory)
+            ⊎ (of_line_fault fault ≡ refusal.Wrong (of_line fault))
+            → Given o x x view (Err (of_line_fault fault))
+            (λ answers. by_line answers command found (stood o x))
+        sorted_so (inl want) =
+            subst (λ (r : Refusal). Given o x x view (Err r)
+            (λ answers. by_line answers command found (stood o x))) (sym want)
+            (here-want o x view (λ answers. by_line answers command found (stood o x)))
+        sorted_so (inr own) =
+            subst (λ (r : Refusal). Given o x x view (Err r)
+            (λ answers. by_line answers command found (stood o x))) (sym own)
+            (here-wrong o x view (λ answers. by_line answers command found (stood o x))
+            (of_line fault) (λ answers. rw is refl))
+
+    pub line-refused : (fault : DepFault)
+        → AgreesErr line.NoMemory fault
+        (dep_line text x.state.now.made.scopes.cwd x.state.now.made.rules.suffixes)
+        → Given o x x view (Err (of_line_fault fault))
+        (λ answers. line_added answers command text (stood o x))
+    line-refused fault agrees =
+        line_refused fault
+        (dep_line text x.state.now.made.scopes.cwd x.state.now.made.rules.suffixes) agrees
+
+pub line-parsed : (answers : Answers) (command : Option (List ℕ)) (text : List ℕ) (line : DepLine)
+    (s : Moment) → dep_line text s.made.scopes.cwd s.made.rules.suffixes ≡ Ok line
+    → line_added answers command text s ≡ by_line answers command (Ok line) s
+line-parsed answers command text line s is =
+    ap (λ (found : Result DepLine DepFault). by_line answers command found s) is
+
 -- A line was added, or refused
 
 module _ {W S : Type 0} (o : Outer W S) (x y : Reader W S) (stays : Stays o x y)
     (world : y.world.now ≡ x.world.now)
     (noted : y.state.now.notes.items ≡ x.state.now.notes.items)
-    (command : Option (List ℕ)) (text : List ℕ)
+    (command : Option (List ℕ)) (line : DepLine)
   where
     abbrev found : Result Ruled What
-    found = ruled x.state.now.made.rules x.state.now.made.scopes.cwd command text
+    found = ruled x.state.now.made.rules command line
 
     abbrev whole : Answers → Doing (Unit {0})
-    whole answers = line_added command text (stood o x)
+    whole answers = line_opened command line (stood o x)
 
     pub added-refused : (fault : Refusal) → IsRefusedLine found fault
         → Given o x y (λ (u : Unit {0}). u) (Err fault) whole

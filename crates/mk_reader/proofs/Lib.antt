@@ -8,3 +8,4 @@ mod ReadByLemmas
 mod ReadLemmas
 mod StepLemmas
 mod TieLemmas
+mod WildcardLemmas

@@ -3,18 +3,20 @@ use Rattle.std.proofs.Common.{◌≡◌, ℕ, zero, suc, not, List, [], ◌∷�
 use Rattle.std.proofs.Common.{refl, ap, subst, ◌∙◌}
 use Rattle.std.specs.Option.{option_map}
 use Rattle.mk_values.specs.declared.facts.Asked.{Asked}
-use Rattle.mk_makefile.specs.Questions.{Answered, AreAsked, IsAsked, Question, Reading, Running}
-use Rattle.mk_makefile.specs.Questions.{bytes_of, cut, output_of, time_of}
-use Rattle.mk_makefile.specs.Questions.{cuts_in, readings_in, runnings_in, times_in}
+use Rattle.mk_makefile.specs.Questions.{Answered, AreAsked, IsAsked, Listing, Question, Reading, Running}
+use Rattle.mk_makefile.specs.Questions.{bytes_of, cut, names_of, output_of, time_of}
+use Rattle.mk_makefile.specs.Questions.{cuts_in, listings_in, readings_in, runnings_in, times_in}
 use Rattle.mk_world.proofs.CallLemmas.{after_all-append}
+use Rattle.mk_world.proofs.ListingLemmas.{one-listing}
 use Rattle.mk_world.specs.Calls.{when_of}
 use Rattle.mk_world.specs.Deeds.{Store}
 use Rattle.mk_world.specs.History.{Filed, after_all, contents, files_of, first_state, state_of}
+use Rattle.mk_world.specs.Listings.{Lists}
 use Rattle.mk_world.specs.Looks.{is_missing}
 use Rattle.mk_world.specs.Talks.{Meaning, after_doing, does}
 use Rattle.mk_world.specs.declared.history.Happening.TheVariants.{Look}
 use Rattle.mk_world.specs.declared.history.History.{History}
-use Rattle.mk_reader.specs.OnMaps.{LeaveAll, ReadsTheMap, answers_on}
+use Rattle.mk_reader.specs.OnMaps.{AreOfTheMap, LeaveAll, Listings, ReadsTheMap, answers_on}
 
 -- a look changes no file
 looked-files : (old new : History) (path : List ℕ) → new.base ≡ old.base
@@ -34,6 +36,8 @@ kept meaning store (bytes_of path found) more old mid is asked none leave =
     (looked-files old mid path asked.base asked.event ∙ is, none, leave)
 kept meaning store (time_of path when) more old mid is asked none leave =
     (looked-files old mid path asked.base asked.event ∙ is, none, leave)
+kept meaning store (names_of dir names) more old mid is asked none leave =
+    (looked-files old mid dir asked.base asked.event ∙ is, none, leave)
 kept meaning store (output_of cmd ended) more old mid is asked none leave =
     (asked.ran.files ∙ ap (after_doing meaning cmd) is ∙ leave.0, none, leave.1)
 kept meaning store (cut cmd) more old mid is asked none leave = absurd cc
@@ -68,6 +72,9 @@ timed meaning store (time_of path when ∷ more) old new is asked none leave (su
 timed meaning store (bytes_of path found ∷ more) old new is asked none leave place one at =
     let next = kept meaning store (bytes_of path found) more old asked.0 is asked.1 none leave in
     timed meaning store more asked.0 new next.0 asked.2 next.1 next.2 place one at
+timed meaning store (names_of dir names ∷ more) old new is asked none leave place one at =
+    let next = kept meaning store (names_of dir names) more old asked.0 is asked.1 none leave in
+    timed meaning store more asked.0 new next.0 asked.2 next.1 next.2 place one at
 timed meaning store (output_of cmd ended ∷ more) old new is asked none leave place one at =
     let next = kept meaning store (output_of cmd ended) more old asked.0 is asked.1 none leave in
     timed meaning store more asked.0 new next.0 asked.2 next.1 next.2 place one at
@@ -88,6 +95,9 @@ found_at meaning store (bytes_of path found ∷ more) old new is asked none leav
     found_at meaning store more asked.0 new next.0 asked.2 next.1 next.2 place one at
 found_at meaning store (time_of path when ∷ more) old new is asked none leave place one at =
     let next = kept meaning store (time_of path when) more old asked.0 is asked.1 none leave in
+    found_at meaning store more asked.0 new next.0 asked.2 next.1 next.2 place one at
+found_at meaning store (names_of dir names ∷ more) old new is asked none leave place one at =
+    let next = kept meaning store (names_of dir names) more old asked.0 is asked.1 none leave in
     found_at meaning store more asked.0 new next.0 asked.2 next.1 next.2 place one at
 found_at meaning store (output_of cmd ended ∷ more) old new is asked none leave place one at =
     let next = kept meaning store (output_of cmd ended) more old asked.0 is asked.1 none leave in
@@ -113,21 +123,53 @@ printed meaning store (bytes_of path found ∷ more) old new is asked none leave
 printed meaning store (time_of path when ∷ more) old new is asked none leave place one at =
     let next = kept meaning store (time_of path when) more old asked.0 is asked.1 none leave in
     printed meaning store more asked.0 new next.0 asked.2 next.1 next.2 place one at
+printed meaning store (names_of dir names ∷ more) old new is asked none leave place one at =
+    let next = kept meaning store (names_of dir names) more old asked.0 is asked.1 none leave in
+    printed meaning store more asked.0 new next.0 asked.2 next.1 next.2 place one at
 printed meaning store (cut cmd ∷ more) old new is asked none leave place one at = absurd cc
 
-answered : (meaning : Meaning) (questions : List Question) (old new : History)
+listed_at : (meaning : Meaning) (store : Store) (listings : Listings) (questions : List Question)
+    (old new : History)
+    → files_of old ≡ store → AreAsked meaning questions old new → cuts_in questions ≡ []
+    → LeaveAll meaning store (runnings_in questions)
+    → AreOfTheMap store listings (listings_in questions)
+    → (place : ℕ) (one : Listing) → slice_get (listings_in questions) place ≡ Some one
+    → one.names ≡ listings one.dir
+listed_at meaning store listings [] old new is asked none leave right place one at = absurd cc
+listed_at meaning store listings (names_of dir names ∷ more) old new is asked none leave right zero one at =
+    let same : record { dir = dir; names = names } ≡ one = cc in
+    subst (λ (it : Listing). it.names ≡ listings it.dir) same
+    (one-listing store dir (listings dir) names right.0
+    (subst (λ (files : Store). Lists files dir names) is asked.1.listed))
+listed_at meaning store listings (names_of dir names ∷ more) old new is asked none leave right (suc place) one at =
+    let next = kept meaning store (names_of dir names) more old asked.0 is asked.1 none leave in
+    listed_at meaning store listings more asked.0 new next.0 asked.2 next.1 next.2 right.1 place one at
+listed_at meaning store listings (bytes_of path found ∷ more) old new is asked none leave right place one at =
+    let next = kept meaning store (bytes_of path found) more old asked.0 is asked.1 none leave in
+    listed_at meaning store listings more asked.0 new next.0 asked.2 next.1 next.2 right place one at
+listed_at meaning store listings (time_of path when ∷ more) old new is asked none leave right place one at =
+    let next = kept meaning store (time_of path when) more old asked.0 is asked.1 none leave in
+    listed_at meaning store listings more asked.0 new next.0 asked.2 next.1 next.2 right place one at
+listed_at meaning store listings (output_of cmd ended ∷ more) old new is asked none leave right place one at =
+    let next = kept meaning store (output_of cmd ended) more old asked.0 is asked.1 none leave in
+    listed_at meaning store listings more asked.0 new next.0 asked.2 next.1 next.2 right place one at
+listed_at meaning store listings (cut cmd ∷ more) old new is asked none leave right place one at = absurd cc
+
+answered : (meaning : Meaning) (listings : Listings) (questions : List Question) (old new : History)
     → AreAsked meaning questions old new → cuts_in questions ≡ []
     → LeaveAll meaning (files_of old) (runnings_in questions)
-    → Answered (answers_on meaning (files_of old)) questions
-answered meaning questions old new asked none leave = record {
+    → AreOfTheMap (files_of old) listings (listings_in questions)
+    → Answered (answers_on meaning (files_of old) listings) questions
+answered meaning listings questions old new asked none leave right = record {
   exists = timed meaning (files_of old) questions old new refl asked none leave;
   contents = found_at meaning (files_of old) questions old new refl asked none leave;
+  listings = listed_at meaning (files_of old) listings questions old new refl asked none leave right;
   outputs = printed meaning (files_of old) questions old new refl asked none leave;
 }
 
 pub reads_the_map : ReadsTheMap
-reads_the_map meaning old new held held_after answer env order read none leave = (
-  read.gave (answers_on meaning (files_of old))
-      (answered meaning read.questions old new read.asked none leave),
+reads_the_map meaning old new held held_after answer env order read none leave listings right = (
+  read.gave (answers_on meaning (files_of old) listings)
+      (answered meaning listings read.questions old new read.asked none leave right),
   files-kept meaning (files_of old) read.questions old new refl read.asked none leave,
 )

@@ -18,9 +18,9 @@ use Rattle.mk_makefile.specs.Leads.{Led, told-none, told_both}
 use Rattle.mk_makefile.specs.Moments.{Doing, Moment, moment_of}
 use Rattle.mk_makefile.specs.Notes.{asked_by, question_of, questions_in}
 use Rattle.mk_makefile.specs.Questions.{Answered, Answers, AreAsked, Question}
-use Rattle.mk_makefile.specs.Questions.{bytes_of, cut, output_of, time_of}
-use Rattle.mk_makefile.specs.Questions.{cuts_in, cuts_in-append, readings_in, runnings_in, times_in}
-use Rattle.mk_makefile.specs.Questions.{readings_in-append, runnings_in-append, times_in-append}
+use Rattle.mk_makefile.specs.Questions.{bytes_of, cut, names_of, output_of, time_of}
+use Rattle.mk_makefile.specs.Questions.{cuts_in, cuts_in-append, listings_in, readings_in, runnings_in, times_in}
+use Rattle.mk_makefile.specs.Questions.{listings_in-append, readings_in-append, runnings_in-append, times_in-append}
 use Rattle.mk_makefile.specs.Refusals.{sorted}
 use Rattle.mk_makefile.specs.SomeAnswers.{answers_to, are_answered}
 use Rattle.mk_makefile.specs.declared.fault.Outside.{Outside}
@@ -66,6 +66,7 @@ cuts_first : (question : Question) (more : List Question) → cuts_in (question 
 cuts_first (cut cmd) more none = absurd cc
 cuts_first (bytes_of path found) more none = (refl, none)
 cuts_first (time_of path when) more none = (refl, none)
+cuts_first (names_of dir names) more none = (refl, none)
 cuts_first (output_of cmd ended) more none = (refl, none)
 
 cut_last_both : (first second : List Question) → cuts_in first ≡ [] → IsCutLast second
@@ -125,6 +126,9 @@ Answered-first answers first more by = record {
   contents = λ place one is. by.contents place one
       (rw (readings_in-append first more)
       (slice_get-append (readings_in first) (readings_in more) place one is));
+  listings = λ place one is. by.listings place one
+      (rw (listings_in-append first more)
+      (slice_get-append (listings_in first) (listings_in more) place one is));
   outputs = λ place one is. by.outputs place one
       (rw (runnings_in-append first more)
       (slice_get-append (runnings_in first) (runnings_in more) place one is));
@@ -211,7 +215,7 @@ module _ {W S : Type 0} (outer : Outer W S) where
       (ap questions_in leads.noted ∙ map-append question_of x.state.now.notes.items leads.more)
       by)
 
-  -- the files, times and commands that were asked for
+  -- the files, times, listings and commands that were asked for
   abbrev pub acts_at : Reader W S → List Act
   acts_at x = acts_of (questions_in x.state.now.notes.items)
 

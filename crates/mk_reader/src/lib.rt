@@ -13,6 +13,7 @@ mod reader;
 mod reading;
 mod step;
 mod variable;
+mod wildcard;
 
 pub use law::readings_of_maps;
 pub use mk_makefile::{ReadFault, What, turns_keep_kinds};

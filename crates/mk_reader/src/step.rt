@@ -4,6 +4,7 @@ ghost use Rattle.mk_makefile.specs.Steps as spec;
 ghost use Rattle.mk_reader.specs.Ties.{Gave, outer};
 
 use crate::reader::Reader;
+use mk_depline::{DepLine, parse_dep};
 use mk_directive::{Directed, Directive, directive_on};
 use mk_lines::cut_comment;
 use mk_makefile::{
@@ -30,6 +31,17 @@ impl<'a, W: World, S: Sink> Reader<'a, W, S> {
         Ok(())
     }
 
+    // Adds a line whose names are those of files, with the command on it.
+    fn add_listed(&mut self, command: Option<&[u8]>, line: &DepLine) -> Result<(), Refusal>
+        ensures { Gave (outer W.meaning W.history W.faults W.runs S.held S.faults)
+            self.old self.new (λ done. done) result
+            (λ answers. spec.line_opened (option_copied command.entry) line.now) }
+    {
+        add_line(&mut self.state.made.rules, command, line)?;
+        self.state.in_group = true;
+        Ok(())
+    }
+
     // Adds a line whose references are expanded, with the command on it.
     fn add_line(
         &mut self,
@@ -39,12 +51,12 @@ impl<'a, W: World, S: Sink> Reader<'a, W, S> {
     ) -> Result<(), Refusal>
         ensures { Gave (outer W.meaning W.history W.faults W.runs S.held S.faults)
             self.old self.new (λ done. done) result
-            (λ answers. spec.line_added (option_copied command.entry) text.now) }
+            (λ answers. spec.line_added answers (option_copied command.entry) text.now) }
     {
-        let made = &mut self.state.made;
-        add_line(alloc, &mut made.rules, made.scopes.cwd(), command, text)?;
-        self.state.in_group = true;
-        Ok(())
+        let made = &self.state.made;
+        let mut line = parse_dep(alloc, text, made.scopes.cwd(), made.rules.suffixes())?;
+        self.list_line(alloc, &mut line)?;
+        self.add_listed(command, &line)
     }
 
     // Reads a dependency line.

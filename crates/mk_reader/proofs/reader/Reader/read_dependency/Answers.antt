@@ -17,12 +17,12 @@ returns-in_err-value g c =
     rw (p.1, p.2)
     (given-as _ _ _ _ _ _ (λ answers. parts-read answers c.args.line.now _ _ c.in_ok-text.ensures)
     (then-fault _
-    (λ answers shown. line_added (option_copied c.in_ok-text.command) shown.0 shown.1)
+    (λ answers shown. line_added answers (option_copied c.in_ok-text.command) shown.0 shown.1)
     c.in_err-value.ensures))
 
 pub returns : goal.returns
 returns g c =
     given-as _ _ _ _ _ _ (λ answers. parts-read answers c.args.line.now _ _ c.in_ok-text.ensures)
     (then-given _
-    (λ answers shown. line_added (option_copied c.in_ok-text.command) shown.0 shown.1)
+    (λ answers shown. line_added answers (option_copied c.in_ok-text.command) shown.0 shown.1)
     c.in_ok-value.ensures (rw (← c.bytes.ensures.value) c.add_line.ensures))
