@@ -202,8 +202,10 @@ alike others bytes tasks is = record {
   planned = record {
     made = made;
     nodes = nodes;
+    listings = λ dir. None;
     read = ap (λ (it : Reads Made). it.answer) (clean-reading-is others bytes);
-    leaves = subst (λ (it : Reads Made). AllByRecursion (LeavesThem language (start others bytes)) it.acts)
+    leaves = subst (λ (it : Reads Made). AllByRecursion
+        (LeavesThem language (start others bytes) (λ dir. None)) it.acts)
         (sym (clean-reading-is others bytes)) (tt, tt);
     planned = clean-planned-is others bytes;
     work_is = refl;
@@ -310,6 +312,7 @@ was-read bytes old mid held held_after made_then ready reads = record {
     gave = reads.gave (answers (agreeing reads.questions)) (record {
       exists = (agrees reads.questions).exists;
       contents = there;
+      listings = (agrees reads.questions).listings;
       outputs = (agrees reads.questions).outputs;
     })
       where

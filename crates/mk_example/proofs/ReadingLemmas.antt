@@ -3,10 +3,10 @@ use Rattle.std.proofs.Common.{◌≡◌, ◌∙◌, ℕ, zero, List, [], ◌∷�
 use Rattle.std.proofs.Common.{refl, sym, ap, subst, append_assoc}
 use Rattle.std.proofs.lemmas.List.{append-nil}
 use Rattle.std.specs.List.{AllByRecursion}
-use Rattle.mk_blocks.specs.Acts.{Act, wrote, looked, dated, ran}
+use Rattle.mk_blocks.specs.Acts.{Act, wrote, looked, dated, listed, ran}
 use Rattle.mk_values.specs.declared.facts.Asked.{Asked}
 use Rattle.mk_makefile.specs.Acts.{acts_of}
-use Rattle.mk_makefile.specs.Questions.{Answered, Answers, AreAsked, Question, Reading, Running, bytes_of, cut, output_of, time_of, readings_in, runnings_in, times_in}
+use Rattle.mk_makefile.specs.Questions.{Answered, Answers, AreAsked, Listing, Question, Reading, Running, bytes_of, cut, names_of, output_of, time_of, listings_in, readings_in, runnings_in, times_in}
 use Rattle.mk_trace.specs.TrueBuilds.{LeavesFiles, longer}
 use Rattle.mk_world.proofs.CallLemmas.{after_all-append}
 use Rattle.mk_world.specs.History.{State as Stand, after, after_all, contents, files_of, first_state, state_of}
@@ -26,6 +26,10 @@ abbrev pub found_in : Option Reading → Option (List ℕ)
 found_in None = None
 found_in (Some one) = one.found
 
+abbrev listed_in : Option Listing → Option (List (List ℕ))
+listed_in None = None
+listed_in (Some one) = one.names
+
 abbrev printed_in : Option Running → List ℕ
 printed_in None = []
 printed_in (Some one) = one.ended.output
@@ -34,6 +38,7 @@ abbrev pub agreeing : List Question → Answers
 agreeing questions = record {
   exists = λ place path. told_in (slice_get (times_in questions) place);
   contents = λ place path. found_in (slice_get (readings_in questions) place);
+  listings = λ place dir. listed_in (slice_get (listings_in questions) place);
   outputs = λ place cmd. printed_in (slice_get (runnings_in questions) place);
 }
 
@@ -41,6 +46,7 @@ pub agrees : (questions : List Question) → Answered (agreeing questions) quest
 agrees questions = record {
   exists = λ place one is. sym (ap told_in is);
   contents = λ place one is. sym (ap found_in is);
+  listings = λ place one is. sym (ap listed_in is);
   outputs = λ place one is. sym (ap printed_in is);
 }
 
@@ -61,6 +67,7 @@ first-found meaning [] old new path acts asked is = absurd cc
 first-found meaning (bytes_of at found ∷ more) old new path acts asked is =
     let same : at ≡ path = cc in asked.1.answered ∙ ap (files_of old) same
 first-found meaning (time_of at when ∷ more) old new path acts asked is = absurd cc
+first-found meaning (names_of dir names ∷ more) old new path acts asked is = absurd cc
 first-found meaning (output_of cmd ended ∷ more) old new path acts asked is = absurd cc
 first-found meaning (cut cmd ∷ more) old new path acts asked is = absurd cc
 
@@ -75,6 +82,7 @@ pub record IsQuiet (old new : History) : Type 0 where
 abbrev pub IsLooked : Act → Type 0
 IsLooked (looked path) = Unit {0}
 IsLooked (dated path) = Unit {0}
+IsLooked (listed dir) = Unit {0}
 IsLooked (ran cmd) = ⊥
 IsLooked (wrote message) = ⊥
 
@@ -103,6 +111,9 @@ asked-quiet meaning (bytes_of path found ∷ more) old new all asked =
     (asked-quiet meaning more asked.0 new all.1 asked.2)
 asked-quiet meaning (time_of path when ∷ more) old new all asked =
     quiet-look old asked.0 new path asked.1.base asked.1.event
+    (asked-quiet meaning more asked.0 new all.1 asked.2)
+asked-quiet meaning (names_of dir names ∷ more) old new all asked =
+    quiet-look old asked.0 new dir asked.1.base asked.1.event
     (asked-quiet meaning more asked.0 new all.1 asked.2)
 asked-quiet meaning (output_of cmd ended ∷ more) old new all asked = absurd all.0
 asked-quiet meaning (cut cmd ∷ more) old new all asked = absurd all.0

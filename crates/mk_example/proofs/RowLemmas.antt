@@ -1,6 +1,6 @@
 -- The example by the definitions: what its makefile says, its plan, its tasks, and its clean build.
 use Rattle.std.specs.Fmt.{digits}
-use Rattle.std.proofs.Common.{◌≡◌, ◌∙◌, ℕ, zero, suc, List, [], ◌∷◌, ◌++◌, Bool, true, false, Option, Some, Result, Ok, Err, if◌then◌else◌}
+use Rattle.std.proofs.Common.{◌≡◌, ◌∙◌, ℕ, zero, suc, List, [], ◌∷◌, ◌++◌, Bool, true, false, Option, Some, None, Result, Ok, Err, if◌then◌else◌}
 use Rattle.std.proofs.Common.{refl, sym, ap, codes, arith}
 use Rattle.std.proofs.lemmas.Bool.{false≢true}
 use Rattle.std.specs.Str.{bytes_eq}
@@ -8,7 +8,7 @@ use Rattle.mk_ast.specs.References.{mods_at, ref_at}
 use Rattle.mk_ast.specs.Rows as rows
 use Rattle.mk_ast.specs.Rows.{is_word, is_left_out_word}
 use Rattle.mk_ast.specs.Text.{text_at}
-use Rattle.mk_blocks.specs.Acts.{Act, wrote, looked, dated, ran}
+use Rattle.mk_blocks.specs.Acts.{Act, wrote, looked, dated, listed, ran}
 use Rattle.mk_blocks.specs.Blocks.{parse, closed, branches}
 use Rattle.mk_blocks.specs.Meaning.{file_at, meaning, chosen}
 use Rattle.mk_blocks.specs.OpenBlocks.{blocks_checked}
@@ -84,6 +84,7 @@ abbrev pub answers : Answers → Answers
 answers others = record {
   exists = others.exists;
   contents = λ place path. first_is place path;
+  listings = others.listings;
   outputs = others.outputs;
 }
   where
@@ -180,7 +181,7 @@ task-is newer asked = refl
 -- what the clean build reads and plans
 
 pub clean-reading-is : (others : Store) (bytes : List ℕ)
-    → reading_on language (bare nodes (files others bytes)) env no_order
+    → reading_on language (bare nodes (files others bytes)) (λ dir. None) env no_order
     ≡ record { acts = looked (codes "makefile") ∷ []; answer = Ok made }
 unfolding physical_lines line_groups joined before_comment unescaped replaced_behind parse closed branches file_at meaning chosen all_turns blocks_checked turns_from equals_at in_at text_at mods_at ref_at rows.begins is_word is_left_out_word begins more_at inner_at is_call skip_blanks all_modified each_behind truth_of any_truth all_truth without_front without_back parts.joined found_at digits parts_of semicolon_from place_from alternatives_from spelled_in parted all_parted
 clean-reading-is others bytes = refl
@@ -200,6 +201,7 @@ asked-append [] more = refl
 asked-append (wrote message ∷ acts) more = asked-append acts more
 asked-append (looked path ∷ acts) more = ap (λ l. looked path ∷ l) (asked-append acts more)
 asked-append (dated path ∷ acts) more = ap (λ l. dated path ∷ l) (asked-append acts more)
+asked-append (listed dir ∷ acts) more = ap (λ l. listed dir ∷ l) (asked-append acts more)
 asked-append (ran cmd ∷ acts) more = ap (λ l. ran cmd ∷ l) (asked-append acts more)
 
 begins-then : {A B E : Type 0} (path : List ℕ) (acts rest : List Act) (answer : Result A E) (next : A → Outcome B E)

@@ -8,7 +8,7 @@ use Rattle.mk_decision.specs.Makers.{work_on}
 use Rattle.mk_dry.proofs.TruthLemmas.{dry-runs-stay-true, dry-true}
 use Rattle.mk_flags.specs.declared.Flags.{Flags}
 use Rattle.mk_graph.specs.declared.Made.{Made}
-use Rattle.mk_makefile.specs.Questions.{AreAsked, IsAsked, Question, bytes_of, time_of, output_of, cut}
+use Rattle.mk_makefile.specs.Questions.{AreAsked, IsAsked, Question, bytes_of, time_of, names_of, output_of, cut}
 use Rattle.mk_query.specs.Looks.{Saw, look_of}
 use Rattle.mk_scopes.specs.declared.scopes.Env.{Env}
 use Rattle.mk_trace.proofs.AlongLemmas.{OnlyAsked, all-append, asked-none, asked-true, built-true}
@@ -83,6 +83,7 @@ question-asks : (meaning : Meaning) (question : Question) (old new : History)
     → IsAsked meaning question old new → OnlyAsked meaning old new
 question-asks meaning (bytes_of path found) old new is = asked-look meaning old new path is.base is.event
 question-asks meaning (time_of path when) old new is = asked-look meaning old new path is.base is.event
+question-asks meaning (names_of dir names) old new is = asked-look meaning old new dir is.base is.event
 question-asks meaning (output_of cmd ended) old new is =
     asked-one meaning old new (Ask cmd is.ran.steps) is.ran.base is.ran.event (is.ran.lawful, tt) tt
 question-asks meaning (cut cmd) old new (inl same) = asked-same meaning old new same.base same.events

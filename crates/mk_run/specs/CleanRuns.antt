@@ -4,7 +4,7 @@
 use Rattle.std.specs.Prelude.{◌≡◌, ℕ, ◌||◌, ◌&&◌, true, List, [], ◌∷◌, Option, Some, None, Result, Ok, Err}
 use Rattle.std.specs.Prelude.{is_some, if◌then◌else◌}
 use Rattle.std.specs.List.{AllByRecursion, list_any}
-use Rattle.mk_blocks.specs.Acts.{Act, wrote, looked, dated, ran}
+use Rattle.mk_blocks.specs.Acts.{Act, wrote, looked, dated, listed, ran}
 use Rattle.mk_clean.specs.Clean.{AllWell, CleanJob, IsAmong}
 use Rattle.mk_clean.specs.Declared.{IsDeclared}
 use Rattle.mk_clean.specs.Jobs.{job}
@@ -25,7 +25,7 @@ use Rattle.mk_plan.specs.Plans.{node_at, planned}
 use Rattle.mk_plan.specs.Tasks.{setting_of, task_of, task_with}
 use Rattle.mk_plan.specs.declared.fault.TaskFault.{TaskFault}
 use Rattle.mk_plan.specs.declared.plan.PlanNode.{PlanNode}
-use Rattle.mk_reader.specs.OnMaps.{reading_on}
+use Rattle.mk_reader.specs.OnMaps.{Listings, reading_on}
 use Rattle.mk_scopes.specs.declared.scopes.Env.{Env}
 use Rattle.mk_trace.specs.Builds.{command_of}
 use Rattle.mk_trace.specs.Items.{Item}
@@ -34,6 +34,7 @@ use Rattle.mk_trace.specs.TrueBuilds.{IsApart, LeavesFiles, longer}
 use Rattle.mk_world.specs.Deeds.{Store, after_deeds}
 use Rattle.mk_world.specs.History.{files_of, state_of}
 use Rattle.mk_world.specs.Lawful.{IsLawful}
+use Rattle.mk_world.specs.Listings.{Lists}
 use Rattle.mk_world.specs.Talks.{Doing, Meaning, after_doing}
 use Rattle.mk_world.specs.declared.command.Task.{Task}
 use Rattle.mk_world.specs.declared.command.TaskLine.{TaskLine}
@@ -46,12 +47,15 @@ bare nodes files = λ path.
     if list_any (λ node. makes_file node && is_called path node) nodes || is_meta_path path
     then None else files path
 
--- what a reading asks with `!=` changes none of these files
-abbrev pub LeavesThem : Meaning → Store → Act → Type 0
-LeavesThem meaning files (ran cmd) = (path : List ℕ) → after_doing meaning cmd files path ≡ files path
-LeavesThem meaning files (wrote message) = Unit {0}
-LeavesThem meaning files (looked path) = Unit {0}
-LeavesThem meaning files (dated path) = Unit {0}
+-- what a reading asks with `!=` changes none of these files, and each directory that it lists has these names,
+-- as the files have it
+abbrev pub LeavesThem : Meaning → Store → Listings → Act → Type 0
+LeavesThem meaning files listings (ran cmd) =
+    (path : List ℕ) → after_doing meaning cmd files path ≡ files path
+LeavesThem meaning files listings (listed dir) = Lists files dir (listings dir)
+LeavesThem meaning files listings (wrote message) = Unit {0}
+LeavesThem meaning files listings (looked path) = Unit {0}
+LeavesThem meaning files listings (dated path) = Unit {0}
 
 -- The makefiles are read and a plan is made of these files, with the same words and in the same environment as in
 -- the run; this is what is built.
@@ -59,8 +63,10 @@ pub record IsPlannedOn (meaning : Meaning) (env : Env) (order : Order) (files : 
   where
     pub made : Made
     pub nodes : List PlanNode
-    pub read : (reading_on meaning files env order).answer ≡ Ok made
-    pub leaves : AllByRecursion (LeavesThem meaning files) (reading_on meaning files env order).acts
+    pub listings : Listings
+    pub read : (reading_on meaning files listings env order).answer ≡ Ok made
+    pub leaves : AllByRecursion (LeavesThem meaning files listings)
+        (reading_on meaning files listings env order).acts
     pub planned : planned files made order.flags.requested order.flags.query ≡ Ok nodes
     pub work_is : work ≡ work_on nodes made order.flags
 
