@@ -137,7 +137,8 @@ project name=architectures edit='rm -f out.vax/size' \
 
 project name=directories edit='echo more >>common/text.txt' \
     wanted='tr a-z A-Z <common/text.txt >text.upper
-cat title.upper text.upper common/license >book'
+cat title.upper text.upper common/license >book
+wc -c own/title.txt common/text.txt >sizes'
 
 project name=environment edit='echo c >>words' wanted='sort words >sorted.txt'
 
