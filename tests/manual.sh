@@ -153,7 +153,7 @@ wanted=':: is not supported'
 echo 'a:: b' >makefile
 refused
 wanted="don't know how to make"
-for source in '*.none' .MAKE .RECURSIVE .NOPATH 'lib.a(x.o)'; do
+for source in .MAKE .RECURSIVE .NOPATH 'lib.a(x.o)'; do
     printf 'all: %s\n' "$source" >makefile
     refused
 done
