@@ -216,8 +216,8 @@ if command -v python3 >/dev/null; then
     count 'the time of a short command' "$([ "$recorded" -le 8 ] || [ "$recorded" -le $((2 * traced)) ] ||
         echo "$recorded ms, under strace alone $traced ms")"
 fi
-# A compiler that reads 20 headers: at most a quarter more than its own time, and where strace is slow, at most a fifth more
-# than under strace.
+# A compiler that reads 20 headers, and takes some 100 ms: at most a quarter more than its own time, and where strace is slow,
+# at most a fifth more than under strace.
 if command -v python3 >/dev/null && command -v cc >/dev/null; then
     mkdir "$room/headers"
     for i in $(seq 20); do echo "static inline int f$i(int x) { return x * $i; }" >"$room/headers/h$i.h"; done
@@ -226,6 +226,9 @@ if command -v python3 >/dev/null && command -v cc >/dev/null; then
         printf '#include <stdio.h>\n#include <stdlib.h>\n#include <string.h>\n'
         for i in $(seq 8); do
             echo "int g$i(int a) { int s = 0; for (int i = 0; i < a; i++) s += f$i(i); return s; }"
+        done
+        for i in $(seq 6); do
+            echo "int h$i(int a) { int s = 0; for (int i = 0; i < a; i++) s += f$i(i) * g$i(i); return s; }"
         done
     } >"$room/headers/many.c"
     read -r plain recorded traced <<<"$(least cc -O2 "-I$room/none" "-I$room/headers" -c "$room/headers/many.c" -o "$room/many.o")"
