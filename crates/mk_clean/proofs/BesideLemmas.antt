@@ -10,7 +10,7 @@ use Rattle.mk_clean.specs.Clean.{Plan, IsAmong, DependsOn, CleanJob, deeds_of, d
 use Rattle.mk_clean.specs.Declared.{IsSource, IsMadeBefore, IsOwn, IsPrivate, IsDeclared, AreWellMade}
 use Rattle.mk_clean.specs.Jobs.{goes_on}
 use Rattle.mk_clean.specs.Same.{BuildsAreClean}
-use Rattle.mk_clean.specs.Turns.{Stage, waiting, between, inside, settled, Build, first_build, Turn, looks_at, keeps, begins, starts_line, steps, ends_line, settles, puts_meta, with_stage, started, stepped, line_ended, with_look, at_stage, after_turn, after_turns, SourcesSettled, seen_by, doings_seen, MayKeep, IsAsked, MayStep, ended_with, HasEnded, MayEndLine, MayTurn, MayTurns}
+use Rattle.mk_clean.specs.Turns.{Stage, waiting, between, inside, settled, failed, Build, first_build, Turn, looks_at, keeps, begins, starts_line, steps, ends_line, fails, settles, removes, puts_meta, with_stage, started, stepped, line_ended, with_look, at_stage, after_turn, after_turns, SourcesSettled, seen_by, doings_seen, MayKeep, IsAsked, MayStep, ended_with, HasEnded, HasFailed, MayEndLine, MayFail, MayTurn, MayTurns}
 use Rattle.mk_meta.specs.TrueHistory.{deeds_of_job}
 use Rattle.mk_world.proofs.TalkLemmas.{deed_at-told, more-not_over, same_request}
 use Rattle.mk_world.specs.Deeds.{Store, Spot, saw, changes, put, put_all, after_deed, after_deeds, IsRight, Meets}
@@ -40,8 +40,9 @@ pub record Ahead (next : NextOf) (plan : Plan) (one : CleanJob) (deeds : List De
     pub talks : JobTalks next plan.command lines rest
     pub is : deeds_of one ≡ deeds ++ deeds_of_job rest
     pub meets : Meets (after_deeds one.before deeds) (deeds_of_job rest)
-    -- where the rest goes well, all does
+    -- where the rest goes well, all does, and the other way round
     pub success : AllWell lines rest → IsWell plan one
+    pub back : IsWell plan one → AllWell lines rest
 
 -- the same inside a line, whose command was answered so
 pub record AheadInside (next : NextOf) (plan : Plan) (one : CleanJob) (deeds : List Deed)
@@ -53,9 +54,11 @@ pub record AheadInside (next : NextOf) (plan : Plan) (one : CleanJob) (deeds : L
     pub rest : List Doing
     pub talks : Talks next (plan.command line) seen todo status output
     pub goes : goes_on line (ended_with status output) ≡ true → JobTalks next plan.command lines rest
+    pub stops : goes_on line (ended_with status output) ≡ false → rest ≡ []
     pub is : deeds_of one ≡ deeds ++ (todo ++ deeds_of_job rest)
     pub meets : Meets (after_deeds one.before deeds) (todo ++ deeds_of_job rest)
     pub success : goes_on line (ended_with status output) ≡ true → AllWell lines rest → IsWell plan one
+    pub back : IsWell plan one → (goes_on line (ended_with status output) ≡ true) × AllWell lines rest
 
 -- the made file of a job that is settled has the bytes of the clean build
 abbrev pub HasItsFile : Plan → CleanJob → Store → Type 0
@@ -72,6 +75,7 @@ JobIs next plan build one (inside deeds seen line lines) =
     SourcesSettled plan build one.node × AheadInside next plan one deeds seen line lines
     × Stands deeds build.files
 JobIs next plan build one settled = IsWell plan one × HasItsFile plan one build.files
+JobIs next plan build one failed = Unit {0}
 
 abbrev pub IsPlanned : List CleanJob → ℕ → Type 0
 IsPlanned all node = (one : CleanJob) × IsAmong one all × (one.node ≡ node)
@@ -82,13 +86,14 @@ PlannedAt all node waiting = Unit {0}
 PlannedAt all node (between deeds lines) = IsPlanned all node
 PlannedAt all node (inside deeds seen line lines) = IsPlanned all node
 PlannedAt all node settled = Unit {0}
+PlannedAt all node failed = IsPlanned all node
 
 pub record Beside (next : NextOf) (plan : Plan) (store : Store) (all : List CleanJob) (build : Build)
     : Type 0
   where
     pub jobs : (one : CleanJob) → IsAmong one all → JobIs next plan build one (build.stage one.node)
     pub sources : (path : List ℕ) → ((one : CleanJob) → IsAmong one all → LeavesIt one path)
-        → plan.is_meta path ≡ false → build.files path ≡ store path
+        → plan.is_made path ≡ false → plan.is_meta path ≡ false → build.files path ≡ store path
     pub planned : (node : ℕ) → PlannedAt all node (build.stage node)
     -- looks at what a job takes from outside saw what the clean build has there
     pub looked : (one : CleanJob) → IsAmong one all → (path : List ℕ)
@@ -225,6 +230,9 @@ not_waiting_inside : (deeds : List Deed) (seen : List Answer) (line : TaskLine) 
     → inside deeds seen line lines ≢ waiting
 not_waiting_inside deeds seen line lines is = cc
 
+not_waiting_failed : failed ≢ waiting
+not_waiting_failed is = cc
+
 none_over : (bytes : Option (List ℕ)) (path : List ℕ) → nothing_over path ≡ Some bytes → ⊥
 none_over bytes path is = cc
 
@@ -314,7 +322,8 @@ module _ (meaning : Meaning) (plan : Plan) (store : Store)
         by : IsSource plan all path ⊎ IsMadeBefore plan all one path → one.before path ≡ build.files path
         by (inl is) =
             (untouched meaning plan path plan.order (cleared plan store) is.alone).1 one among
-            ∙ (cleared_at path is.no_made is.no_meta ∙ sym (beside.sources path is.alone is.no_meta))
+            ∙ (cleared_at path is.no_made is.no_meta
+            ∙ sym (beside.sources path is.alone is.no_made is.no_meta))
         by (inr is) =
             let made_it = subst (JobIs meaning.next plan build is.maker)
             (settled_are is.maker.node is.depends) (beside.jobs is.maker is.among) in
@@ -354,6 +363,7 @@ module _ (meaning : Meaning) (plan : Plan) (store : Store)
       (λ made bytes over. same (plan.node one.node).name
           (over_changed (plan.node one.node).name bytes (deeds_of one) over) ∙ is.1 made bytes over),
     )
+    job_moves build next one failed stays same is = tt
 
     -- a turn of a node that changes no more than its job does
     turn_of : (build : Build) (node : ℕ) (stage : Stage) (files : Store) → stage ≢ waiting
@@ -376,7 +386,8 @@ module _ (meaning : Meaning) (plan : Plan) (store : Store)
           (job_moves build (at_stage build node stage files) one (build.stage one.node) stays
           (others one among (λ is. eqb-false node one.node differ (sym is))) (beside.jobs one among)))
           (bool_two (node == one.node));
-      sources = λ path leave no_meta. free path leave no_meta ∙ beside.sources path leave no_meta;
+      sources = λ path leave no_made no_meta.
+          free path leave no_meta ∙ beside.sources path leave no_made no_meta;
       planned = λ other. ⊎_elim
           (λ same. subst (PlannedAt all other) (sym (stage_own node other stage build.stage same))
           (subst (λ k. PlannedAt all k stage) (eqb-true node other same) planned))
@@ -521,6 +532,7 @@ module _ (meaning : Meaning) (plan : Plan) (store : Store)
               is = refl;
               meets = is.1;
               success = λ well. well;
+              back = λ well. well;
             }
 
     pub job_at : (build : Build) → IsBeside build → (node : ℕ) (stage : Stage) → build.stage node ≡ stage
@@ -540,7 +552,7 @@ module _ (meaning : Meaning) (plan : Plan) (store : Store)
         (λ one among is stays.
         let old = job_at build beside node (between may.0 (may.1 ∷ may.2)) may.3 one among is in (
           (λ other depends. stays other (old.0 other depends)),
-          first one old.1.rest old.1.talks old.1.is old.1.meets old.1.success,
+          first one old.1.rest old.1.talks old.1.is old.1.meets old.1.success old.1.back,
           old.2,
         ))
         (subst (PlannedAt all node) may.3 (beside.planned node)))
@@ -550,18 +562,21 @@ module _ (meaning : Meaning) (plan : Plan) (store : Store)
             → deeds_of one ≡ may.0 ++ deeds_of_job rest
             → Meets (after_deeds one.before may.0) (deeds_of_job rest)
             → (AllWell (may.1 ∷ may.2) rest → IsWell plan one)
+            → (IsWell plan one → AllWell (may.1 ∷ may.2) rest)
             → AheadInside meaning.next plan one may.0 [] may.1 may.2
-        first one [] talks is meets success = absurd talks
-        first one (doing ∷ rest) talks is meets success = record {
+        first one [] talks is meets success back = absurd talks
+        first one (doing ∷ rest) talks is meets success back = record {
           todo = doing.deeds;
           status = doing.status;
           output = doing.output;
           rest = rest;
           talks = talks.0;
           goes = talks.1;
+          stops = talks.2;
           is = is ∙ refl;
           meets = meets;
           success = λ well others. success (well, others);
+          back = back;
         }
 
     ends_turn : (build : Build) (node : ℕ) → IsBeside build → MayTurn meaning plan build (ends_line node)
@@ -577,22 +592,31 @@ module _ (meaning : Meaning) (plan : Plan) (store : Store)
             → deeds_of one ≡ deeds ++ (todo ++ deeds_of_job rest)
             → Meets (after_deeds one.before deeds) (todo ++ deeds_of_job rest)
             → (goes_on line (ended_with status output) ≡ true → AllWell lines rest → IsWell plan one)
+            → (IsWell plan one → (goes_on line (ended_with status output) ≡ true) × AllWell lines rest)
             → Ahead meaning.next plan one deeds lines
-        last one deeds seen line lines end (deed ∷ todo) status output rest talks goes is meets success =
+        last one deeds seen line lines end (deed ∷ todo) status output rest talks goes is meets success back =
             let clash : Ended end.status end.output ≡ More talks.0 = sym end.next_is ∙ talks.2 in
             absurd (more-not_over (Ended end.status end.output) talks.0 clash tt)
-        last one deeds seen line lines end [] status output rest talks goes is meets success =
+        last one deeds seen line lines end [] status output rest talks goes is meets success back =
             let ends : Ended end.status end.output ≡ Ended status output = sym end.next_is ∙ talks in
             let same : end.status ≡ status = cc in
             let well : goes_on line (ended_with status output) ≡ true =
             subst (λ code. goes_on line (ended_with code output) ≡ true) same end.well in
-            record { rest = rest; talks = goes well; is = is; meets = meets; success = success well }
+            record {
+              rest = rest;
+              talks = goes well;
+              is = is;
+              meets = meets;
+              success = success well;
+              back = λ all_well. (back all_well).1;
+            }
 
         by : (stage : Stage) → build.stage node ≡ stage → MayEndLine meaning.next plan stage
             → IsBeside (at_stage build node (line_ended stage) build.files)
         by waiting at end = absurd end
         by (between deeds lines) at end = absurd end
         by settled at end = absurd end
+        by failed at end = absurd end
         by (inside deeds seen line lines) at end =
             turn_of build node (between deeds lines) build.files (λ is. not_waiting_between _ _ is)
             (λ is. not_settled_inside deeds seen line lines (sym at ∙ is)) beside
@@ -601,9 +625,25 @@ module _ (meaning : Meaning) (plan : Plan) (store : Store)
             let old = job_at build beside node (inside deeds seen line lines) at one among is in (
               (λ other depends. stays other (old.0 other depends)),
               last one deeds seen line lines end old.1.todo old.1.status old.1.output old.1.rest old.1.talks
-                  old.1.goes old.1.is old.1.meets old.1.success,
+                  old.1.goes old.1.is old.1.meets old.1.success old.1.back,
               old.2,
             ))
+            (subst (PlannedAt all node) at (beside.planned node))
+
+    fails_turn : (build : Build) (node : ℕ) → IsBeside build → MayTurn meaning plan build (fails node)
+        → IsBeside (after_turn plan build (fails node))
+    fails_turn build node beside may = by (build.stage node) refl may
+      where
+        by : (stage : Stage) → build.stage node ≡ stage → MayFail meaning.next plan stage
+            → IsBeside (at_stage build node failed build.files)
+        by waiting at end = absurd end
+        by (between deeds lines) at end = absurd end
+        by settled at end = absurd end
+        by failed at end = absurd end
+        by (inside deeds seen line lines) at end =
+            turn_of build node failed build.files not_waiting_failed
+            (λ is. not_settled_inside deeds seen line lines (sym at ∙ is)) beside
+            (λ one among differ path changes. refl) (λ path leave no_meta. refl) (λ one among is stays. tt)
             (subst (PlannedAt all node) at (beside.planned node))
 
     settles_turn : (build : Build) (node : ℕ) → IsBeside build → MayTurn meaning plan build (settles node)
@@ -634,10 +674,13 @@ module _ (meaning : Meaning) (plan : Plan) (store : Store)
         pub talks : Talks meaning.next (plan.command line) (seen ++ answer deed ∷ []) todo status output
         pub goes : goes_on line (ended_with status output) ≡ true
             → JobTalks meaning.next plan.command lines rest
+        pub stops : goes_on line (ended_with status output) ≡ false → rest ≡ []
         pub is : deeds_of one ≡ deeds ++ deed ∷ (todo ++ deeds_of_job rest)
         pub meets : Meets (after_deeds one.before deeds) (deed ∷ (todo ++ deeds_of_job rest))
         pub success : goes_on line (ended_with status output) ≡ true → AllWell lines rest
             → IsWell plan one
+        pub back : IsWell plan one
+            → (goes_on line (ended_with status output) ≡ true) × AllWell lines rest
 
     rest_of : (build : Build) → IsBeside build → (deed : Deed) (one : CleanJob) → IsAmong one all
         → (deeds : List Deed) (seen : List Answer) (line : TaskLine) (lines : List TaskLine)
@@ -658,10 +701,12 @@ module _ (meaning : Meaning) (plan : Plan) (store : Store)
           output = ahead.output;
           talks = next.2;
           goes = ahead.goes;
+          stops = ahead.stops;
           is = ahead.is ∙ ap (λ todo. deeds ++ (todo ++ deeds_of_job ahead.rest)) next.1;
           meets = subst (λ todo. Meets (after_deeds one.before deeds) (todo ++ deeds_of_job ahead.rest))
               next.1 ahead.meets;
           success = ahead.success;
+          back = ahead.back;
         }
       where
         agrees : (spot : Spot) (more : List Deed) (first : Deed) → is.1.todo ≡ first ∷ more
@@ -704,6 +749,7 @@ module _ (meaning : Meaning) (plan : Plan) (store : Store)
         by waiting at step = absurd step
         by (between deeds lines) at step = absurd step
         by settled at step = absurd step
+        by failed at step = absurd step
         by (inside deeds seen line lines) at step =
             let own = subst (PlannedAt all node) at (beside.planned node) in
             let mine = rest_of build beside deed own.0 own.1 deeds seen line lines
@@ -729,10 +775,12 @@ module _ (meaning : Meaning) (plan : Plan) (store : Store)
                 rest = its.rest;
                 talks = its.talks;
                 goes = its.goes;
+                stops = its.stops;
                 is = its.is ∙ append_one deeds deed (its.todo ++ deeds_of_job its.rest);
                 meets = subst (λ files. Meets files (its.todo ++ deeds_of_job its.rest))
                     (sym (after_last one.before deeds deed)) its.meets.1;
                 success = its.success;
+                back = its.back;
               },
               (λ path bytes over. stands_put (over_deeds nothing_over deeds) build.files (changes deed) old.2
                   path bytes (ap (λ all. all path) (sym (over_last nothing_over deeds deed)) ∙ over)),
@@ -748,8 +796,8 @@ module _ (meaning : Meaning) (plan : Plan) (store : Store)
           (λ at changes. away at (λ meta. false≢true (sym (declared.no_meta one among at meta) ∙ changes))
           (bool_two (bytes_eq path at)))
           (beside.jobs one among);
-      sources = λ at leave no_meta. away at (λ meta. false≢true (sym no_meta ∙ meta))
-          (bool_two (bytes_eq path at)) ∙ beside.sources at leave no_meta;
+      sources = λ at leave no_made no_meta. away at (λ meta. false≢true (sym no_meta ∙ meta))
+          (bool_two (bytes_eq path at)) ∙ beside.sources at leave no_made no_meta;
       planned = beside.planned;
       looked = beside.looked;
       looked_own = λ one among waits changes found saw_it.
@@ -766,6 +814,61 @@ module _ (meaning : Meaning) (plan : Plan) (store : Store)
             absurd (no_meta (ap plan.is_meta (sym ((bytes_eq-Decides path at).0 same)) ∙ may))
         away at no_meta (inr differ) = ap (λ here. if here then bytes else build.files at) differ
 
+    -- the made file of a node that has failed is no other job's, and no source
+    removes_turn : (build : Build) (node : ℕ) → IsBeside build → MayTurn meaning plan build (removes node)
+        → IsBeside (after_turn plan build (removes node))
+    removes_turn build node beside may = record {
+      jobs = λ one among. ⊎_elim
+          (λ same. subst (JobIs meaning.next plan next one)
+          (sym (ap build.stage (sym (eqb-true node one.node same)) ∙ may.0)) tt)
+          (λ differ. job_moves build next one (build.stage one.node) (λ other is. is)
+          (λ at changes. other_stays one among (λ is. eqb-false node one.node differ (sym is)) at changes)
+          (beside.jobs one among))
+          (bool_two (node == one.node));
+      sources = λ at leave no_made no_meta.
+          away at (λ same. false≢true (sym no_made ∙ (ap plan.is_made (sym same) ∙ made))) (bool_two (bytes_eq name at))
+          ∙ beside.sources at leave no_made no_meta;
+      planned = beside.planned;
+      looked = beside.looked;
+      looked_own = λ one among waits changes bytes saw_it.
+          other_stays one among
+          (λ is. not_waiting_failed (sym may.0 ∙ (ap build.stage (sym is) ∙ waits)))
+          (plan.node one.node).name changes
+          ∙ beside.looked_own one among waits changes bytes saw_it;
+    }
+      where
+        next : Build
+        next = after_turn plan build (removes node)
+
+        name : List ℕ
+        name = (plan.node node).name
+
+        own : IsPlanned all node
+        own = subst (PlannedAt all node) may.0 (beside.planned node)
+
+        made : plan.is_made name ≡ true
+        made = subst (λ k. plan.is_made (plan.node k).name ≡ true) own.2
+            (well_made.is_made own.0 own.1 (subst (λ k. (plan.node k).made ≡ true) (sym own.2) may.1))
+
+        called : plan.is_node name ≡ true
+        called = subst (λ k. plan.is_node (plan.node k).name ≡ true) own.2 (well_made.is_node own.0 own.1)
+
+        away : (at : List ℕ) → (name ≡ at → ⊥) → ((bytes_eq name at ≡ true) ⊎ (bytes_eq name at ≡ false))
+            → next.files at ≡ build.files at
+        away at apart (inl same) = absurd (apart ((bytes_eq-Decides name at).0 same))
+        away at apart (inr differ) = ap (λ here. if here then None else build.files at) differ
+
+        other_stays : (one : CleanJob) → IsAmong one all → one.node ≢ node → (at : List ℕ) → Changes one at
+            → next.files at ≡ build.files at
+        other_stays one among differ at changes =
+            away at (λ same. by same (declared.changes one among at changes)) (bool_two (bytes_eq name at))
+          where
+            by : name ≡ at → IsOwn plan one at ⊎ IsPrivate plan all one at → ⊥
+            by same (inl its) =
+                differ (well_made.names one own.0 among own.1
+                (its.name ∙ (sym same ∙ ap (λ k. (plan.node k).name) (sym own.2))) ∙ own.2)
+            by same (inr its) = false≢true (sym its.no_node ∙ (ap plan.is_node (sym same) ∙ called))
+
     pub turn_keeps : (build : Build) (turn : Turn) → IsBeside build → MayTurn meaning plan build turn
         → IsBeside (after_turn plan build turn)
     turn_keeps build (looks_at node path) beside may = looks_turn build node path beside may
@@ -774,7 +877,9 @@ module _ (meaning : Meaning) (plan : Plan) (store : Store)
     turn_keeps build (starts_line node) beside may = starts_turn build node beside may
     turn_keeps build (steps node deed) beside may = steps_turn build node deed beside may
     turn_keeps build (ends_line node) beside may = ends_turn build node beside may
+    turn_keeps build (fails node) beside may = fails_turn build node beside may
     turn_keeps build (settles node) beside may = settles_turn build node beside may
+    turn_keeps build (removes node) beside may = removes_turn build node beside may
     turn_keeps build (puts_meta path bytes) beside may = puts_turn build path bytes beside may
 
     pub turns_keep : (build : Build) (turns : List Turn) → IsBeside build
@@ -786,7 +891,7 @@ module _ (meaning : Meaning) (plan : Plan) (store : Store)
     pub at_first : IsBeside (first_build store)
     at_first = record {
       jobs = λ one among. tt;
-      sources = λ path leave no_meta. refl;
+      sources = λ path leave no_made no_meta. refl;
       planned = λ node. tt;
       looked = λ one among path reads bytes saw_it. absurd (none_over bytes path saw_it);
       looked_own = λ one among waits changes bytes saw_it.

@@ -48,9 +48,12 @@ pub record IsDeclared (plan : Plan) (all : List CleanJob) : Type 0 where
   pub no_meta : (one : CleanJob) → IsAmong one all → (path : List ℕ) → plan.is_meta path ≡ true
       → LeavesIt one path
 
--- No two nodes have one path, each has one job, and it stands behind those of the nodes on which it
--- depends.
+-- The path of a node is a node's, and that of one which makes a file a made file's. No two nodes have one
+-- path, each has one job, and it stands behind those of the nodes on which it depends.
 pub record AreWellMade (plan : Plan) (all : List CleanJob) : Type 0 where
+  pub is_node : (one : CleanJob) → IsAmong one all → plan.is_node (plan.node one.node).name ≡ true
+  pub is_made : (one : CleanJob) → IsAmong one all → (plan.node one.node).made ≡ true
+      → plan.is_made (plan.node one.node).name ≡ true
   pub names : (one other : CleanJob) → IsAmong one all → IsAmong other all
       → (plan.node one.node).name ≡ (plan.node other.node).name → one.node ≡ other.node
   pub once : (one other : CleanJob) → StandsBefore one other all → one.node ≢ other.node

@@ -2,7 +2,7 @@
 use Rattle.std.specs.Prelude.{◌≡◌, ◌⊎◌, ℕ, ◌==◌, List, [], ◌∷◌, ◌++◌, true, if◌then◌else◌}
 use Rattle.mk_clean.specs.Clean.{Plan, CleanJob, deeds_of, clean_build, clean_files, IsAmong, IsWell}
 use Rattle.mk_clean.specs.Declared.{IsDeclared, AreWellMade}
-use Rattle.mk_clean.specs.Turns.{Build, Turn, looks_at, keeps, begins, starts_line, steps, ends_line, settles, puts_meta, settled, first_build, after_turns, MayTurns}
+use Rattle.mk_clean.specs.Turns.{Build, Turn, looks_at, keeps, begins, starts_line, steps, ends_line, fails, settles, removes, puts_meta, settled, failed, first_build, after_turns, MayTurns}
 use Rattle.mk_world.specs.Deeds.{Store}
 use Rattle.mk_world.specs.Talks.{Meaning}
 use Rattle.mk_world.specs.declared.step.Deed.{Deed}
@@ -34,7 +34,9 @@ own_step node (begins other) = []
 own_step node (starts_line other) = []
 own_step node (steps other deed) = if other == node then deed ∷ [] else []
 own_step node (ends_line other) = []
+own_step node (fails other) = []
 own_step node (settles other) = []
+own_step node (removes other) = []
 own_step node (puts_meta path bytes) = []
 
 -- the steps of a node's job in these turns, in order
@@ -57,20 +59,25 @@ pub record AreAllSteps (all : List CleanJob) (node : ℕ) (done : List Deed) : T
   pub node_is : one.node ≡ node
   pub are : deeds_of one ≡ done
 
--- What is done in a build is done in the clean build: of each node's job nothing, or its first steps; and
--- where the node is settled, nothing or all of them.
-pub record DoesCleanSteps (all : List CleanJob) (turns : List Turn) (build : Build) : Type 0 where
-  pub begun : (node : ℕ) → (steps_of node turns ≡ []) ⊎ AreFirstSteps all node (steps_of node turns)
-  pub whole : (node : ℕ) → build.stage node ≡ settled
-      → (steps_of node turns ≡ []) ⊎ AreAllSteps all node (steps_of node turns)
+-- What is done in a build is done in the clean build: of each node's job nothing, or its first steps;
+-- where the node is settled, nothing or all of them; and where it has failed, all of them, and its job fails
+-- there, too.
+pub record DoesCleanSteps (plan : Plan) (all : List CleanJob) (turns : List Turn) (build : Build) : Type 0
+  where
+    pub begun : (node : ℕ) → (steps_of node turns ≡ []) ⊎ AreFirstSteps all node (steps_of node turns)
+    pub whole : (node : ℕ) → build.stage node ≡ settled
+        → (steps_of node turns ≡ []) ⊎ AreAllSteps all node (steps_of node turns)
+    pub broken : (node : ℕ) → build.stage node ≡ failed
+        → (is : AreAllSteps all node (steps_of node turns)) × (IsWell plan is.one → ⊥)
 
 -- Where what the jobs of the clean build read and change is declared, each step of a build is a step of
--- the same node in the clean build, at every moment and in whatever order the steps are done.
+-- the same node in the clean build, at every moment, in whatever order the steps are done, and whatever
+-- has failed.
 abbrev pub StepsAreClean : Type 0
 StepsAreClean =
     (meaning : Meaning) (plan : Plan) (store : Store)
     → IsDeclared plan (clean_build meaning plan store)
     → AreWellMade plan (clean_build meaning plan store)
     → (turns : List Turn) → MayTurns meaning plan (first_build store) turns
-    → DoesCleanSteps (clean_build meaning plan store) turns
+    → DoesCleanSteps plan (clean_build meaning plan store) turns
     (after_turns plan (first_build store) turns)

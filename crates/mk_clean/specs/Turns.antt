@@ -1,6 +1,6 @@
 -- A build as turns, one after the other: looks, decisions, and what the lines of jobs do, in the order in
 -- which these things happen.
-use Rattle.std.specs.Prelude.{◌≡◌, ℕ, ◌==◌, List, [], ◌∷◌, ◌++◌, Option, Some, true, if◌then◌else◌}
+use Rattle.std.specs.Prelude.{◌≡◌, ℕ, ◌==◌, List, [], ◌∷◌, ◌++◌, Option, Some, None, true, false, if◌then◌else◌}
 use Rattle.std.specs.Str.{bytes_eq}
 use Rattle.mk_clean.specs.Clean.{Plan, DependsOn, doings_on, AllWell, IsAmong}
 use Rattle.mk_clean.specs.Jobs.{goes_on}
@@ -16,13 +16,14 @@ use Rattle.mk_world.specs.declared.step.Next.TheVariants.{More, Over as Ended}
 use Rattle.mk_world.specs.declared.step.Request.{Request}
 
 -- How far a node is: undecided; between two of its lines, or in one, with what its job did so far, what
--- the line was answered, and the lines to come; or settled.
+-- the line was answered, and the lines to come; settled; or failed.
 pub data Stage : Type 0 where
   waiting : Stage
   between : (deeds : List Deed) → (lines : List TaskLine) → Stage
   inside : (deeds : List Deed) → (seen : List Answer) → (line : TaskLine) → (lines : List TaskLine)
       → Stage
   settled : Stage
+  failed : Stage
 
 -- the files, the stage of each node, and what its last look at each path saw
 pub record Build : Type 0 where
@@ -45,7 +46,9 @@ pub data Turn : Type 0 where
   starts_line : (node : ℕ) → Turn
   steps : (node : ℕ) → (deed : Deed) → Turn
   ends_line : (node : ℕ) → Turn
+  fails : (node : ℕ) → Turn
   settles : (node : ℕ) → Turn
+  removes : (node : ℕ) → Turn
   puts_meta : (path : List ℕ) → (bytes : Option (List ℕ)) → Turn
 
 abbrev pub with_stage : ℕ → Stage → (ℕ → Stage) → ℕ → Stage
@@ -57,6 +60,7 @@ started (between deeds []) = between deeds []
 started (between deeds (line ∷ lines)) = inside deeds [] line lines
 started (inside deeds seen line lines) = inside deeds seen line lines
 started settled = settled
+started failed = failed
 
 abbrev pub stepped : Deed → Stage → Stage
 stepped deed waiting = waiting
@@ -64,12 +68,14 @@ stepped deed (between deeds lines) = between deeds lines
 stepped deed (inside deeds seen line lines) =
     inside (deeds ++ deed ∷ []) (seen ++ answer deed ∷ []) line lines
 stepped deed settled = settled
+stepped deed failed = failed
 
 abbrev pub line_ended : Stage → Stage
 line_ended waiting = waiting
 line_ended (between deeds lines) = between deeds lines
 line_ended (inside deeds seen line lines) = between deeds lines
 line_ended settled = settled
+line_ended failed = failed
 
 abbrev pub with_look : ℕ → List ℕ → Option (List ℕ) → (ℕ → Over) → ℕ → Over
 with_look node path stands looks =
@@ -95,7 +101,10 @@ after_turn plan build (steps node deed) =
     at_stage build node (stepped deed (build.stage node)) (after_deed build.files deed)
 after_turn plan build (ends_line node) =
     at_stage build node (line_ended (build.stage node)) build.files
+after_turn plan build (fails node) = at_stage build node failed build.files
 after_turn plan build (settles node) = at_stage build node settled build.files
+after_turn plan build (removes node) =
+    record build { files = put build.files (record { path = (plan.node node).name; bytes = None }) }
 after_turn plan build (puts_meta path bytes) =
     record build { files = put build.files (record { path = path; bytes = bytes }) }
 
@@ -137,6 +146,7 @@ MayStep next plan files deed (between deeds lines) = ⊥
 MayStep next plan files deed (inside deeds seen line lines) =
     IsRight files deed × IsAsked next (plan.command line) seen deed
 MayStep next plan files deed settled = ⊥
+MayStep next plan files deed failed = ⊥
 
 -- a doing of which only the end counts
 abbrev pub ended_with : ℕ → List ℕ → Doing
@@ -154,10 +164,26 @@ MayEndLine next plan waiting = ⊥
 MayEndLine next plan (between deeds lines) = ⊥
 MayEndLine next plan (inside deeds seen line lines) = HasEnded next plan seen line
 MayEndLine next plan settled = ⊥
+MayEndLine next plan failed = ⊥
+
+-- It fails where its command is at its end with a status that counts.
+pub record HasFailed (next : NextOf) (plan : Plan) (seen : List Answer) (line : TaskLine) : Type 0 where
+  pub status : ℕ
+  pub output : List ℕ
+  pub next_is : next (plan.command line) seen ≡ Ended status output
+  pub bad : goes_on line (ended_with status output) ≡ false
+
+abbrev pub MayFail : NextOf → Plan → Stage → Type 0
+MayFail next plan waiting = ⊥
+MayFail next plan (between deeds lines) = ⊥
+MayFail next plan (inside deeds seen line lines) = HasFailed next plan seen line
+MayFail next plan settled = ⊥
+MayFail next plan failed = ⊥
 
 -- A node is looked at and decided where it is undecided and all that it depends on is settled. It may be
--- kept, or it begins; its lines follow one another, each to its end; then it is settled. Make itself
--- changes meta files alone.
+-- kept, or it begins; its lines follow one another, each to its end; then it is settled. Where a line
+-- fails, the node has failed, and make may remove its made file. In all else make itself changes meta
+-- files alone. A child that is given up does nothing more, and has no turn.
 abbrev pub MayTurn : Meaning → Plan → Build → Turn → Type 0
 MayTurn meaning plan build (looks_at node path) =
     (build.stage node ≡ waiting) × SourcesSettled plan build node
@@ -171,8 +197,11 @@ MayTurn meaning plan build (starts_line node) =
 MayTurn meaning plan build (steps node deed) =
     MayStep meaning.next plan build.files deed (build.stage node)
 MayTurn meaning plan build (ends_line node) = MayEndLine meaning.next plan (build.stage node)
+MayTurn meaning plan build (fails node) = MayFail meaning.next plan (build.stage node)
 MayTurn meaning plan build (settles node) =
     (deeds : List Deed) × (build.stage node ≡ between deeds [])
+MayTurn meaning plan build (removes node) =
+    (build.stage node ≡ failed) × ((plan.node node).made ≡ true)
 MayTurn meaning plan build (puts_meta path bytes) = plan.is_meta path ≡ true
 
 abbrev pub MayTurns : Meaning → Plan → Build → List Turn → Type 0
