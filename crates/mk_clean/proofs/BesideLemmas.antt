@@ -10,7 +10,7 @@ use Rattle.mk_clean.specs.Clean.{Plan, IsAmong, DependsOn, CleanJob, deeds_of, d
 use Rattle.mk_clean.specs.Declared.{IsSource, IsMadeBefore, IsOwn, IsPrivate, IsDeclared, AreWellMade}
 use Rattle.mk_clean.specs.Jobs.{goes_on}
 use Rattle.mk_clean.specs.Same.{BuildsAreClean}
-use Rattle.mk_clean.specs.Turns.{Stage, waiting, between, inside, settled, failed, Build, first_build, Turn, looks_at, keeps, begins, starts_line, steps, ends_line, fails, settles, removes, puts_meta, with_stage, started, stepped, line_ended, with_look, at_stage, after_turn, after_turns, SourcesSettled, seen_by, doings_seen, MayKeep, IsAsked, MayStep, ended_with, HasEnded, HasFailed, MayEndLine, MayFail, MayTurn, MayTurns}
+use Rattle.mk_clean.specs.Turns.{Stage, waiting, between, inside, settled, failed, Build, first_build, Turn, looks_at, keeps, begins, starts_line, steps, ends_line, fails, settles, removes, puts_meta, with_stage, started, stepped, line_ended, with_look, at_stage, after_turn, after_turns, SourcesSettled, seen_by, doings_seen, MayKeep, IsAsked, MayStep, ended_with, HasEnded, MayEndLine, MayFail, MayTurn, MayTurns}
 use Rattle.mk_meta.specs.TrueHistory.{deeds_of_job}
 use Rattle.mk_world.proofs.TalkLemmas.{deed_at-told, more-not_over, same_request}
 use Rattle.mk_world.specs.Deeds.{Store, Spot, saw, changes, put, put_all, after_deed, after_deeds, IsRight, Meets}

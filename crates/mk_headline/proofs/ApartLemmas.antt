@@ -1,5 +1,5 @@
 -- Jobs of a build keep apart.
-use Rattle.std.proofs.Common.{◌≡◌, ◌≢◌, ◌∙◌, ◌⊎◌, ℕ, zero, suc, ◌<◌, ◌==◌, flat_map, List, [], ◌∷◌, ◌++◌, length, map, slice_get, Some, None, Bool, true, false}
+use Rattle.std.proofs.Common.{◌≡◌, ◌≢◌, ◌∙◌, ◌⊎◌, ℕ, zero, suc, ◌<◌, ◌==◌, flat_map, List, [], ◌∷◌, ◌++◌, length, map, slice_get, Some, Bool, true, false}
 use Rattle.std.proofs.Common.{inl, inr, ⊎_elim, refl, sym, ap, subst, arith, append_assoc, eq-eqb, eqb-true}
 use Rattle.std.proofs.lemmas.Bool.{cases_Bool, false≢true, or_cases}
 use Rattle.std.proofs.lemmas.List.Concat.{flat_map-append}
@@ -9,30 +9,36 @@ use Rattle.std.specs.Str.{bytes_eq}
 use Rattle.mk_clean.specs.Clean.{CleanJob, Plan, Changes, IsAmong, clean_build, cleared, is_changed}
 use Rattle.mk_clean.specs.Declared.{IsOwn, IsPrivate}
 use Rattle.mk_clean.specs.Turns as turn
-use Rattle.mk_clean.specs.Turns.{Turn, after_turns}
+use Rattle.mk_clean.specs.Turns.{MayTurns, Turn, after_turns}
 use Rattle.mk_decision.specs.Decisions.{Work}
 use Rattle.mk_headline.proofs.DecideLemmas.{CleanStep, DueDone, EachDeciding, clean-step, contains-any, deciding-first, within-plan}
 use Rattle.mk_headline.proofs.FullLemmas.{full-step}
-use Rattle.mk_headline.proofs.GoodLemmas.{Good, failure-all, good-first, good-next}
-use Rattle.mk_headline.proofs.OwnerLemmas.{DifferOwners, IsNoChange, Owned, begins-job, head-owner, owned-first, owned-next, owner-stays, owner_of, step-owned}
-use Rattle.mk_headline.proofs.PastLemmas.{none-first}
+use Rattle.mk_headline.proofs.GoodLemmas.{Good, good-first, good-next, of-together}
+use Rattle.mk_headline.proofs.LateLemmas.{IsLate, Late, last-parts, late-all-same, late-next, late-turn}
+use Rattle.mk_headline.proofs.OwnerLemmas.{DifferOwners, IsNoChange, Owned, OwnsChild, begins-job, head-owner, late-owns, owned-first as owned-none, owned-next, owner-stays, owner_of, step-owned}
+use Rattle.mk_headline.proofs.PastLemmas.{none-first, together}
 use Rattle.mk_headline.proofs.PlanLemmas.{clean-node, job-has, meta_path-is, names-differ, node-is}
+use Rattle.mk_headline.proofs.StageLemmas.{after-append, may-append}
 use Rattle.mk_headline.proofs.TurnLemmas.{Turning}
-use Rattle.mk_headline.specs.Laws.{BuildsKeepApart, IsReady}
+use Rattle.mk_headline.specs.Laws.{BuildsKeepApart, BuildsStayTrue, IsReady}
 use Rattle.mk_headline.specs.Plans.{clean_plan, has_job, is_meta_path}
 use Rattle.mk_meta.specs.TrueHistory.{JobEvent, begun as begun_event, did, ended as ended_event, LeavesAlone, Alone, changed_paths, if_same, job_event, job_events, meta_path}
 use Rattle.mk_plan.specs.Plans.{node_at}
-use Rattle.mk_plan.specs.declared.plan.NodeState.TheVariants.{Undecided, Open}
+use Rattle.mk_plan.specs.declared.plan.NodeState.TheVariants.{Undecided, Open, Failed}
 use Rattle.mk_trace.proofs.AlongLemmas.{all-first}
 use Rattle.mk_trace.proofs.BegunLemmas.{may-undecided}
-use Rattle.mk_trace.proofs.TrueChildren.{step-leaves}
+use Rattle.mk_trace.proofs.ItemLemmas.{build_after_all-append}
+use Rattle.mk_trace.proofs.TrueChildren.{once-all, step-leaves}
 use Rattle.mk_trace.proofs.TrueIdle.{free-not}
-use Rattle.mk_trace.specs.Builds.{Build, Makes, build_after, build_after_all, first_build, rules_of}
+use Rattle.mk_trace.proofs.TrueLemmas.{meta_files_true}
+use Rattle.mk_trace.specs.Builds.{Build, Duty, Makes, remove, begin, date, close, build_after, build_after_all, first_build, rules_of}
 use Rattle.mk_trace.specs.Calls.{NoneLeft}
 use Rattle.mk_trace.specs.Items.{Change, gone, head, whole, cut_head, cut_whole, changed, Item, looks, keeps, refuses, starts, passes, waits, steps, ends, changes, leaves, happened, happened_all, FitsAll}
 use Rattle.mk_trace.specs.Runs as run
-use Rattle.mk_trace.specs.TrueBuilds.{IsApart, deed_of, deeds_in}
+use Rattle.mk_trace.specs.Together.{HasChild}
+use Rattle.mk_trace.specs.TrueBuilds.{IsApart, IsOpenAlong, IsOpenJob, deed_of, deeds_in}
 use Rattle.mk_world.proofs.CallLemmas.{MayAll-parts}
+use Rattle.mk_world.proofs.ChildLemmas.{Once}
 use Rattle.mk_world.specs.History.{State as Stand, MayAll as MayHappen, after_all as stand_after, contents, effects, state_of}
 use Rattle.mk_world.specs.Talks.{Meaning}
 use Rattle.mk_world.specs.Deeds.{Spot, changes as changes_of}
@@ -42,18 +48,6 @@ use Rattle.mk_world.specs.declared.history.History.{History}
 use Rattle.mk_world.specs.declared.step.Deed.{Deed}
 
 -- lists
-
-all-at : {A : Type 0} (P : A → Type 0) (items : List A) (one : A) → AllByRecursion P items
-    → Contains items one → P one
-all-at P [] one all has = let less = has.1 in absurd (omega (arith, less))
-all-at P (first ∷ items) one all (zero, less, is) = subst P is all.0
-all-at P (first ∷ items) one all (suc place, less, is) =
-    all-at P items one all.1 (place, omega (arith, less), is)
-
-all-last : {A : Type 0} (P : A → Type 0) (items more : List A) → AllByRecursion P (items ++ more)
-    → AllByRecursion P more
-all-last P [] more all = all
-all-last P (item ∷ items) more all = all-last P items more all.1
 
 makes-last : (work : Work) (tasks : run.Tasks) (build : Build) (items more : List Item)
     → Makes work tasks build (items ++ more)
@@ -158,45 +152,75 @@ module _ (meaning : Meaning) (work : Work) (tasks : run.Tasks) (old : History)
     owned : owner ≡ owner_of last node
     touches : (path : List ℕ) → is_changed (deed ∷ []) path ≡ true → Touches node path
 
+  -- a target is removed of a node that is not open
+  record GoneOf (build : Build) (node : ℕ) (path : List ℕ) : Type 0 where
+    within : node < length work.plan
+    path_is : path ≡ name node
+    shut : slice_get build.run.nodes node ≡ Some Failed
+    due : build.duty ≡ remove node
+
   record HeadOf (last : Build) (node time : ℕ) (path : List ℕ) : Type 0 where
     within : node < length work.plan
     later : 0 < time
     owned : owner_of last node ≡ time
     meta : is_meta_path path ≡ true
 
-  abbrev IsMetaChange : Build → ℕ → Change → Type 0
-  IsMetaChange last node (gone path time) = ⊥
-  IsMetaChange last node (head path bytes time) = HeadOf last node time path
-  IsMetaChange last node (whole path bytes time) = is_meta_path path ≡ true
-  IsMetaChange last node (cut_head path part time) = is_meta_path path ≡ true
-  IsMetaChange last node (cut_whole path part time) = is_meta_path path ≡ true
+  abbrev IsOwnChange : Build → Build → ℕ → Change → Type 0
+  IsOwnChange last build node (gone path time) = GoneOf build node path
+  IsOwnChange last build node (head path bytes time) = HeadOf last node time path
+  IsOwnChange last build node (whole path bytes time) = is_meta_path path ≡ true
+  IsOwnChange last build node (cut_head path part time) = is_meta_path path ≡ true
+  IsOwnChange last build node (cut_whole path part time) = is_meta_path path ≡ true
 
-  abbrev IsOwned : Build → Item → Type 0
-  IsOwned last (looks node seen) = Unit {0}
-  IsOwned last (keeps node) = Unit {0}
-  IsOwned last (refuses node number what) = Unit {0}
-  IsOwned last (starts node number ticket owner cmd) = Unit {0}
-  IsOwned last (passes node number) = Unit {0}
-  IsOwned last waits = Unit {0}
-  IsOwned last (steps ticket owner deed time) = StepOf last owner deed
-  IsOwned last (ends node number owner ended) = Unit {0}
-  IsOwned last (changes node change) = IsMetaChange last node change
-  IsOwned last (leaves ticket owner) = Unit {0}
+  abbrev IsOwned : Build → Build → Item → Type 0
+  IsOwned last build (looks node seen) = Unit {0}
+  IsOwned last build (keeps node) = Unit {0}
+  IsOwned last build (refuses node number what) = Unit {0}
+  IsOwned last build (starts node number ticket owner cmd) = Unit {0}
+  IsOwned last build (passes node number) = Unit {0}
+  IsOwned last build waits = Unit {0}
+  IsOwned last build (steps ticket owner deed time) = StepOf last owner deed
+  IsOwned last build (ends node number owner ended) = Unit {0}
+  IsOwned last build (changes node change) = IsOwnChange last build node change
+  IsOwned last build (leaves ticket owner) = Unit {0}
 
-  step-of : (done items : List Item) (build : Build) (stand : Stand) (turns : List Turn) (clean : turn.Build)
-      (ticket owner time : ℕ) (deed : Deed) → IsGood done build stand turns clean
-      → Owned meaning work tasks entry ready.idle ready.well_made build stand
-      → Makes work tasks build (steps ticket owner deed time ∷ items)
+  -- each item, at its moment
+  abbrev AllOwned : Build → Build → List Item → Type 0
+  AllOwned last build [] = Unit {0}
+  AllOwned last build (item ∷ items) =
+      IsOwned last build item × AllOwned last (build_after work tasks build item) items
+
+  owned-first : (last build : Build) (items more : List Item) → AllOwned last build (items ++ more)
+      → AllOwned last build items
+  owned-first last build [] more each = tt
+  owned-first last build (item ∷ items) more each =
+      (each.0, owned-first last (build_after work tasks build item) items more each.1)
+
+  owned-last : (last build : Build) (items more : List Item) → AllOwned last build (items ++ more)
+      → AllOwned last (build_after_all work tasks build items) more
+  owned-last last build [] more each = each
+  owned-last last build (item ∷ items) more each =
+      owned-last last (build_after work tasks build item) items more each.1
+
+  owned-at : (last build : Build) (items : List Item) (one : Item) → AllOwned last build items
+      → Contains items one → (at : Build) × IsOwned last at one
+  owned-at last build [] one each has = let less = has.1 in absurd (omega (arith, less))
+  owned-at last build (first ∷ items) one each (zero, less, is) = (build, subst (IsOwned last build) is each.0)
+  owned-at last build (first ∷ items) one each (suc place, less, is) =
+      owned-at last (build_after work tasks build first) items one each.1 (place, omega (arith, less), is)
+
+  step-of : (last build : Build) (stand : Stand) (turns : List Turn) (clean : turn.Build)
+      (ticket owner time : ℕ) (deed : Deed) → MayTurns meaning plan (turn.first_build (contents entry.files)) turns
+      → after_turns plan (turn.first_build (contents entry.files)) turns ≡ clean
+      → ((node : ℕ) → OwnsChild meaning work tasks entry ready.idle ready.well_made node build stand.children)
+      → ((node : ℕ) → HasChild build.run node → owner_of last node ≡ owner_of build node)
       → MayHappen meaning stand (happened (steps ticket owner deed time))
-      → Turning meaning work tasks build stand clean (steps ticket owner deed time)
-      → StepOf (build_after_all work tasks build (steps ticket owner deed time ∷ items)) owner deed
-  step-of done items build stand turns clean ticket owner time deed good owned makes may now = record {
+      → Turning meaning work tasks build stand clean (steps ticket owner deed time) → StepOf last owner deed
+  step-of last build stand turns clean ticket owner time deed may_turns at owns stays may now = record {
     node = node;
-    owned = step-owned meaning work tasks entry ready.idle ready.well_made done build stand turns clean ticket
-        owner time deed node good owned may now.turned.1 now.turned.2
-        ∙ sym (owner-stays work tasks (steps ticket owner deed time ∷ items) build node makes
-        (inr (λ undecided.
-        let both : Some Open ≡ Some Undecided = sym now.turned.1.0 ∙ undecided in absurd cc)));
+    owned = step-owned meaning work tasks entry ready.idle ready.well_made build stand ticket owner time deed node
+        (owns node) may now.turned.1 now.turned.2
+        ∙ sym (stays node now.turned.1);
     touches = λ path is.
         record { one = step.one; among = step.among; node_is = step.node_is; is = step.changes_it path is };
   }
@@ -207,7 +231,7 @@ module _ (meaning : Meaning) (work : Work) (tasks : run.Tasks) (old : History)
       step : CleanStep meaning work tasks entry ready.idle ready.well_made ready.declared
           ready.mode.no_meta_names node deed
       step = clean-step meaning work tasks entry ready.idle ready.well_made ready.declared
-          ready.mode.no_meta_names done build stand turns clean ticket owner time deed good now
+          ready.mode.no_meta_names build stand turns clean ticket owner time deed may_turns at now
 
   head-of : (done items : List Item) (build : Build) (stand : Stand) (turns : List Turn) (clean : turn.Build)
       (node time : ℕ) (path bytes : List ℕ) → IsGood done build stand turns clean
@@ -230,7 +254,7 @@ module _ (meaning : Meaning) (work : Work) (tasks : run.Tasks) (old : History)
       → Owned meaning work tasks entry ready.idle ready.well_made build stand
       → Makes work tasks build (item ∷ items) → MayHappen meaning stand (happened item)
       → Turning meaning work tasks build stand clean item
-      → IsOwned (build_after_all work tasks build (item ∷ items)) item
+      → IsOwned (build_after_all work tasks build (item ∷ items)) build item
   item-owned done items build stand turns clean (looks n seen) good owned makes may now = tt
   item-owned done items build stand turns clean (keeps n) good owned makes may now = tt
   item-owned done items build stand turns clean (refuses n number what) good owned makes may now = tt
@@ -238,10 +262,21 @@ module _ (meaning : Meaning) (work : Work) (tasks : run.Tasks) (old : History)
   item-owned done items build stand turns clean (passes n number) good owned makes may now = tt
   item-owned done items build stand turns clean waits good owned makes may now = tt
   item-owned done items build stand turns clean (steps ticket owner deed time) good owned makes may now =
-      step-of done items build stand turns clean ticket owner time deed good owned makes may now
+      step-of (build_after_all work tasks build (steps ticket owner deed time ∷ items)) build stand turns clean
+      ticket owner time deed good.may good.at owned.child
+      (λ node has.
+      owner-stays work tasks (steps ticket owner deed time ∷ items) build node makes
+      (inr (λ undecided. let both : Some Open ≡ Some Undecided = sym has.0 ∙ undecided in absurd cc))) may now
   item-owned done items build stand turns clean (ends n number owner ended) good owned makes may now = tt
   item-owned done items build stand turns clean (changes n (gone path time)) good owned makes may now =
-      good.none_removed n makes.1
+      let removing = good.removing n makes.1 in
+      record {
+        within = within-plan meaning work tasks entry ready.idle ready.well_made ready.declared
+            ready.mode.no_meta_names done build stand good.past n removing.shut;
+        path_is = makes.2;
+        shut = removing.shut;
+        due = makes.1;
+      }
   item-owned done items build stand turns clean (changes n (head path bytes time)) good owned makes may now =
       head-of done items build stand turns clean n time path bytes good makes may
   item-owned done items build stand turns clean (changes n (whole path bytes time)) good owned makes may now =
@@ -252,37 +287,95 @@ module _ (meaning : Meaning) (work : Work) (tasks : run.Tasks) (old : History)
       ap is_meta_path makes.2.1.path_is ∙ meta_path-is (name n)
   item-owned done items build stand turns clean (leaves ticket owner) good owned makes may now = tt
 
-  record EachOwned (last : Build) (items : List Item) : Type 0 where
-    each : AllByRecursion (IsOwned last) items
+  record EachOwned (last build : Build) (items : List Item) : Type 0 where
+    each : AllOwned last build items
     differ : DifferOwners last
 
-  each-owned : (total items done : List Item) (build : Build) (stand : Stand) (turns : List Turn)
+  -- where children are given up
+  late-owned : (items : List Item) (build : Build) (stand : Stand) (turns : List Turn) (clean : turn.Build)
+      → AllByRecursion IsLate items → Late meaning work tasks build stand clean
+      → MayTurns meaning plan (turn.first_build (contents entry.files)) turns
+      → after_turns plan (turn.first_build (contents entry.files)) turns ≡ clean
+      → ((node : ℕ) → OwnsChild meaning work tasks entry ready.idle ready.well_made node build stand.children)
+      → MayHappen meaning stand (happened_all items)
+      → AllOwned (build_after_all work tasks build items) build items
+  late-owned [] build stand turns clean are late may_turns at owns may = tt
+  late-owned (item ∷ items) build stand turns clean are late may_turns at owns may =
+      let parts = MayAll-parts meaning stand (happened item) (happened_all items) may in
+      let now = late-turn meaning work tasks build stand clean item are.0 late parts.0 in (
+        late-item item are.0 parts.0 now,
+        late-owned items (build_after work tasks build item) (stand_after stand (happened item))
+            (turns ++ now.now) (after_turns plan clean now.now) are.1
+            (late-next meaning work tasks build stand clean item are.0 late now)
+            (may-append meaning work tasks (turn.first_build (contents entry.files)) turns now.now may_turns
+            (subst (λ c. MayTurns meaning plan c now.now) (sym at) now.may))
+            (after-append meaning work tasks (turn.first_build (contents entry.files)) turns now.now
+            ∙ ap (λ c. after_turns plan c now.now) at)
+            (λ node.
+            late-owns meaning work tasks entry ready.idle ready.well_made build stand item are.0 late.once parts.0
+            node (owns node))
+            parts.1,
+      )
+    where
+      last : Build
+      last = build_after_all work tasks build (item ∷ items)
+
+      stays : (node : ℕ) → owner_of last node ≡ owner_of build node
+      stays node = ap (λ b. owner_of b node) (late-all-same work tasks build (item ∷ items) are)
+
+      late-item : (one : Item) → IsLate one → MayHappen meaning stand (happened one)
+          → Turning meaning work tasks build stand clean one → IsOwned last build one
+      late-item (steps ticket owner deed time) is happens now =
+          step-of last build stand turns clean ticket owner time deed may_turns at owns (λ node has. stays node)
+          happens now
+      late-item (leaves ticket owner) is happens now = tt
+      late-item (looks n seen) is happens now = absurd is
+      late-item (keeps n) is happens now = absurd is
+      late-item (refuses n number what) is happens now = absurd is
+      late-item (starts n number ticket owner cmd) is happens now = absurd is
+      late-item (passes n number) is happens now = absurd is
+      late-item waits is happens now = absurd is
+      late-item (ends n number owner ended) is happens now = absurd is
+      late-item (changes n change) is happens now = absurd is
+
+  each-owned : (total tail items done : List Item) (build : Build) (stand : Stand) (turns : List Turn)
       (clean : turn.Build) → total ≡ done ++ items → IsGood done build stand turns clean
       → Extra done build stand clean → Owned meaning work tasks entry ready.idle ready.well_made build stand
-      → Makes work tasks build items → MayHappen meaning stand (happened_all items)
-      → FitsAll meaning stand items → NoneLeft items
-      → (build_after_all work tasks build items).failure ≡ None
-      → EachOwned (build_after_all work tasks build items) items
-  each-owned total [] done build stand turns clean is good extra owned makes may fits none sound =
-      record { each = tt; differ = owned.differ }
-  each-owned total (item ∷ items) done build stand turns clean is good extra owned makes may fits none sound =
-      let parts = MayAll-parts meaning stand (happened item) (happened_all items) may in
+      → Makes work tasks build (items ++ tail) → MayHappen meaning stand (happened_all (items ++ tail))
+      → FitsAll meaning stand items → NoneLeft items → AllByRecursion IsLate tail
+      → EachOwned (build_after_all work tasks build (items ++ tail)) build (items ++ tail)
+  each-owned total tail [] done build stand turns clean is good extra owned makes may fits none late =
+      record {
+        each = late-owned tail build stand turns clean late
+            (record {
+              files = good.files;
+              nodes = good.nodes;
+              of_nodes = of-together meaning work tasks entry ready.idle ready.well_made
+                  (together meaning work tasks entry ready.idle done build stand good.past);
+              once = subst (λ (s : Stand). Once s.children) good.past.stand_at
+                  (once-all meaning entry (happened_all done) good.past.happens (subst Once (sym ready.idle) tt));
+            }) good.may good.at owned.child may;
+        differ = subst DifferOwners (sym (late-all-same work tasks build tail late)) owned.differ;
+      }
+  each-owned total tail (item ∷ items) done build stand turns clean is good extra owned makes may fits none late =
+      let parts = MayAll-parts meaning stand (happened item) (happened_all (items ++ tail)) may in
       let nones = none-first item items none in
       let one : Makes work tasks build (item ∷ []) = (makes.0, makes.1, makes.2, tt) in
-      let sound_now = failure-all work tasks (build_after work tasks build item) items sound in
       let next = full-step meaning work tasks old ready.lawful ready.idle ready.truth ready.well_made ready.mode
-      ready.declared total done items build stand turns clean item is good extra one parts.0 fits.0 nones.0
-      sound_now in
+      ready.declared total done items build stand turns clean item is good extra one parts.0 fits.0 nones.0 in
       let good_then = good-next meaning work tasks entry ready.idle ready.well_made done build stand turns clean
-      item good one parts.0 fits.0 nones.0 sound_now next.0 in
+      item good one parts.0 fits.0 nones.0 next.0 in
       let owned_then = owned-next meaning work tasks entry ready.idle ready.well_made done build stand turns
       clean item good owned one parts.0 fits.0 nones.0 in
-      let rest = each-owned total items (done ++ item ∷ []) (build_after work tasks build item)
+      let rest = each-owned total tail items (done ++ item ∷ []) (build_after work tasks build item)
       (stand_after stand (happened item)) (turns ++ next.0.now) (after_turns plan clean next.0.now)
       (is ∙ sym (append_assoc done (item ∷ []) items)) good_then next.1 owned_then makes.3 parts.1 fits.1
-      nones.1 sound in
+      nones.1 late in
       record {
-        each = (item-owned done items build stand turns clean item good owned makes parts.0 next.0, rest.each);
+        each = (
+          item-owned done (items ++ tail) build stand turns clean item good owned makes parts.0 next.0,
+          rest.each,
+        );
         differ = rest.differ;
       }
 
@@ -296,42 +389,42 @@ module _ (meaning : Meaning) (work : Work) (tasks : run.Tasks) (old : History)
         (λ none. let zero_is : stamp ≡ 0 = sym is ∙ none in absurd (omega (arith, later, zero_is)))
 
     -- what the job's own children change, its job in the clean build does
-    own-touches : (items : List Item) (path : List ℕ) → AllByRecursion (IsOwned last) items
+    own-touches : (build : Build) (items : List Item) (path : List ℕ) → AllOwned last build items
         → is_changed (deeds_in stamp items) path ≡ true → Touches node path
-    own-touches [] path each is = absurd (false≢true is)
-    own-touches (looks n seen ∷ items) path each is = own-touches items path each.1 is
-    own-touches (keeps n ∷ items) path each is = own-touches items path each.1 is
-    own-touches (refuses n number what ∷ items) path each is = own-touches items path each.1 is
-    own-touches (starts n number ticket owner cmd ∷ items) path each is =
+    own-touches build [] path each is = absurd (false≢true is)
+    own-touches build (looks n seen ∷ items) path each is = own-touches (build_after work tasks build (looks n seen)) items path each.1 is
+    own-touches build (keeps n ∷ items) path each is = own-touches (build_after work tasks build (keeps n)) items path each.1 is
+    own-touches build (refuses n number what ∷ items) path each is = own-touches (build_after work tasks build (refuses n number what)) items path each.1 is
+    own-touches build (starts n number ticket owner cmd ∷ items) path each is =
         own-event (owner == stamp) (begun_event cmd) (job_events stamp (happened_all items)) path is
-        (λ own none. absurd (false≢true none)) (own-touches items path each.1)
-    own-touches (passes n number ∷ items) path each is = own-touches items path each.1 is
-    own-touches (waits ∷ items) path each is = own-touches items path each.1 is
-    own-touches (steps ticket owner deed time ∷ items) path each is =
+        (λ own none. absurd (false≢true none)) (own-touches (build_after work tasks build (starts n number ticket owner cmd)) items path each.1)
+    own-touches build (passes n number ∷ items) path each is = own-touches (build_after work tasks build (passes n number)) items path each.1 is
+    own-touches build (waits ∷ items) path each is = own-touches (build_after work tasks build waits) items path each.1 is
+    own-touches build (steps ticket owner deed time ∷ items) path each is =
         own-event (owner == stamp) (did deed) (job_events stamp (happened_all items)) path is
         (λ own here.
         subst (λ k. Touches k path)
         (same-node each.0.node (sym each.0.owned ∙ eqb-true owner stamp own)) (each.0.touches path here))
-        (own-touches items path each.1)
-    own-touches (ends n number owner ended ∷ items) path each is =
+        (own-touches (build_after work tasks build (steps ticket owner deed time)) items path each.1)
+    own-touches build (ends n number owner ended ∷ items) path each is =
         own-event (owner == stamp) ended_event (job_events stamp (happened_all items)) path is
-        (λ own none. absurd (false≢true none)) (own-touches items path each.1)
-    own-touches (changes n (gone given time) ∷ items) path each is = own-touches items path each.1 is
-    own-touches (changes n (head given bytes time) ∷ items) path each is = own-touches items path each.1 is
-    own-touches (changes n (whole given bytes time) ∷ items) path each is = own-touches items path each.1 is
-    own-touches (changes n (cut_head given part time) ∷ items) path each is = own-touches items path each.1 is
-    own-touches (changes n (cut_whole given part time) ∷ items) path each is = own-touches items path each.1 is
-    own-touches (leaves ticket owner ∷ items) path each is = own-touches items path each.1 is
+        (λ own none. absurd (false≢true none)) (own-touches (build_after work tasks build (ends n number owner ended)) items path each.1)
+    own-touches build (changes n (gone given time) ∷ items) path each is = own-touches (build_after work tasks build (changes n (gone given time))) items path each.1 is
+    own-touches build (changes n (head given bytes time) ∷ items) path each is = own-touches (build_after work tasks build (changes n (head given bytes time))) items path each.1 is
+    own-touches build (changes n (whole given bytes time) ∷ items) path each is = own-touches (build_after work tasks build (changes n (whole given bytes time))) items path each.1 is
+    own-touches build (changes n (cut_head given part time) ∷ items) path each is = own-touches (build_after work tasks build (changes n (cut_head given part time))) items path each.1 is
+    own-touches build (changes n (cut_whole given part time) ∷ items) path each is = own-touches (build_after work tasks build (changes n (cut_whole given part time))) items path each.1 is
+    own-touches build (leaves ticket owner ∷ items) path each is = own-touches (build_after work tasks build (leaves ticket owner)) items path each.1 is
 
     -- the node's target, or what its own children change
     abbrev IsMine : List ℕ → Type 0
     IsMine path = (path ≡ name node) ⊎ Touches node path
 
-    mine-of : (items : List Item) → AllByRecursion (IsOwned last) items → (path : List ℕ)
+    mine-of : (build : Build) (items : List Item) → AllOwned last build items → (path : List ℕ)
         → Contains (name node ∷ changed_paths (deeds_in stamp items)) path → IsMine path
-    mine-of items each path (zero, less, is) = inl (sym is)
-    mine-of items each path (suc place, less, is) =
-        inr (own-touches items path each
+    mine-of build items each path (zero, less, is) = inl (sym is)
+    mine-of build items each path (suc place, less, is) =
+        inr (own-touches build items path each
         (contains-any (changed_paths (deeds_in stamp items)) path (place, omega (arith, less), is)))
 
     module _ (within : node < length work.plan) (paths : List (List ℕ))
@@ -376,16 +469,44 @@ module _ (meaning : Meaning) (work : Work) (tasks : run.Tasks) (old : History)
               false≢true (sym (ready.mode.no_meta_names node has) ∙ (ap is_meta_path (sym is) ∙ path_meta))
           by (inr own) = meta-apart node path path_meta own
 
-      alone-change : (n : ℕ) (change : Change) → has_job (node_at work.plan node) ≡ true
-          → IsMetaChange last n change → IsAlone (changed change)
-      alone-change n (gone given time) has is = absurd is
-      alone-change n (head given bytes time) has is =
+      -- or it removes the target of another node
+      gone-elsewhere : (build : Build) (n : ℕ) (given path : List ℕ) → IsOpenJob build node
+          → GoneOf build n given → Contains paths path → given ≡ path → ⊥
+      gone-elsewhere build n given path is_open is among same = by (mine path among)
+        where
+          due-clash : {duty : Duty} → build.duty ≡ duty → duty ≡ remove n
+          due-clash {duty} due = sym due ∙ is.due
+
+          other : n ≢ node
+          other here = shut is_open
+            where
+              shut : IsOpenJob build node → ⊥
+              shut (inl opens) =
+                  let both : Some Open ≡ Some Failed =
+                  sym opens ∙ (ap (slice_get build.run.nodes) (sym here) ∙ is.shut) in absurd cc
+              shut (inr (inl due)) = let both : begin node ≡ remove n = due-clash due in absurd cc
+              shut (inr (inr (inl due))) = let both : date node ≡ remove n = due-clash due in absurd cc
+              shut (inr (inr (inr due))) = let both : close node ≡ remove n = due-clash due in absurd cc
+
+          by : IsMine path → ⊥
+          by (inl at) =
+              other (names-differ work ready.well_made n node is.within within (sym is.path_is ∙ (same ∙ at)))
+          by (inr own) =
+              name-apart n node is.within (λ here. other (sym here))
+              (subst (Touches node) (sym same ∙ is.path_is) own)
+
+      alone-change : (build : Build) (n : ℕ) (change : Change) → IsOpenJob build node
+          → has_job (node_at work.plan node) ≡ true
+          → IsOwnChange last build n change → IsAlone (changed change)
+      alone-change build n (gone given time) is_open has is =
+          inr (λ path among. (gone-elsewhere build n given path is_open is among, tt))
+      alone-change build n (head given bytes time) is_open has is =
           inr (λ path among. (meta-elsewhere given path has is.meta among, tt))
-      alone-change n (whole given bytes time) has is =
+      alone-change build n (whole given bytes time) is_open has is =
           inr (λ path among. (meta-elsewhere given path has is among, tt))
-      alone-change n (cut_head given part time) has is =
+      alone-change build n (cut_head given part time) is_open has is =
           inr (λ path among. (meta-elsewhere given path has is among, tt))
-      alone-change n (cut_whole given part time) has is =
+      alone-change build n (cut_whole given part time) is_open has is =
           inr (λ path among. (meta-elsewhere given path has is among, tt))
 
       abbrev MayChangeMeta : List Item → Type 0
@@ -395,68 +516,75 @@ module _ (meaning : Meaning) (work : Work) (tasks : run.Tasks) (old : History)
       rest-may item items (inl has) = inl has
       rest-may item items (inr none) = inr none.1
 
-      alone-all : (items : List Item) → AllByRecursion (IsOwned last) items → MayChangeMeta items
+      alone-all : (build : Build) (items : List Item) → AllOwned last build items
+          → IsOpenAlong work tasks build node items → MayChangeMeta items
           → AllByRecursion IsAlone (happened_all items)
-      alone-all [] each may = tt
-      alone-all (looks n seen ∷ items) each may =
-          (inr (λ path among. tt), alone-all items each.1 (rest-may (looks n seen) items may))
-      alone-all (keeps n ∷ items) each may = alone-all items each.1 (rest-may (keeps n) items may)
-      alone-all (refuses n number what ∷ items) each may =
-          alone-all items each.1 (rest-may (refuses n number what) items may)
-      alone-all (starts n number ticket owner cmd ∷ items) each may = (
+      alone-all build [] each along may = tt
+      alone-all build (looks n seen ∷ items) each along may =
+          (inr (λ path among. tt), alone-all (build_after work tasks build (looks n seen)) items each.1 along.1 (rest-may (looks n seen) items may))
+      alone-all build (keeps n ∷ items) each along may = alone-all (build_after work tasks build (keeps n)) items each.1 along.1 (rest-may (keeps n) items may)
+      alone-all build (refuses n number what ∷ items) each along may =
+          alone-all (build_after work tasks build (refuses n number what)) items each.1 along.1 (rest-may (refuses n number what) items may)
+      alone-all build (starts n number ticket owner cmd ∷ items) each along may = (
         inr (λ path among. tt),
-        alone-all items each.1 (rest-may (starts n number ticket owner cmd) items may),
+        alone-all (build_after work tasks build (starts n number ticket owner cmd)) items each.1 along.1 (rest-may (starts n number ticket owner cmd) items may),
       )
-      alone-all (passes n number ∷ items) each may =
-          alone-all items each.1 (rest-may (passes n number) items may)
-      alone-all (waits ∷ items) each may = alone-all items each.1 (rest-may waits items may)
-      alone-all (steps ticket owner deed time ∷ items) each may = (
+      alone-all build (passes n number ∷ items) each along may =
+          alone-all (build_after work tasks build (passes n number)) items each.1 along.1 (rest-may (passes n number) items may)
+      alone-all build (waits ∷ items) each along may = alone-all (build_after work tasks build waits) items each.1 along.1 (rest-may waits items may)
+      alone-all build (steps ticket owner deed time ∷ items) each along may = (
         alone-step ticket owner time deed each.0,
-        alone-all items each.1 (rest-may (steps ticket owner deed time) items may),
+        alone-all (build_after work tasks build (steps ticket owner deed time)) items each.1 along.1 (rest-may (steps ticket owner deed time) items may),
       )
-      alone-all (ends n number owner ended ∷ items) each may = (
+      alone-all build (ends n number owner ended ∷ items) each along may = (
         inr (λ path among. tt),
-        alone-all items each.1 (rest-may (ends n number owner ended) items may),
+        alone-all (build_after work tasks build (ends n number owner ended)) items each.1 along.1 (rest-may (ends n number owner ended) items may),
       )
-      alone-all (changes n change ∷ items) each (inl has) =
-          (alone-change n change has each.0, alone-all items each.1 (inl has))
-      alone-all (changes n change ∷ items) each (inr none) = absurd none.0
-      alone-all (leaves ticket owner ∷ items) each may =
-          (inr (λ path among. tt), alone-all items each.1 (rest-may (leaves ticket owner) items may))
+      alone-all build (changes n change ∷ items) each along (inl has) =
+          (alone-change build n change along.0 has each.0, alone-all (build_after work tasks build (changes n change)) items each.1 along.1 (inl has))
+      alone-all build (changes n change ∷ items) each along (inr none) = absurd none.0
+      alone-all build (leaves ticket owner ∷ items) each along may =
+          (inr (λ path among. tt), alone-all (build_after work tasks build (leaves ticket owner)) items each.1 along.1 (rest-may (leaves ticket owner) items may))
 
   -- the whole build
 
   job-alone : (before during after : List Item) (node stamp : ℕ) (path bytes : List ℕ) (last : Build)
       → Makes work tasks (first_build work)
       (before ++ changes node (head path bytes stamp) ∷ (during ++ after))
-      → EachOwned last (before ++ changes node (head path bytes stamp) ∷ (during ++ after))
+      → EachOwned last (first_build work) (before ++ changes node (head path bytes stamp) ∷ (during ++ after))
+      → IsOpenAlong work tasks
+      (build_after_all work tasks (first_build work) (before ++ changes node (head path bytes stamp) ∷ [])) node during
       → Alone stamp (name node ∷ changed_paths (deeds_in stamp during)) (happened_all during)
-  job-alone before during after node stamp path bytes last makes each =
+  job-alone before during after node stamp path bytes last makes each along =
       alone-all last each.differ node stamp opened.owned opened.later opened.within
       (name node ∷ changed_paths (deeds_in stamp during))
-      (mine-of last each.differ node stamp opened.owned opened.later during owned) during owned may
+      (mine-of last each.differ node stamp opened.owned opened.later opened_build during owned) opened_build during
+      owned (subst (λ b. IsOpenAlong work tasks b node during)
+      (build_after_all-append work tasks (first_build work) before (opens ∷ [])) along) may
     where
       opens : Item
       opens = changes node (head path bytes stamp)
 
-      parts : AllByRecursion (IsOwned last) (opens ∷ (during ++ after))
-      parts = all-last (IsOwned last) before (opens ∷ (during ++ after)) each.each
+      built : Build
+      built = build_after_all work tasks (first_build work) before
+
+      opened_build : Build
+      opened_build = build_after work tasks built opens
+
+      parts : AllOwned last built (opens ∷ (during ++ after))
+      parts = owned-last last (first_build work) before (opens ∷ (during ++ after)) each.each
 
       opened : HeadOf last node stamp path
       opened = parts.0
 
-      owned : AllByRecursion (IsOwned last) during
-      owned = all-first (IsOwned last) during after parts.1
-
-      built : Build
-      built = build_after_all work tasks (first_build work) before
+      owned : AllOwned last opened_build during
+      owned = owned-first last opened_build during after parts.1
 
       late : Makes work tasks built (opens ∷ (during ++ after))
       late = makes-last work tasks (first_build work) before (opens ∷ (during ++ after)) makes
 
       may : (has_job (node_at work.plan node) ≡ true) ⊎ AllByRecursion IsNoChange during
-      may = by (begins-job work tasks (during ++ after) (build_after work tasks built opens) node late.3 refl
-          late.2.0.may.0)
+      may = by (begins-job work tasks (during ++ after) opened_build node late.3 refl late.2.0.may.0)
         where
           by : (has_job (node_at work.plan node) ≡ true) ⊎ AllByRecursion IsNoChange (during ++ after)
               → (has_job (node_at work.plan node) ≡ true) ⊎ AllByRecursion IsNoChange during
@@ -464,16 +592,18 @@ module _ (meaning : Meaning) (work : Work) (tasks : run.Tasks) (old : History)
           by (inr none) = inr (all-first IsNoChange during after none)
 
   apart-by : (items : List Item) → Makes work tasks (first_build work) items
-      → EachOwned (build_after_all work tasks (first_build work) items) items → IsApart work tasks items
+      → EachOwned (build_after_all work tasks (first_build work) items) (first_build work) items
+      → IsApart work tasks items
   apart-by items makes each = record {
     steps_apart = λ ticket owner time deed target has changes_it.
-        let step = all-at (IsOwned last) items (steps ticket owner deed time) each.each has in
+        let step = (owned-at last (first_build work) items (steps ticket owner deed time) each.each has).1 in
         meta-apart step.node (meta_path target) (meta_path-is target)
         (step.touches (meta_path target)
         (contains-any (changed_paths (deed ∷ [])) (meta_path target) changes_it));
     jobs_apart = λ before during after node stamp path bytes are along.
         job-alone before during after node stamp path bytes last
-        (subst (Makes work tasks (first_build work)) are makes) (subst (EachOwned last) are each);
+        (subst (Makes work tasks (first_build work)) are makes)
+        (subst (EachOwned last (first_build work)) are each) along;
   }
     where
       last : Build
@@ -486,14 +616,25 @@ none-has (one ∷ before) zero is = absurd cc
 none-has (one ∷ before) (suc node) is = none-has before node is
 
 pub keep_apart : BuildsKeepApart
-keep_apart meaning work tasks items old new ready makes happens none sound =
+keep_apart meaning work tasks items old new ready makes happens last =
     let entry = state_of old in
+    let tail = last.left ++ last.late in
+    let parts = last-parts meaning work tasks entry items last makes happens.lawful happens.fits in
     apart-by meaning work tasks old ready items makes
-    (each-owned meaning work tasks old ready items items [] (first_build work) entry []
+    (subst (λ l. EachOwned meaning work tasks old ready (build_after_all work tasks (first_build work) l)
+    (first_build work) l) (sym last.are)
+    (each-owned meaning work tasks old ready last.front tail last.front [] (first_build work) entry []
     (turn.first_build (contents entry.files)) refl (good-first meaning work tasks entry ready.idle ready.well_made) (
       deciding-first meaning work tasks entry ready.idle ready.well_made ready.declared ready.mode.no_meta_names,
       λ m due. absurd (free-not m due),
     )
-    (owned-first meaning work tasks entry ready.idle ready.well_made (first_build work) (λ node. refl)
+    (owned-none meaning work tasks entry ready.idle ready.well_made (first_build work) (λ node. refl)
     (λ node has. none-has (rules_of work).before node has.0))
-    makes happens.lawful happens.fits none sound)
+    (subst (Makes work tasks (first_build work)) last.are makes)
+    (subst (λ l. MayHappen meaning entry (happened_all l)) last.are happens.lawful) parts.fits last.none parts.late))
+
+-- so meta files stay true
+pub stay_true : BuildsStayTrue
+stay_true meaning work tasks items old new ready makes happens last =
+    meta_files_true meaning work tasks items old new ready.lawful ready.idle ready.truth makes happens last
+    (keep_apart meaning work tasks items old new ready makes happens last)

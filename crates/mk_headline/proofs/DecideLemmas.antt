@@ -1,5 +1,5 @@
 -- A node that is being decided: what its looks saw so far.
-use Rattle.std.proofs.Common.{◌≡◌, ◌≢◌, ◌∙◌, ◌⊎◌, ℕ, codes, zero, suc, ◌<◌, ◌==◌, ◌&&◌, ◌||◌, nat_le, List, [], ◌∷◌, ◌++◌, length, set, slice_get, Option, Some, None, Bool, true, false, if◌then◌else◌}
+use Rattle.std.proofs.Common.{◌≡◌, ◌≢◌, ◌∙◌, ◌⊎◌, ℕ, codes, zero, suc, ◌<◌, ◌==◌, ◌&&◌, ◌||◌, not, nat_le, List, [], ◌∷◌, ◌++◌, length, set, slice_get, Option, Some, None, Bool, true, false, if◌then◌else◌}
 use Rattle.std.proofs.Common.{inl, inr, refl, sym, ap, subst, arith, append_assoc, eq-eqb, ne_eqb}
 use Rattle.std.proofs.lemmas.Bool.{cases_eq, false≢true, false_from_ne_true}
 use Rattle.std.proofs.lemmas.List.{append-nil, append_cancel_right}
@@ -22,12 +22,13 @@ use Rattle.mk_headline.proofs.PastLemmas.{Past}
 use Rattle.mk_headline.proofs.PlanLemmas.{length-before, meta_path-is, job-among, job-has, clean-node, are-well-made, names-differ, node-is}
 use Rattle.mk_headline.proofs.StageLemmas.{may-append}
 use Rattle.mk_headline.proofs.TurnLemmas.{each-node, Turning, look-passed, look-taken}
-use Rattle.mk_headline.specs.Plans.{clean_plan, has_job, is_meta_path}
+use Rattle.mk_headline.specs.Plans.{clean_plan, has_job, is_meta_path, makes_file}
 use Rattle.mk_headline.specs.Premises.{IsWellMade}
 use Rattle.mk_meta.specs.TrueHistory.{LeavesAlone, changed_paths, meta_path}
 use Rattle.mk_plan.specs.Deciding.{may_decide, is_stopped}
 use Rattle.mk_plan.specs.Plans.{node_at}
 use Rattle.mk_plan.specs.declared.plan.NodeState.{NodeState}
+use Rattle.mk_plan.specs.declared.plan.PlanNode.{PlanNode}
 use Rattle.mk_plan.specs.declared.plan.NodeState.TheVariants.{Undecided, Open, Settled, Failed}
 use Rattle.mk_trace.proofs.TrueChildren.{step-leaves}
 use Rattle.mk_trace.proofs.TrueIdle.{free-not, stop-not, begin-not}
@@ -35,9 +36,8 @@ use Rattle.mk_trace.proofs.RunLemmas.{long-run}
 use Rattle.mk_trace.proofs.TrueRuns.{slice-other, slice-same, ended_run, taken-due, IsDue, closing-due, end-due, ended-shut}
 use Rattle.mk_trace.proofs.BegunLemmas.{may-undecided, start-within}
 use Rattle.mk_trace.proofs.ItemLemmas.{happened_all-append, run-events}
-use Rattle.mk_trace.specs.Builds.{Build, Duty, free, remove, begin, date, close, stop, MayLook, Makes, behind_look, build_after, first_build, or_next, rules_of}
+use Rattle.mk_trace.specs.Builds.{Build, Duty, free, remove, begin, date, close, stop, MayLook, Makes, behind_look, build_after, first_build, rules_of}
 use Rattle.mk_trace.specs.Calls.{NoneLeft}
-use Rattle.mk_trace.specs.declared.result.Failure.{Failure}
 use Rattle.mk_world.proofs.CallLemmas.{after_all-append}
 use Rattle.mk_world.specs.Outer.{Over}
 use Rattle.mk_trace.specs.Collected.{has_meta}
@@ -118,6 +118,20 @@ put-elsewhere files path other bytes time meta none =
     (false_from_ne_true (bytes_eq path other)
     (λ is. false≢true (sym none ∙ (ap is_meta_path (sym ((bytes_eq-Decides path other).0 is)) ∙ meta))))
 
+gone-elsewhere : (files : FileMap) (path other : List ℕ) (time : ℕ) → (path ≡ other → ⊥)
+    → (if bytes_eq path other then filed None time else files other) ≡ files other
+gone-elsewhere files path other time apart =
+    ap (λ b. if b then filed None time else files other)
+    (false_from_ne_true (bytes_eq path other) (λ is. apart ((bytes_eq-Decides path other).0 is)))
+
+-- a node that makes a file has a job
+pub makes-job : (node : PlanNode) → makes_file node ≡ true → has_job node ≡ true
+makes-job node is = by (has_job node) is
+  where
+    by : (has : Bool) → (has && not node.marks.phony) ≡ true → has ≡ true
+    by true both = refl
+    by false both = absurd (false≢true both)
+
 module _ (meaning : Meaning) (work : Work) (tasks : run.Tasks) (entry : Stand)
     (idle : entry.children ≡ []) (well : IsWellMade work)
     (declared : IsDeclared (clean_plan work tasks)
@@ -141,11 +155,13 @@ module _ (meaning : Meaning) (work : Work) (tasks : run.Tasks) (entry : Stand)
     pub changes_it : (path : List ℕ) → is_changed (deed ∷ []) path ≡ true
         → is_changed (deeds_of one) path ≡ true
 
-  pub clean-step : (done : List Item) (build : Build) (stand : Stand) (turns : List Turn) (clean : turn.Build)
-      (ticket owner time : ℕ) (deed : Deed) → IsGood done build stand turns clean
+  pub clean-step : (build : Build) (stand : Stand) (turns : List Turn) (clean : turn.Build)
+      (ticket owner time : ℕ) (deed : Deed)
+      → MayTurns meaning plan (turn.first_build (contents entry.files)) turns
+      → after_turns plan (turn.first_build (contents entry.files)) turns ≡ clean
       → (now : Turning meaning work tasks build stand clean (steps ticket owner deed time))
       → CleanStep now.turned.0 deed
-  clean-step done build stand turns clean ticket owner time deed good now = record {
+  clean-step build stand turns clean ticket owner time deed may_turns at now = record {
     one = begun.one;
     among = begun.among;
     node_is = begun.node_is;
@@ -164,8 +180,8 @@ module _ (meaning : Meaning) (work : Work) (tasks : run.Tasks) (entry : Stand)
       may : MayTurns meaning plan (turn.first_build (contents entry.files)) (turns ++ turn.steps j deed ∷ [])
       may =
           may-append meaning work tasks (turn.first_build (contents entry.files)) turns
-          (turn.steps j deed ∷ []) good.may
-          (subst (λ c. MayTurns meaning plan c (turn.steps j deed ∷ [])) (sym good.at)
+          (turn.steps j deed ∷ []) may_turns
+          (subst (λ c. MayTurns meaning plan c (turn.steps j deed ∷ [])) (sym at)
           (subst (MayTurns meaning plan clean) now.turned.3 now.may))
 
       mine : steps_of j (turn.steps j deed ∷ []) ≡ deed ∷ []
@@ -202,7 +218,7 @@ module _ (meaning : Meaning) (work : Work) (tasks : run.Tasks) (entry : Stand)
       all = clean_build meaning plan (contents entry.files)
 
       step : CleanStep now.turned.0 deed
-      step = clean-step done build stand turns clean ticket owner time deed good now
+      step = clean-step build stand turns clean ticket owner time deed good.may good.at now
 
       clash : is_changed (deed ∷ []) (name n) ≡ true → ⊥
       clash given =
@@ -233,7 +249,7 @@ module _ (meaning : Meaning) (work : Work) (tasks : run.Tasks) (entry : Stand)
       (λ given. clash (contains-any (changed_paths (deed ∷ [])) (meta_path target) given))
     where
       step : CleanStep now.turned.0 deed
-      step = clean-step done build stand turns clean ticket owner time deed good now
+      step = clean-step build stand turns clean ticket owner time deed good.may good.at now
 
       clash : is_changed (deed ∷ []) (meta_path target) ≡ true → ⊥
       clash given =
@@ -467,28 +483,27 @@ module _ (meaning : Meaning) (work : Work) (tasks : run.Tasks) (entry : Stand)
   due-on done build stand turns clean (leaves ticket owner) good due makes none m is = absurd none
 
   -- behind each item but a look
-  refuse-fails : (failure : Option Failure) (next : Failure) → or_next failure (Some next) ≡ None → ⊥
-  refuse-fails None next is = absurd cc
-  refuse-fails (Some failure) next is = absurd cc
 
   pub decided-on : (done : List Item) (build : Build) (stand : Stand) (turns : List Turn) (clean : turn.Build)
       (item : Item) → IsGood done build stand turns clean → EachDeciding done build stand clean
       → DueDone build → Makes work tasks build (item ∷ []) → NoneLeft (item ∷ [])
-      → (build_after work tasks build item).failure ≡ None
       → ((n : ℕ) (seen : Seen) → item ≡ looks n seen → ⊥)
       → (now : Turning meaning work tasks build stand clean item)
       → EachDeciding (done ++ item ∷ []) (build_after work tasks build item)
       (stand_after stand (happened item)) (after_turns plan clean now.now)
-  decided-on done build stand turns clean (looks m seen) good each due makes none sound other now n undecided no_begin no_stop =
+  decided-on done build stand turns clean (looks m seen) good each due makes none other now n undecided no_begin no_stop =
       absurd (other m seen refl)
-  decided-on done build stand turns clean (keeps m) good each due makes none sound other now n undecided no_begin no_stop =
+  decided-on done build stand turns clean (keeps m) good each due makes none other now n undecided no_begin no_stop =
       let back = set-back build.run.nodes m n Settled (λ same. absurd cc) undecided in
       kept-on n done (keeps m) build (build_after work tasks build (keeps m)) stand stand clean _ refl
       (λ has. refl) refl (ap (λ l. l n) (now.looks other))
       (λ at. back.0 (only n m build at.may.1 makes.0.0.1)) (each n back.1 no_begin no_stop)
-  decided-on done build stand turns clean (refuses m number what) good each due makes none sound other now n undecided no_begin no_stop =
-      absurd (refuse-fails build.failure _ sound)
-  decided-on done build stand turns clean (starts m number ticket owner cmd) good each due makes none sound other now n undecided no_begin no_stop =
+  decided-on done build stand turns clean (refuses m number what) good each due makes none other now n undecided no_begin no_stop =
+      let back = set-back build.run.nodes m n Failed (λ same. absurd cc) undecided in
+      kept-on n done (refuses m number what) build (build_after work tasks build (refuses m number what)) stand
+      stand clean _ refl (λ has. refl) refl (ap (λ l. l n) (now.looks other))
+      (λ at. back.0 (only n m build at.may.1 makes.0.0.1)) (each n back.1 no_begin no_stop)
+  decided-on done build stand turns clean (starts m number ticket owner cmd) good each due makes none other now n undecided no_begin no_stop =
       let back = set-back build.run.nodes m n Open (λ same. absurd cc) undecided in
       let opens = (number == 1) && has_meta work m in
       kept-on n done (starts m number ticket owner cmd) build _ stand _ clean _ refl
@@ -497,7 +512,7 @@ module _ (meaning : Meaning) (work : Work) (tasks : run.Tasks) (entry : Stand)
       (start-decides work tasks build.run m number build.run.due at.may.0 makes.0.0)))
       (each n back.1 (λ is. back.0 (opening-begins m n opens (sym makes.1 ∙ is)))
       (λ is. opening-stop m opens (sym makes.1 ∙ is)))
-  decided-on done build stand turns clean (passes m number) good each due makes none sound other now n undecided no_begin no_stop =
+  decided-on done build stand turns clean (passes m number) good each due makes none other now n undecided no_begin no_stop =
       let begun_run = run.start_line tasks build.run m number in
       let stops = nat_le (length (tasks m)) number || is_stopped (rules_of work) begun_run.nodes in
       let back = set-back build.run.nodes m n Open (λ same. absurd cc)
@@ -509,17 +524,17 @@ module _ (meaning : Meaning) (work : Work) (tasks : run.Tasks) (entry : Stand)
       (start-decides work tasks build.run m number build.run.due at.may.0 makes.0.0)))
       (each n back.1 (λ is. back.0 (opening-begins m n opens (sym makes.1 ∙ is)))
       (λ is. opening-stop m opens (sym makes.1 ∙ is)))
-  decided-on done build stand turns clean waits good each due makes none sound other now n undecided no_begin no_stop =
+  decided-on done build stand turns clean waits good each due makes none other now n undecided no_begin no_stop =
       kept-on n done waits build _ stand stand clean _ refl (λ has. refl) refl
       (ap (λ l. l n) (now.looks other))
       (λ at. let both : Some n ≡ None = sym at.may.1 ∙ makes.0.0.1 in absurd cc)
       (each n undecided no_begin no_stop)
-  decided-on done build stand turns clean (steps ticket owner deed time) good each due makes none sound other now n undecided no_begin no_stop =
+  decided-on done build stand turns clean (steps ticket owner deed time) good each due makes none other now n undecided no_begin no_stop =
       stepped n done build stand clean ticket owner time deed _ (now.looks other)
       (λ has. target-stays done build stand turns clean ticket owner time deed good now n undecided has)
       (meta-stays done build stand turns clean ticket owner time deed good now (name n))
       (each n undecided no_begin no_stop)
-  decided-on done build stand turns clean (ends m number owner ended) good each due makes none sound other now n undecided no_begin no_stop =
+  decided-on done build stand turns clean (ends m number owner ended) good each due makes none other now n undecided no_begin no_stop =
       let fails = run.fails (run.line_of (tasks m) number) ended.status in
       let stops = nat_le (length (tasks m)) number || is_stopped (rules_of work) build.run.nodes in
       let due = taken-due build.run m number ended.status build.run.due good.free_due makes.0.0 in
@@ -529,9 +544,27 @@ module _ (meaning : Meaning) (work : Work) (tasks : run.Tasks) (entry : Stand)
       (each n (ended-back build.run m number n fails stops undecided)
       (λ is. let both : free ≡ begin n = sym makes.1 ∙ is in absurd cc)
       (λ is. let both : free ≡ stop = sym makes.1 ∙ is in absurd cc))
-  decided-on done build stand turns clean (changes m (gone path time)) good each due makes none sound other now n undecided no_begin no_stop =
-      absurd (good.none_removed m makes.1)
-  decided-on done build stand turns clean (changes m (head path bytes time)) good each due makes none sound other now n undecided no_begin no_stop =
+  decided-on done build stand turns clean (changes m (gone path time)) good each due makes none other now n undecided no_begin no_stop =
+      let removing = good.removing m makes.1 in
+      let apart : n ≢ m = λ same.
+      let both : Some Undecided ≡ Some Failed =
+      sym undecided ∙ (ap (slice_get build.run.nodes) same ∙ removing.shut) in absurd cc in
+      let within = within-plan done build stand good.past m removing.shut in
+      let also = within-plan done build stand good.past n undecided in
+      let job = makes-job (node_at work.plan m) removing.makes in
+      kept-on n done (changes m (gone path time)) build _ stand _ clean _ refl
+      (λ has.
+      gone-elsewhere stand.files path (name n) time
+      (λ same. apart (sym (names-differ work well m n within also (sym makes.2 ∙ same)))))
+      (gone-elsewhere stand.files path (meta_path (name n)) time
+      (λ same.
+      false≢true (sym (no_meta m job) ∙ (ap is_meta_path (sym makes.2 ∙ same) ∙ meta_path-is (name n)))))
+      (ap (λ l. l n) (now.looks other))
+      (λ at. let both : remove m ≡ free = sym makes.1 ∙ at.free_now in absurd cc)
+      (each n undecided
+      (λ is. let both : remove m ≡ begin n = sym makes.1 ∙ is in absurd cc)
+      (λ is. let both : remove m ≡ stop = sym makes.1 ∙ is in absurd cc))
+  decided-on done build stand turns clean (changes m (head path bytes time)) good each due makes none other now n undecided no_begin no_stop =
       kept-on n done (changes m (head path bytes time)) build _ stand _ clean _ refl
       (λ has.
       put-elsewhere stand.files path (name n) bytes time
@@ -546,7 +579,7 @@ module _ (meaning : Meaning) (work : Work) (tasks : run.Tasks) (entry : Stand)
       (each n undecided
       (λ is. let both : free ≡ begin n = sym makes.1 ∙ is in absurd cc)
       (λ is. let both : free ≡ stop = sym makes.1 ∙ is in absurd cc))
-  decided-on done build stand turns clean (changes m (whole path bytes time)) good each due makes none sound other now n undecided no_begin no_stop =
+  decided-on done build stand turns clean (changes m (whole path bytes time)) good each due makes none other now n undecided no_begin no_stop =
       kept-on n done (changes m (whole path bytes time)) build _ stand _ clean _ refl
       (λ has.
       put-elsewhere stand.files path (name n) bytes time
@@ -560,11 +593,11 @@ module _ (meaning : Meaning) (work : Work) (tasks : run.Tasks) (entry : Stand)
       (each n undecided
       (λ is. let both : close m ≡ begin n = sym makes.1 ∙ is in absurd cc)
       (λ is. let both : close m ≡ stop = sym makes.1 ∙ is in absurd cc))
-  decided-on done build stand turns clean (changes m (cut_head path part time)) good each due makes none sound other now n undecided no_begin no_stop =
+  decided-on done build stand turns clean (changes m (cut_head path part time)) good each due makes none other now n undecided no_begin no_stop =
       absurd (no_stop refl)
-  decided-on done build stand turns clean (changes m (cut_whole path part time)) good each due makes none sound other now n undecided no_begin no_stop =
+  decided-on done build stand turns clean (changes m (cut_whole path part time)) good each due makes none other now n undecided no_begin no_stop =
       absurd (no_stop refl)
-  decided-on done build stand turns clean (leaves ticket owner) good each due makes none sound other now n undecided no_begin no_stop =
+  decided-on done build stand turns clean (leaves ticket owner) good each due makes none other now n undecided no_begin no_stop =
       absurd none
 
   -- behind a look

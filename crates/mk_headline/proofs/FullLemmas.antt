@@ -11,6 +11,7 @@ use Rattle.mk_headline.proofs.FirstLemmas.{none-keep}
 use Rattle.mk_headline.proofs.GoodLemmas.{Good, good-first, item-turns, sources-ready, waits-ready}
 use Rattle.mk_headline.proofs.KeepLemmas.{Looked, judged-keeps, unread-never, always-never, fits-parts}
 use Rattle.mk_headline.proofs.LookLemmas.{first_look, SawWhen, AllSeen}
+use Rattle.mk_headline.proofs.LateLemmas.{Turned, last-parts, turned-last}
 use Rattle.mk_headline.proofs.LoopLemmas.{Steps, turned-all}
 use Rattle.mk_headline.proofs.TurnLemmas.{Turning, kept}
 use Rattle.mk_headline.specs.Laws.{BuildsAreTurns}
@@ -20,7 +21,7 @@ use Rattle.mk_meta.specs.TrueHistory.{IsTrueHistory, meta_path}
 use Rattle.mk_plan.specs.Lists.{is_nil}
 use Rattle.mk_plan.specs.Plans.{node_at}
 use Rattle.mk_trace.proofs.BegunLemmas.{may-undecided}
-use Rattle.mk_trace.proofs.ItemLemmas.{happened_all-append, state_of-happened}
+use Rattle.mk_trace.proofs.ItemLemmas.{happened_all-append}
 use Rattle.mk_trace.proofs.TrueIdle.{free-not}
 use Rattle.mk_trace.specs.Builds.{Build, free, begin, stop, Makes, first_build, build_after, rules_of}
 use Rattle.mk_trace.specs.Calls.{NoneLeft}
@@ -34,14 +35,6 @@ use Rattle.mk_world.specs.Looks.{Seen}
 use Rattle.mk_world.specs.Talks.{Meaning}
 use Rattle.mk_world.specs.declared.command.Task.{Task}
 use Rattle.mk_world.specs.declared.history.History.{History}
-
--- beginnings of builds
-
-pub makes-first : (work : Work) (tasks : run.Tasks) (build : Build) (items more : List Item)
-    → Makes work tasks build (items ++ more) → Makes work tasks build items
-makes-first work tasks build [] more makes = tt
-makes-first work tasks build (item ∷ items) more makes =
-    (makes.0, makes.1, makes.2, makes-first work tasks (build_after work tasks build item) items more makes.3)
 
 module _ (meaning : Meaning) (work : Work) (tasks : run.Tasks) (old : History)
     (lawful : IsLawful meaning old) (idle : (state_of old).children ≡ [])
@@ -72,14 +65,13 @@ module _ (meaning : Meaning) (work : Work) (tasks : run.Tasks) (old : History)
   extra-on : (done : List Item) (build : Build) (stand : Stand) (turns : List Turn) (clean : turn.Build)
       (item : Item) → IsGood done build stand turns clean → Extra done build stand clean
       → Makes work tasks build (item ∷ []) → NoneLeft (item ∷ [])
-      → (build_after work tasks build item).failure ≡ None
       → ((n : ℕ) (seen : Seen) → item ≡ looks n seen → ⊥)
       → (now : Turning meaning work tasks build stand clean item)
       → Extra (done ++ item ∷ []) (build_after work tasks build item) (stand_after stand (happened item))
       (after_turns plan clean now.now)
-  extra-on done build stand turns clean item good extra makes none sound other now = (
+  extra-on done build stand turns clean item good extra makes none other now = (
     decided-on meaning work tasks entry idle well declared mode.no_meta_names done build stand turns clean item
-        good extra.0 extra.1 makes none sound other now,
+        good extra.0 extra.1 makes none other now,
     due-on meaning work tasks entry idle well declared mode.no_meta_names done build stand turns clean item good
         extra.1 makes none,
   )
@@ -181,7 +173,7 @@ module _ (meaning : Meaning) (work : Work) (tasks : run.Tasks) (old : History)
       (after_turns plan clean now.now)
 
   pub full-step : Steps meaning work tasks entry idle well whole Extra
-  full-step done rest build stand turns clean (looks n seen) is good extra makes may fits none sound =
+  full-step done rest build stand turns clean (looks n seen) is good extra makes may fits none =
       let next = look-next meaning work tasks entry idle well declared mode.no_meta_names done build stand
       turns clean n seen good extra.0 makes fits in (
         next.0,
@@ -191,71 +183,80 @@ module _ (meaning : Meaning) (work : Work) (tasks : run.Tasks) (old : History)
               (looks n seen) good extra.1 makes none,
         ),
       )
-  full-step done rest build stand turns clean (keeps n) is good extra makes may fits none sound =
+  full-step done rest build stand turns clean (keeps n) is good extra makes may fits none =
       let now = kept meaning work tasks build stand clean n good.files good.nodes makes.0.0.0
+      (may-undecided (rules_of work) build.run.nodes n makes.0.0.1)
       (waits-ready meaning work tasks entry idle well done build stand turns clean good n makes.0.0)
       (sources-ready meaning work tasks entry idle well done build stand turns clean good n makes.0.0)
       (kept-may done build stand turns clean n good extra.0 makes.0.0 makes.1 makes.2) in (
         now,
-        extra-on done build stand turns clean (keeps n) good extra makes none sound
+        extra-on done build stand turns clean (keeps n) good extra makes none
             (λ m seen same. absurd cc) now,
       )
-  full-step done rest build stand turns clean (refuses n number what) is good extra makes may fits none sound =
+  full-step done rest build stand turns clean (refuses n number what) is good extra makes may fits none =
       let now = item-turns meaning work tasks entry idle well done build stand turns clean
-      (refuses n number what) good makes may fits none sound tt in (
+      (refuses n number what) good makes may fits none tt in (
         now,
-        extra-on done build stand turns clean (refuses n number what) good extra makes none sound
+        extra-on done build stand turns clean (refuses n number what) good extra makes none
             (λ m seen same. absurd cc) now,
       )
-  full-step done rest build stand turns clean (starts n number ticket owner cmd) is good extra makes may fits none sound =
+  full-step done rest build stand turns clean (starts n number ticket owner cmd) is good extra makes may fits none =
       let now = item-turns meaning work tasks entry idle well done build stand turns clean
-      (starts n number ticket owner cmd) good makes may fits none sound tt in (
+      (starts n number ticket owner cmd) good makes may fits none tt in (
         now,
-        extra-on done build stand turns clean (starts n number ticket owner cmd) good extra makes none sound
+        extra-on done build stand turns clean (starts n number ticket owner cmd) good extra makes none
             (λ m seen same. absurd cc) now,
       )
-  full-step done rest build stand turns clean (passes n number) is good extra makes may fits none sound =
+  full-step done rest build stand turns clean (passes n number) is good extra makes may fits none =
       let now = item-turns meaning work tasks entry idle well done build stand turns clean
-      (passes n number) good makes may fits none sound tt in (
+      (passes n number) good makes may fits none tt in (
         now,
-        extra-on done build stand turns clean (passes n number) good extra makes none sound
+        extra-on done build stand turns clean (passes n number) good extra makes none
             (λ m seen same. absurd cc) now,
       )
-  full-step done rest build stand turns clean waits is good extra makes may fits none sound =
+  full-step done rest build stand turns clean waits is good extra makes may fits none =
       let now = item-turns meaning work tasks entry idle well done build stand turns clean
-      waits good makes may fits none sound tt in (
+      waits good makes may fits none tt in (
         now,
-        extra-on done build stand turns clean waits good extra makes none sound
+        extra-on done build stand turns clean waits good extra makes none
             (λ m seen same. absurd cc) now,
       )
-  full-step done rest build stand turns clean (steps ticket owner deed time) is good extra makes may fits none sound =
+  full-step done rest build stand turns clean (steps ticket owner deed time) is good extra makes may fits none =
       let now = item-turns meaning work tasks entry idle well done build stand turns clean
-      (steps ticket owner deed time) good makes may fits none sound tt in (
+      (steps ticket owner deed time) good makes may fits none tt in (
         now,
-        extra-on done build stand turns clean (steps ticket owner deed time) good extra makes none sound
+        extra-on done build stand turns clean (steps ticket owner deed time) good extra makes none
             (λ m seen same. absurd cc) now,
       )
-  full-step done rest build stand turns clean (ends n number owner ended) is good extra makes may fits none sound =
+  full-step done rest build stand turns clean (ends n number owner ended) is good extra makes may fits none =
       let now = item-turns meaning work tasks entry idle well done build stand turns clean
-      (ends n number owner ended) good makes may fits none sound tt in (
+      (ends n number owner ended) good makes may fits none tt in (
         now,
-        extra-on done build stand turns clean (ends n number owner ended) good extra makes none sound
+        extra-on done build stand turns clean (ends n number owner ended) good extra makes none
             (λ m seen same. absurd cc) now,
       )
-  full-step done rest build stand turns clean (changes n change) is good extra makes may fits none sound =
+  full-step done rest build stand turns clean (changes n change) is good extra makes may fits none =
       let now = item-turns meaning work tasks entry idle well done build stand turns clean
-      (changes n change) good makes may fits none sound tt in (
+      (changes n change) good makes may fits none tt in (
         now,
-        extra-on done build stand turns clean (changes n change) good extra makes none sound
+        extra-on done build stand turns clean (changes n change) good extra makes none
             (λ m seen same. absurd cc) now,
       )
-  full-step done rest build stand turns clean (leaves ticket owner) is good extra makes may fits none sound =
+  full-step done rest build stand turns clean (leaves ticket owner) is good extra makes may fits none =
       absurd none
 
-pub full_turns : BuildsAreTurns
-full_turns meaning work tasks items old new lawful idle truth well mode declared makes happens none sound =
+-- the turns of a build before children are given up
+pub front-turns : (meaning : Meaning) (work : Work) (tasks : run.Tasks) (old : History)
+    (lawful : IsLawful meaning old) (idle : (state_of old).children ≡ [])
+    (truth : IsTrueHistory meaning.next old) (well : IsWellMade work) (mode : GoesByMetaMode work tasks)
+    (declared : IsDeclared (clean_plan work tasks)
+    (clean_build meaning (clean_plan work tasks) (contents (state_of old).files)))
+    (items : List Item) → Makes work tasks (first_build work) items
+    → MayHappen meaning (state_of old) (happened_all items) → FitsAll meaning (state_of old) items → NoneLeft items
+    → Turned meaning work tasks (first_build work) (state_of old) (turn.first_build (contents (state_of old).files)) items
+front-turns meaning work tasks old lawful idle truth well mode declared items makes may fits none =
     let entry = state_of old in
-    let all = turned-all meaning work tasks entry idle well items
+    turned-all meaning work tasks entry idle well items
     (λ done build stand clean. EachDeciding meaning work tasks entry idle well declared mode.no_meta_names
     done build stand clean
     × DueDone meaning work tasks entry idle well declared mode.no_meta_names build)
@@ -264,12 +265,11 @@ full_turns meaning work tasks items old new lawful idle truth well mode declared
     (good-first meaning work tasks entry idle well) (
       deciding-first meaning work tasks entry idle well declared mode.no_meta_names,
       λ m due. absurd (free-not m due),
-    ) makes happens.lawful happens.fits none sound in
-    record {
-      turns = all.turns;
-      are = all.are;
-      may = all.may;
-      files = all.files
-          ∙ ap (λ (s : Stand). contents s.files) (sym (state_of-happened meaning items old new happens));
-      settled_are = all.settled_are;
-    }
+    ) makes may fits none
+
+pub full_turns : BuildsAreTurns
+full_turns meaning work tasks items old new lawful idle truth well mode declared makes happens last =
+    let parts = last-parts meaning work tasks (state_of old) items last makes happens.lawful happens.fits in
+    turned-last meaning work tasks items old new idle makes happens last
+    (front-turns meaning work tasks old lawful idle truth well mode declared last.front parts.makes parts.happens
+    parts.fits last.none)

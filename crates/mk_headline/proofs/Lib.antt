@@ -6,6 +6,7 @@ pub mod FirstLemmas
 pub mod FullLemmas
 pub mod GoodLemmas
 pub mod KeepLemmas
+pub mod LateLemmas
 pub mod LookLemmas
 pub mod LoopLemmas
 pub mod OwnerLemmas

@@ -1,24 +1,22 @@
 -- A whole build beside its turns.
-use Rattle.std.proofs.Common.{◌≡◌, ◌∙◌, ℕ, List, [], ◌∷◌, ◌++◌, slice_get, Some, None}
-use Rattle.std.proofs.Common.{refl, sym, ap, append_assoc}
+use Rattle.std.proofs.Common.{◌≡◌, ◌∙◌, List, [], ◌∷◌, ◌++◌}
+use Rattle.std.proofs.Common.{refl, sym, append_assoc}
 use Rattle.mk_clean.specs.Clean.{Plan}
 use Rattle.mk_clean.specs.Turns as turn
-use Rattle.mk_clean.specs.Turns.{settled, Turn, after_turns, MayTurns}
+use Rattle.mk_clean.specs.Turns.{Turn, after_turns}
 use Rattle.mk_decision.specs.Decisions.{Work}
-use Rattle.mk_headline.proofs.GoodLemmas.{Good, good-next, failure-all}
+use Rattle.mk_headline.proofs.GoodLemmas.{Good, good-next}
 use Rattle.mk_headline.proofs.PastLemmas.{none-first}
-use Rattle.mk_headline.proofs.StageLemmas.{may-append, after-append}
+use Rattle.mk_headline.proofs.LateLemmas.{Turned, turned-more}
 use Rattle.mk_headline.proofs.TurnLemmas.{Turning}
 use Rattle.mk_headline.specs.Plans.{clean_plan}
 use Rattle.mk_headline.specs.Premises.{IsWellMade}
-use Rattle.mk_headline.specs.Turned.{AreTurned}
-use Rattle.mk_plan.specs.declared.plan.NodeState.TheVariants.{Settled}
-use Rattle.mk_trace.specs.Builds.{Build, Makes, build_after, build_after_all}
+use Rattle.mk_trace.specs.Builds.{Build, Makes, build_after}
 use Rattle.mk_trace.specs.Calls.{NoneLeft}
 use Rattle.mk_trace.specs.Items.{Item, happened, happened_all, Fits, FitsAll}
 use Rattle.mk_trace.specs.Runs as run
-use Rattle.mk_world.proofs.CallLemmas.{after_all-append, MayAll-parts}
-use Rattle.mk_world.specs.History.{State as Stand, MayAll as MayHappen, after_all as stand_after, contents}
+use Rattle.mk_world.proofs.CallLemmas.{MayAll-parts}
+use Rattle.mk_world.specs.History.{State as Stand, MayAll as MayHappen, after_all as stand_after}
 use Rattle.mk_world.specs.Talks.{Meaning}
 
 module _ (meaning : Meaning) (work : Work) (tasks : run.Tasks) (entry : Stand)
@@ -35,55 +33,31 @@ module _ (meaning : Meaning) (work : Work) (tasks : run.Tasks) (entry : Stand)
       → Good meaning work tasks entry idle well done build stand turns clean
       → Extra done build stand clean → Makes work tasks build (item ∷ [])
       → MayHappen meaning stand (happened item) → Fits meaning stand item → NoneLeft (item ∷ [])
-      → (build_after work tasks build item).failure ≡ None
       → (now : Turning meaning work tasks build stand clean item)
       × Extra (done ++ item ∷ []) (build_after work tasks build item) (stand_after stand (happened item))
       (after_turns plan clean now.now)
-
-  -- the turns of the items to come
-  pub record Turned (build : Build) (stand : Stand) (clean : turn.Build) (items : List Item) : Type 0 where
-    pub turns : List Turn
-    pub are : AreTurned work tasks build items turns
-    pub may : MayTurns meaning plan clean turns
-    pub files : (after_turns plan clean turns).files ≡ contents (stand_after stand (happened_all items)).files
-    pub settled_are : (node : ℕ)
-        → slice_get (build_after_all work tasks build items).run.nodes node ≡ Some Settled
-        → (after_turns plan clean turns).stage node ≡ settled
 
   pub turned-all : Steps → (items done : List Item) (build : Build) (stand : Stand) (turns : List Turn)
       (clean : turn.Build) → whole ≡ done ++ items
       → Good meaning work tasks entry idle well done build stand turns clean
       → Extra done build stand clean → Makes work tasks build items
       → MayHappen meaning stand (happened_all items) → FitsAll meaning stand items → NoneLeft items
-      → (build_after_all work tasks build items).failure ≡ None → Turned build stand clean items
-  turned-all step [] done build stand turns clean is good extra makes may fits none sound = record {
+      → Turned meaning work tasks build stand clean items
+  turned-all step [] done build stand turns clean is good extra makes may fits none = record {
     turns = [];
     are = refl;
     may = tt;
     files = sym good.files;
-    settled_are = λ node given. (good.nodes node).decided given;
+    nodes = good.nodes;
   }
-  turned-all step (item ∷ items) done build stand turns clean is good extra makes may fits none sound =
+  turned-all step (item ∷ items) done build stand turns clean is good extra makes may fits none =
       let parts = MayAll-parts meaning stand (happened item) (happened_all items) may in
       let nones = none-first item items none in
       let one_makes : Makes work tasks build (item ∷ []) = (makes.0, makes.1, makes.2, tt) in
-      let sound_now = failure-all work tasks (build_after work tasks build item) items sound in
-      let next = step done items build stand turns clean item is good extra one_makes parts.0 fits.0 nones.0
-      sound_now in
+      let next = step done items build stand turns clean item is good extra one_makes parts.0 fits.0 nones.0 in
       let good_then = good-next meaning work tasks entry idle well done build stand turns clean item good
-      one_makes parts.0 fits.0 nones.0 sound_now next.0 in
+      one_makes parts.0 fits.0 nones.0 next.0 in
       let rest = turned-all step items (done ++ item ∷ []) (build_after work tasks build item)
       (stand_after stand (happened item)) (turns ++ next.0.now) (after_turns plan clean next.0.now)
-      (is ∙ sym (append_assoc done (item ∷ []) items)) good_then next.1 makes.3 parts.1 fits.1 nones.1 sound in
-      let behind = after-append meaning work tasks clean next.0.now rest.turns in
-      record {
-        turns = next.0.now ++ rest.turns;
-        are = (next.0.now, rest.turns, refl, next.0.turned, rest.are);
-        may = may-append meaning work tasks clean next.0.now rest.turns next.0.may rest.may;
-        files = ap (λ (c : turn.Build). c.files) behind
-            ∙ (rest.files
-            ∙ ap (λ (s : Stand). contents s.files)
-            (sym (after_all-append stand (happened item) (happened_all items))));
-        settled_are = λ node given.
-            ap (λ (c : turn.Build). c.stage node) behind ∙ rest.settled_are node given;
-      }
+      (is ∙ sym (append_assoc done (item ∷ []) items)) good_then next.1 makes.3 parts.1 fits.1 nones.1 in
+      turned-more meaning work tasks build stand clean item items next.0 rest

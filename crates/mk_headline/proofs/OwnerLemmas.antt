@@ -1,6 +1,6 @@
 -- Whose the children of a build are, and that each job is opened once.
 use Rattle.std.proofs.Common.{◌≡◌, ◌≢◌, ◌∙◌, ◌⊎◌, ℕ, ◌<◌, ◌≤◌, ◌==◌, ◌&&◌, ◌||◌, nat_le, List, [], ◌∷◌, ◌++◌, length, slice_get, Some, Bool, true, false, if◌then◌else◌}
-use Rattle.std.proofs.Common.{inl, inr, refl, sym, ap, subst, arith, eq-eqb, ne_eqb}
+use Rattle.std.proofs.Common.{inl, inr, refl, sym, ap, subst, arith, eq-eqb, eqb-true, ne_eqb}
 use Rattle.std.proofs.lemmas.Bool.{cases_eq, cond_both}
 use Rattle.std.specs.List.{AllByRecursion}
 use Rattle.mk_clean.specs.Turns as turn
@@ -8,6 +8,7 @@ use Rattle.mk_clean.specs.Turns.{Turn}
 use Rattle.mk_decision.specs.Decisions.{Work, IsBegun}
 use Rattle.mk_headline.proofs.DecideLemmas.{set-back, ended-back, opening-begins}
 use Rattle.mk_headline.proofs.GoodLemmas.{Good, begun-has}
+use Rattle.mk_headline.proofs.LateLemmas.{IsLate, without-back}
 use Rattle.mk_headline.proofs.PastLemmas.{together}
 use Rattle.mk_headline.specs.Plans.{has_job}
 use Rattle.mk_headline.specs.Premises.{IsWellMade}
@@ -27,7 +28,7 @@ use Rattle.mk_trace.specs.declared.collected.Collected.{Collected}
 use Rattle.mk_trace.specs.Items.{gone, head, whole, cut_head, cut_whole, Item, looks, keeps, refuses, starts, passes, waits, steps, ends, changes, leaves, happened, Fits}
 use Rattle.mk_trace.specs.Runs as run
 use Rattle.mk_trace.specs.Together.{HasChild, IsNotDue}
-use Rattle.mk_world.proofs.ChildLemmas.{child_in-last, child_in-stepped, child_in-ticket}
+use Rattle.mk_world.proofs.ChildLemmas.{Once, child_in-last, child_in-other, child_in-stepped, child_in-ticket}
 use Rattle.mk_world.specs.Calls.{EndsAs}
 use Rattle.mk_world.specs.History.{State as Stand, MayAll as MayHappen, after_all as stand_after, child_in, contents, IsStep, stepped, without_child}
 use Rattle.mk_world.specs.Talks.{Meaning}
@@ -287,7 +288,7 @@ module _ (meaning : Meaning) (work : Work) (tasks : run.Tasks) (entry : Stand)
   IsGood = Good meaning work tasks entry idle well
 
   -- a child is its node's job's own
-  abbrev OwnsChild : ℕ → Build → List Child → Type 0
+  abbrev pub OwnsChild : ℕ → Build → List Child → Type 0
   OwnsChild node build children =
       (one : Child) → HasChild build.run node → child_in children (build.own node).ticket ≡ Some one
       → one.owner ≡ owner_of build node
@@ -599,15 +600,47 @@ module _ (meaning : Meaning) (work : Work) (tasks : run.Tasks) (entry : Stand)
   owned-next done build stand turns clean (leaves ticket owner) good owned makes may fits none = absurd none
 
   -- the child of a step
-  pub step-owned : (done : List Item) (build : Build) (stand : Stand) (turns : List Turn) (clean : turn.Build)
-      (ticket owner time : ℕ) (deed : Deed) (node : ℕ) → IsGood done build stand turns clean
-      → Owned build stand → MayHappen meaning stand (happened (steps ticket owner deed time))
+  pub step-owned : (build : Build) (stand : Stand) (ticket owner time : ℕ) (deed : Deed) (node : ℕ)
+      → OwnsChild node build stand.children → MayHappen meaning stand (happened (steps ticket owner deed time))
       → HasChild build.run node → (build.own node).ticket ≡ ticket → owner ≡ owner_of build node
-  step-owned done build stand turns clean ticket owner time deed node good owned may has mine =
+  step-owned build stand ticket owner time deed node owns may has mine =
       let step = step-child meaning.next (contents stand.files) owner deed (child_in stand.children ticket)
       may.0.1 in
-      sym step.2.owned
-      ∙ owned.child node step.0 has (ap (child_in stand.children) mine ∙ step.1)
+      sym step.2.owned ∙ owns step.0 has (ap (child_in stand.children) mine ∙ step.1)
+
+  -- the children that still run where others were given up
+  pub late-owns : (build : Build) (stand : Stand) (item : Item) → IsLate item → Once stand.children
+      → MayHappen meaning stand (happened item) → (node : ℕ) → OwnsChild node build stand.children
+      → OwnsChild node (build_after work tasks build item) (stand_after stand (happened item)).children
+  late-owns build stand (steps ticket owner deed time) is once may node owns one has here =
+      by (ticket == (build.own node).ticket) refl
+    where
+      step : (child : Child) × (child_in stand.children ticket ≡ Some child)
+          × IsStep meaning.next (contents stand.files) owner deed child
+      step = step-child meaning.next (contents stand.files) owner deed (child_in stand.children ticket) may.0.1
+
+      by : (mine : Bool) → (ticket == (build.own node).ticket) ≡ mine → one.owner ≡ owner_of build node
+      by true same =
+          let ticket_is = eqb-true ticket (build.own node).ticket same in
+          let now : Some (record step.0 { deeds = step.0.deeds ++ deed ∷ [] }) ≡ Some one =
+          sym (child_in-stepped ticket deed stand.children step.0 step.1)
+          ∙ (ap (child_in (stepped ticket deed stand.children)) ticket_is ∙ here) in
+          let whole : record step.0 { deeds = step.0.deeds ++ deed ∷ [] } ≡ one = cc in
+          sym (ap (λ (c : Child). c.owner) whole)
+          ∙ owns step.0 has (ap (child_in stand.children) (sym ticket_is) ∙ step.1)
+      by false other =
+          owns one has
+          (sym (child_in-other ticket (build.own node).ticket deed stand.children other) ∙ here)
+  late-owns build stand (leaves ticket owner) is once may node owns one has here =
+      owns one has (without-back ticket (build.own node).ticket stand.children one once here)
+  late-owns build stand (looks n seen) is once may node owns one has here = absurd is
+  late-owns build stand (keeps n) is once may node owns one has here = absurd is
+  late-owns build stand (refuses n number what) is once may node owns one has here = absurd is
+  late-owns build stand (starts n number ticket owner cmd) is once may node owns one has here = absurd is
+  late-owns build stand (passes n number) is once may node owns one has here = absurd is
+  late-owns build stand waits is once may node owns one has here = absurd is
+  late-owns build stand (ends n number owner ended) is once may node owns one has here = absurd is
+  late-owns build stand (changes n change) is once may node owns one has here = absurd is
 
   -- what owns nothing at the beginning
   pub owned-first : (build : Build) → ((node : ℕ) → owner_of build node ≡ 0)

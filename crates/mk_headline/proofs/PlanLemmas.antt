@@ -13,7 +13,7 @@ use Rattle.mk_decision.specs.Decisions.{Work}
 use Rattle.mk_filemon.proofs.PathLemmas.{bytes_eq-same}
 use Rattle.mk_graph.specs.Closed.{Reaches, given, behind}
 use Rattle.mk_graph.specs.Walks.{is_among, preds_of}
-use Rattle.mk_headline.specs.Plans.{has_job, is_called, is_meta_path, jobs_from, clean_plan}
+use Rattle.mk_headline.specs.Plans.{has_job, is_called, is_meta_path, jobs_from, clean_plan, makes_file}
 use Rattle.mk_headline.specs.Premises.{IsWellMade}
 use Rattle.mk_meta.specs.TrueHistory.{meta_path}
 use Rattle.mk_plan.specs.PlanLaws.{plan_names}
@@ -219,6 +219,13 @@ pub node-is : (work : Work) (tasks : Tasks) (n : ℕ) → n < length work.plan
     → (clean_plan work tasks).is_node (node_at work.plan n).name ≡ true
 node-is work tasks n within = called-at work.plan n within
 
+made-at : (nodes : List PlanNode) (n : ℕ) → n < length nodes → makes_file (node_at nodes n) ≡ true
+    → list_any (λ node. makes_file node && is_called (node_at nodes n).name node) nodes ≡ true
+made-at [] n within makes = absurd (omega (arith, within))
+made-at (node ∷ nodes) zero within makes = rw (makes, bytes_eq-same node.name) refl
+made-at (node ∷ nodes) (suc n) within makes =
+    or_right _ _ (made-at nodes n (omega (arith, within)) makes)
+
 -- dependence through sources is dependence through predecessors
 
 list_all-at : (test : ℕ → Bool) (places : List ℕ) (one : ℕ) → list_all test places ≡ true
@@ -292,6 +299,8 @@ depends-less work tasks well n other (through between one depends among) =
 pub are-well-made : (meaning : Meaning) (work : Work) (tasks : Tasks) (store : Store) → IsWellMade work
     → AreWellMade (clean_plan work tasks) (clean_build meaning (clean_plan work tasks) store)
 are-well-made meaning work tasks store well = record {
+  is_node = λ one among. node-is work tasks one.node (job-has work one.node (at one among)).0;
+  is_made = λ one among made. made-at work.plan one.node (job-has work one.node (at one among)).0 made;
   names = λ one other among also same.
       let first = job-has work one.node (at one among) in
       let second = job-has work other.node (at other also) in

@@ -1,31 +1,31 @@
 -- Each item of a build is lawful turns.
 use Rattle.std.proofs.Common.{◌≡◌, ◌≢◌, ◌∙◌, ℕ, zero, suc, ◌+◌, ◌-◌, ◌<◌, ◌==◌, ◌&&◌, ◌||◌, not, nat_le, List, [], ◌∷◌, ◌++◌, length, map, drop, set, slice_get, Option, Some, None, Bool, true, false, if◌then◌else◌}
 use Rattle.std.proofs.Common.{inl, inr, refl, sym, ap, subst, arith, eq-eqb, leb-true}
-use Rattle.std.proofs.lemmas.Bool.{cases_eq}
+use Rattle.std.proofs.lemmas.Bool.{cases_eq, false≢true}
 use Rattle.std.proofs.lemmas.List.{map-append}
 use Rattle.std.specs.List.{list_any}
 use Rattle.mk_clean.specs.Clean.{Plan}
 use Rattle.mk_clean.specs.Jobs.{goes_on}
 use Rattle.mk_clean.specs.Turns as turn
-use Rattle.mk_clean.specs.Turns.{Stage, waiting, between, inside, settled, Turn, after_turn, after_turns, with_stage, ended_with, MayStep, MayEndLine, SourcesSettled, MayTurns}
+use Rattle.mk_clean.specs.Turns.{Stage, waiting, between, inside, settled, failed, Turn, after_turn, after_turns, with_stage, ended_with, MayStep, MayEndLine, MayFail, SourcesSettled, MayTurns}
 use Rattle.mk_decision.specs.Decisions.{Work}
 use Rattle.mk_headline.proofs.PlanLemmas.{meta_path-is}
-use Rattle.mk_headline.proofs.StageLemmas.{working-line, working-empty, working-past, InLine, FitsNode, fits-quiet, quiet-same, quiet-settled, quiet-waits, quiet-starts, quiet-passes, quiet-ends, quiet-steps, may-append, after-append, own-stage, other-stage, Ready}
-use Rattle.mk_headline.specs.Plans.{clean_plan, is_meta_path}
-use Rattle.mk_headline.specs.Turned.{begun_by, settled_by, put_by, IsTurned}
+use Rattle.mk_headline.proofs.StageLemmas.{working-line, working-empty, working-past, going-back, sound-open, sound-undecided, sound-start, AreOfNodes, InLine, FitsNode, fits-quiet, quiet-same, quiet-settled, quiet-waits, quiet-starts, quiet-passes, quiet-ends, quiet-steps, may-append, after-append, own-stage, other-stage, Ready}
+use Rattle.mk_headline.specs.Plans.{clean_plan, has_job, is_meta_path, makes_file}
+use Rattle.mk_headline.specs.Turned.{begun_by, settled_by, ended_by, put_by, IsTurned}
 use Rattle.mk_meta.specs.Jobs.{is_empty, working}
 use Rattle.mk_meta.specs.TrueHistory.{meta_path}
-use Rattle.mk_plan.specs.Deciding.{Rules, is_failed, is_stopped}
+use Rattle.mk_plan.specs.Deciding.{is_failed, is_stopped}
 use Rattle.mk_plan.specs.Plans.{node_at}
 use Rattle.mk_plan.specs.declared.plan.NodeState.{NodeState}
-use Rattle.mk_plan.specs.declared.plan.NodeState.TheVariants.{Undecided, Open, Settled}
+use Rattle.mk_plan.specs.declared.plan.NodeState.TheVariants.{Undecided, Open, Settled, Failed}
 use Rattle.mk_trace.proofs.BegunLemmas.{Steady, start-within}
 use Rattle.mk_trace.proofs.TrueChildren.{child_in-contains, step-child, end-child}
 use Rattle.mk_trace.proofs.TrueRuns.{slice-same, ended_run, IsFree, taken-due}
 use Rattle.mk_trace.specs.Builds.{Build, Own, remove, MayFollow, MayChange, IsCommandOf, command_of, build_after, rules_of, own_changed, with_collected, with_ticket}
 use Rattle.mk_trace.specs.Collected.{with_end}
 use Rattle.mk_trace.specs.declared.collected.Collected.{Collected}
-use Rattle.mk_trace.specs.Items.{Change, gone, head, whole, cut_head, cut_whole, Item, looks, keeps, starts, passes, waits, steps, ends, changes, path_of, happened, reported, Fits}
+use Rattle.mk_trace.specs.Items.{Change, gone, head, whole, cut_head, cut_whole, Item, looks, keeps, refuses, starts, passes, waits, steps, ends, changes, path_of, happened, reported, Fits}
 use Rattle.mk_trace.specs.Runs as run
 use Rattle.mk_trace.specs.Together.{HasChild, IsNotDue, AreTogether}
 use Rattle.mk_world.proofs.ChangeLemmas.{contents-effected_all}
@@ -36,10 +36,12 @@ use Rattle.mk_world.specs.History.{State as Stand, MayAll as MayHappen, after_al
 use Rattle.mk_world.specs.Looks.{Seen}
 use Rattle.mk_world.specs.Talks.{Meaning, answer}
 use Rattle.mk_world.specs.declared.command.Cmd.{Cmd}
+use Rattle.mk_values.specs.declared.fault.ExpandFault.{ExpandFault}
 use Rattle.mk_world.specs.declared.command.TaskLine.{TaskLine}
 use Rattle.mk_world.specs.declared.history.Child.{Child}
 use Rattle.mk_world.specs.declared.step.Deed.{Deed}
 use Rattle.mk_world.specs.declared.step.Ended.{Ended}
+use Rattle.mk_world.specs.declared.step.Next.TheVariants.{Over as Ended_with}
 
 -- of all nodes, this one and the others
 pub each-node : (n : ℕ) (P : ℕ → Type 0) → P n → ((node : ℕ) → node ≢ n → P node) → (node : ℕ) → P node
@@ -67,14 +69,6 @@ none_failed-set (one ∷ nodes) (suc n) state is none =
     let parts = both-false (is_failed one) (list_any is_failed nodes) none in
     neither _ _ parts.0 (none_failed-set nodes n state is parts.1)
 
-not-stopped : (rules : Rules) (nodes : List NodeState) → list_any is_failed nodes ≡ false
-    → is_stopped rules nodes ≡ false
-not-stopped rules nodes none = rw none (and-false (not rules.keep_going))
-  where
-    and-false : (a : Bool) → (a && false) ≡ false
-    and-false true = refl
-    and-false false = refl
-
 goes-on : (line : TaskLine) (status : ℕ) (output : List ℕ) → run.fails (Some line) status ≡ false
     → goes_on line (ended_with status output) ≡ true
 goes-on line status output well = by (status == 0) line.ignore well
@@ -84,6 +78,22 @@ goes-on line status output well = by (status == 0) line.ignore well
     by true false given = refl
     by false true given = refl
     by false false given = absurd cc
+
+goes-not : (line : TaskLine) (status : ℕ) (output : List ℕ) → run.fails (Some line) status ≡ true
+    → goes_on line (ended_with status output) ≡ false
+goes-not line status output bad = by (status == 0) line.ignore bad
+  where
+    by : (ends_well ignore : Bool) → (not ends_well && not ignore) ≡ true → (ignore || ends_well) ≡ false
+    by true true given = absurd cc
+    by true false given = absurd cc
+    by false true given = absurd cc
+    by false false given = refl
+
+pub slice-here : (all : List NodeState) (k : ℕ) (stands : NodeState) → k < length all
+    → slice_get (set all k stands) k ≡ Some stands
+slice-here [] k stands less = absurd (omega (arith, less))
+slice-here (one ∷ all) zero stands less = refl
+slice-here (one ∷ all) (suc k) stands less = slice-here all k stands (omega (arith, less))
 
 command-line : (work : Work) (one : Option TaskLine) (cmd : Cmd) → IsCommandOf work one cmd
     → (line : TaskLine) × (one ≡ Some line) × (is_empty line.text ≡ false) × (cmd ≡ command_of work line)
@@ -166,16 +176,40 @@ module _ (meaning : Meaning) (work : Work) (tasks : run.Tasks) where
       → stage ≡ settled → FitsNode meaning work tasks (run.settle state n Settled) own children n stage
   fits-kept state own children n stage is = record {
     undecided = λ given. let same = slice-same state.nodes n Settled Undecided given in absurd cc;
-    decided = λ given. is;
+    decided = λ going given. is;
+    running = λ child has here. let same = slice-same state.nodes n Settled Open has.0 in absurd cc;
+    due = λ number given. absurd cc;
+  }
+
+  -- it has failed
+  fits-failed : (state : run.State) (own : ℕ → Own) (children : List Child) (n : ℕ) (stage : Stage)
+      → FitsNode meaning work tasks (run.settle state n Failed) own children n stage
+  fits-failed state own children n stage = record {
+    undecided = λ given. let same = slice-same state.nodes n Failed Undecided given in absurd cc;
+    decided = λ going given. let same = slice-same state.nodes n Failed Settled given in absurd cc;
+    running = λ child has here. let same = slice-same state.nodes n Failed Open has.0 in absurd cc;
+    due = λ number given. absurd cc;
+  }
+
+  -- or its job ends early, since a failure has stopped the run
+  fits-stopped : (state : run.State) (own : ℕ → Own) (children : List Child) (n : ℕ) (stage : Stage)
+      → slice_get state.nodes n ≡ Some Open → is_stopped (rules_of work) state.nodes ≡ true
+      → FitsNode meaning work tasks (run.settle state n Settled) own children n stage
+  fits-stopped state own children n stage opens stops = record {
+    undecided = λ given. let same = slice-same state.nodes n Settled Undecided given in absurd cc;
+    decided = λ going given.
+        absurd (false≢true
+        (sym (going-back (rules_of work) state.nodes n Settled (sound-open state.nodes n opens) going) ∙ stops));
     running = λ child has here. let same = slice-same state.nodes n Settled Open has.0 in absurd cc;
     due = λ number given. absurd cc;
   }
 
   pub kept : (build : Build) (stand : Stand) (clean : turn.Build) (n : ℕ)
       → contents stand.files ≡ clean.files → FitsAllNodes build stand clean
-      → build.run.due ≡ run.anything → clean.stage n ≡ waiting → SourcesSettled plan clean n
+      → build.run.due ≡ run.anything → slice_get build.run.nodes n ≡ Some Undecided
+      → clean.stage n ≡ waiting → SourcesSettled plan clean n
       → turn.MayKeep meaning plan clean n → Turning build stand clean (keeps n)
-  kept build stand clean n files nodes due idle sources keep = record {
+  kept build stand clean n files nodes due undecided idle sources keep = record {
     now = turn.keeps n ∷ [];
     turned = refl;
     may = ((idle, sources, keep), tt);
@@ -186,7 +220,27 @@ module _ (meaning : Meaning) (work : Work) (tasks : run.Tasks) where
         fits-quiet meaning work tasks build.run (run.settle build.run n Settled) build.own build.own
         stand.children stand.children node (clean.stage node) _
         (other-stage meaning work tasks n node settled clean.stage other)
-        (quiet-settled meaning work tasks build.run build.own stand.children n node Settled other due) (nodes node));
+        (quiet-settled meaning work tasks build.run build.own stand.children n node Settled other due
+        (sound-undecided build.run.nodes n undecided)) (nodes node));
+    looks = λ none. refl;
+  }
+
+  -- a node is refused, and has no turn
+  pub refused : (build : Build) (stand : Stand) (clean : turn.Build) (n number : ℕ) (what : ExpandFault)
+      → contents stand.files ≡ clean.files → FitsAllNodes build stand clean
+      → build.run.due ≡ run.anything → slice_get build.run.nodes n ≡ Some Undecided
+      → Turning build stand clean (refuses n number what)
+  refused build stand clean n number what files nodes due undecided = record {
+    now = [];
+    turned = refl;
+    may = tt;
+    files = files;
+    nodes = each-node n _ (fits-failed build.run build.own stand.children n (clean.stage n))
+        (λ node other.
+        fits-quiet meaning work tasks build.run (run.settle build.run n Failed) build.own build.own
+        stand.children stand.children node (clean.stage node) (clean.stage node) refl
+        (quiet-settled meaning work tasks build.run build.own stand.children n node Failed other due
+        (sound-undecided build.run.nodes n undecided)) (nodes node));
     looks = λ none. refl;
   }
 
@@ -208,12 +262,12 @@ module _ (meaning : Meaning) (work : Work) (tasks : run.Tasks) where
   -- a line begins
   pub started : (build : Build) (stand : Stand) (clean : turn.Build) (n number ticket owner : ℕ) (cmd : Cmd)
       → contents stand.files ≡ clean.files → FitsAllNodes build stand clean
-      → AreTogether work tasks build.run build.own stand.children
+      → AreTogether work tasks build.run build.own stand.children → Steady build.run.nodes build.run.due
       → run.MayStart (rules_of work) tasks build.run n number build.run.due
       → IsCommandOf work (run.line_of (tasks n) number) cmd → child_in stand.children ticket ≡ None
       → Ready meaning work tasks n number clean (begun_by n number)
       → Turning build stand clean (starts n number ticket owner cmd)
-  started build stand clean n number ticket owner cmd files nodes together may is none begun = record {
+  started build stand clean n number ticket owner cmd files nodes together steady may is none begun = record {
     now = begun_by n number ++ turn.starts_line n ∷ [];
     turned = refl;
     may = may-append meaning work tasks clean (begun_by n number) (turn.starts_line n ∷ []) begun.may (
@@ -230,7 +284,8 @@ module _ (meaning : Meaning) (work : Work) (tasks : run.Tasks) where
         (ap (λ (c : turn.Build). c.stage node) behind
         ∙ (other-stage meaning work tasks n node _ first.stage other ∙ begun.others node other))
         (quiet-starts meaning work tasks build.run build.own stand.children n node number ticket owner cmd
-        other may together) (nodes node));
+        other may (sound-start (rules_of work) tasks build.run n number build.run.due steady may) together)
+        (nodes node));
     looks = λ no_look. ap (λ (c : turn.Build). c.looks) behind ∙ begun.looks;
   }
     where
@@ -273,7 +328,7 @@ module _ (meaning : Meaning) (work : Work) (tasks : run.Tasks) where
           ((after_turns plan clean (begun_by n number ++ turn.starts_line n ∷ [])).stage n)
       mine = record {
         undecided = λ given. no-open build.run.nodes n Undecided _ given (λ same. absurd cc);
-        decided = λ given. no-open build.run.nodes n Settled _ given (λ same. absurd cc);
+        decided = λ going given. no-open build.run.nodes n Settled _ given (λ same. absurd cc);
         running = λ child has here.
             let found : Some new ≡ Some child =
             sym (child_in-last stand.children new none)
@@ -289,6 +344,7 @@ module _ (meaning : Meaning) (work : Work) (tasks : run.Tasks) where
               deeds = begun.deeds;
               line = line.0;
               line_is = line.1;
+              has = begun.has;
               later = let is = begun.number_is in omega (arith, is);
               cmd = line.3;
               stage_is = stage_is;
@@ -303,21 +359,22 @@ module _ (meaning : Meaning) (work : Work) (tasks : run.Tasks) where
   settles_if over n = if over then turn.settles n ∷ [] else []
 
   record EndedBy (n number : ℕ) (state : run.State) (own : ℕ → Own) (children : List Child)
-      (clean : turn.Build) (turns : List Turn) (over : Bool) : Type 0
+      (clean : turn.Build) (turns : List Turn) (over stops : Bool) : Type 0
     where
       may : MayTurns meaning plan clean turns
       files : (after_turns plan clean turns).files ≡ clean.files
       looks : (after_turns plan clean turns).looks ≡ clean.looks
-      mine : FitsNode meaning work tasks (ended_run state n number false over) own children n
+      mine : FitsNode meaning work tasks (ended_run state n number false (over || stops)) own children n
           ((after_turns plan clean turns).stage n)
       others : (node : ℕ) → node ≢ n → (after_turns plan clean turns).stage node ≡ clean.stage node
 
   ended-by : (n number : ℕ) (state : run.State) (own : ℕ → Own) (children : List Child)
-      (clean : turn.Build) (deeds : List Deed) (over : Bool) → nat_le (length (tasks n)) number ≡ over
-      → 0 < number → slice_get state.nodes n ≡ Some Open
+      (clean : turn.Build) (deeds : List Deed) (over stops : Bool) → nat_le (length (tasks n)) number ≡ over
+      → is_stopped (rules_of work) state.nodes ≡ stops
+      → 0 < number → slice_get state.nodes n ≡ Some Open → has_job (node_at work.plan n) ≡ true
       → clean.stage n ≡ between deeds (working (drop number (tasks n)))
-      → EndedBy n number state own children clean (settles_if over n) over
-  ended-by n number state own children clean deeds true over later opens is =
+      → EndedBy n number state own children clean (settles_if over n) over stops
+  ended-by n number state own children clean deeds true stops over stopped later opens has is =
       let past = working-past (tasks n) number (leb-true (length (tasks n)) number over) in
       record {
         may = ((deeds, is ∙ ap (λ l. between deeds l) past), tt);
@@ -326,19 +383,27 @@ module _ (meaning : Meaning) (work : Work) (tasks : run.Tasks) where
         mine = fits-kept state own children n _ (own-stage meaning work tasks n settled clean.stage);
         others = λ node other. other-stage meaning work tasks n node settled clean.stage other;
       }
-  ended-by n number state own children clean deeds false over later opens is = record {
+  ended-by n number state own children clean deeds false true over stopped later opens has is = record {
+    may = tt;
+    files = refl;
+    looks = refl;
+    mine = fits-stopped state own children n (clean.stage n) opens stopped;
+    others = λ node other. refl;
+  }
+  ended-by n number state own children clean deeds false false over stopped later opens has is = record {
     may = tt;
     files = refl;
     looks = refl;
     mine = record {
       undecided = λ given. let clash : Some Open ≡ Some Undecided = sym opens ∙ given in absurd cc;
-      decided = λ given. let clash : Some Open ≡ Some Settled = sym opens ∙ given in absurd cc;
-      running = λ child has here. absurd (has.1 refl);
+      decided = λ going given. let clash : Some Open ≡ Some Settled = sym opens ∙ given in absurd cc;
+      running = λ child has_child here. absurd (has_child.1 refl);
       due = λ other given.
           let same : number + 1 ≡ other = cc in
           record {
             place = number;
             number_is = sym same;
+            has = has;
             later = later;
             deeds = deeds;
             stage_is = is;
@@ -350,11 +415,11 @@ module _ (meaning : Meaning) (work : Work) (tasks : run.Tasks) where
   -- an empty line begins and ends
   pub passed : (build : Build) (stand : Stand) (clean : turn.Build) (n number : ℕ)
       → contents stand.files ≡ clean.files → FitsAllNodes build stand clean
-      → Steady build.run.nodes build.run.due → list_any is_failed build.run.nodes ≡ false
+      → Steady build.run.nodes build.run.due
       → run.MayAll (rules_of work) tasks build.run (reported (passes n number))
       → Ready meaning work tasks n number clean (begun_by n number)
       → Turning build stand clean (passes n number)
-  passed build stand clean n number files nodes steady sound may begun = record {
+  passed build stand clean n number files nodes steady may begun = record {
     now = begun_by n number ++ settled_by tasks n number;
     turned = refl;
     may = may-append meaning work tasks clean (begun_by n number) (settled_by tasks n number) begun.may end.may;
@@ -362,16 +427,15 @@ module _ (meaning : Meaning) (work : Work) (tasks : run.Tasks) where
         ∙ (sym end.files ∙ sym (ap (λ (c : turn.Build). c.files) behind)));
     nodes = each-node n _
         (subst (FitsNode meaning work tasks (build_after work tasks build (passes n number)).run build.own
-        stand.children n) (sym (ap (λ (c : turn.Build). c.stage n) behind))
-        (subst (λ s. FitsNode meaning work tasks (ended_run begun_run n number false s) build.own
-        stand.children n ((after_turns plan first (settled_by tasks n number)).stage n)) (sym stops) end.mine))
+        stand.children n) (sym (ap (λ (c : turn.Build). c.stage n) behind)) end.mine)
         (λ node other.
         fits-quiet meaning work tasks build.run (build_after work tasks build (passes n number)).run
         build.own build.own stand.children stand.children node (clean.stage node) _
         (ap (λ (c : turn.Build). c.stage node) behind
         ∙ (end.others node other ∙ begun.others node other))
         (quiet-passes meaning work tasks build.run build.own stand.children n node number
-        (over || is_stopped (rules_of work) begun_run.nodes) other may.0) (nodes node));
+        (over || is_stopped (rules_of work) begun_run.nodes) other may.0
+        (sound-start (rules_of work) tasks build.run n number build.run.due steady may.0)) (nodes node));
     looks = λ no_look. ap (λ (c : turn.Build). c.looks) behind ∙ (end.looks ∙ begun.looks);
   }
     where
@@ -380,14 +444,6 @@ module _ (meaning : Meaning) (work : Work) (tasks : run.Tasks) where
 
       over : Bool
       over = nat_le (length (tasks n)) number
-
-      stops : (over || is_stopped (rules_of work) begun_run.nodes) ≡ over
-      stops = rw (not-stopped (rules_of work) begun_run.nodes
-          (none_failed-set build.run.nodes n Open refl sound)) (or-false over)
-        where
-          or-false : (b : Bool) → (b || false) ≡ b
-          or-false true = refl
-          or-false false = refl
 
       first : turn.Build
       first = after_turns plan clean (begun_by n number)
@@ -431,55 +487,25 @@ module _ (meaning : Meaning) (work : Work) (tasks : run.Tasks) where
           ∙ ap (λ k. between begun.deeds (working (drop k (tasks n)))) (sym begun.number_is))
 
       end : EndedBy n number begun_run build.own stand.children first (settled_by tasks n number) over
+          (is_stopped (rules_of work) begun_run.nodes)
       end =
           let is = begun.number_is in
-          ended-by n number begun_run build.own stand.children first begun.deeds over refl (omega (arith, is))
-          (slice-here build.run.nodes n (start-within (rules_of work) tasks build.run n number build.run.due steady may.0))
+          ended-by n number begun_run build.own stand.children first begun.deeds over
+          (is_stopped (rules_of work) begun_run.nodes) refl refl (omega (arith, is))
+          (slice-here build.run.nodes n Open
+          (start-within (rules_of work) tasks build.run n number build.run.due steady may.0)) begun.has
           stage_is
-        where
-          slice-here : (all : List NodeState) (k : ℕ) → k < length all → slice_get (set all k Open) k ≡ Some Open
-          slice-here [] k less = absurd (omega (arith, less))
-          slice-here (one ∷ all) zero less = refl
-          slice-here (one ∷ all) (suc k) less = slice-here all k (omega (arith, less))
 
   -- the child of a line is taken in
   pub taken : (build : Build) (stand : Stand) (clean : turn.Build) (n number owner : ℕ) (ended : Ended)
       → contents stand.files ≡ clean.files → FitsAllNodes build stand clean
       → AreTogether work tasks build.run build.own stand.children → IsFree build.run.due
-      → list_any is_failed build.run.nodes ≡ false
       → run.MayEnd build.run n number ended.status build.run.due
       → (build.own n).ticket ≡ ended.ticket.0
-      → run.fails (run.line_of (tasks n) number) ended.status ≡ false
       → Fits meaning stand (ends n number owner ended)
       → Turning build stand clean (ends n number owner ended)
-  taken build stand clean n number owner ended files nodes together free_due sound may mine_is well fits = record {
-    now = turn.ends_line n ∷ settled_by tasks n number;
-    turned = refl;
-    may = (
-      subst (MayEndLine meaning.next plan) (sym line.stage_is)
-          (record {
-            status = ended.status;
-            output = ended.output;
-            next_is = ap (λ c. meaning.next c (map answer child.0.deeds)) (sym line.cmd) ∙ child.3.over;
-            well = goes-on line.line ended.status ended.output
-                (subst (λ one. run.fails one ended.status ≡ false) line_is well);
-          }),
-      end.may,
-    );
-    files = files ∙ sym end.files;
-    nodes = each-node n _
-        (subst (λ r. FitsNode meaning work tasks r own_then left n
-        ((after_turns plan first (settled_by tasks n number)).stage n)) (sym run_is) end.mine)
-        (λ node other.
-        fits-quiet meaning work tasks build.run (build_after work tasks build (ends n number owner ended)).run
-        build.own own_then stand.children left node (clean.stage node) _
-        (end.others node other ∙ other-stage meaning work tasks n node (turn.line_ended (clean.stage n)) clean.stage other)
-        (quiet-ends meaning work tasks build.run build.own own_then stand.children n node number
-        ended.ticket.0 (run.fails (run.line_of (tasks n) number) ended.status)
-        (over || is_stopped (rules_of work) build.run.nodes) other due.0 has mine_is
-        (tickets-kept build.own n (with_end (build.own n).collected number ended) node) together) (nodes node));
-    looks = λ no_look. end.looks;
-  }
+  taken build stand clean n number owner ended files nodes together free_due may mine_is fits =
+      by (run.fails (run.line_of (tasks n) number) ended.status) refl
     where
       due : (build.run.due ≡ run.child) × (slice_get build.run.nodes n ≡ Some Open) × (build.run.started n ≡ number)
       due = taken-due build.run n number ended.status build.run.due free_due may
@@ -518,29 +544,91 @@ module _ (meaning : Meaning) (work : Work) (tasks : run.Tasks) where
       later : 0 < number
       later = subst (λ k. 0 < k) due.2 line.later
 
-      end : EndedBy n number build.run own_then left first (settled_by tasks n number) over
-      end = ended-by n number build.run own_then left first line.deeds over refl later due.1 stage_is
+      stops : Bool
+      stops = is_stopped (rules_of work) build.run.nodes
 
-      stops : (over || is_stopped (rules_of work) build.run.nodes) ≡ over
-      stops = rw (not-stopped (rules_of work) build.run.nodes sound) (or-false over)
-        where
-          or-false : (b : Bool) → (b || false) ≡ b
-          or-false true = refl
-          or-false false = refl
+      end : EndedBy n number build.run own_then left first (settled_by tasks n number) over stops
+      end = ended-by n number build.run own_then left first line.deeds over stops refl refl later due.1 line.has
+          stage_is
 
-      run_is : (build_after work tasks build (ends n number owner ended)).run
-          ≡ ended_run build.run n number false over
-      run_is =
-          ap (λ f. ended_run build.run n number f (over || is_stopped (rules_of work) build.run.nodes)) well
-          ∙ ap (λ s. ended_run build.run n number false s) stops
+      run_is : (fails : Bool) → run.fails (run.line_of (tasks n) number) ended.status ≡ fails
+          → (build_after work tasks build (ends n number owner ended)).run
+          ≡ ended_run build.run n number fails (over || stops)
+      run_is fails is = ap (λ f. ended_run build.run n number f (over || stops)) is
+
+      next_is : meaning.next (plan.command line.line) (map answer child.0.deeds)
+          ≡ Ended_with ended.status ended.output
+      next_is = ap (λ c. meaning.next c (map answer child.0.deeds)) (sym line.cmd) ∙ child.3.over
+
+      -- of other nodes
+      others : (node : ℕ) (stage : Stage) → node ≢ n → stage ≡ clean.stage node
+          → FitsNode meaning work tasks (build_after work tasks build (ends n number owner ended)).run
+          own_then left node stage
+      others node stage other same =
+          fits-quiet meaning work tasks build.run (build_after work tasks build (ends n number owner ended)).run
+          build.own own_then stand.children left node (clean.stage node) stage same
+          (quiet-ends meaning work tasks build.run build.own own_then stand.children n node number
+          ended.ticket.0 (run.fails (run.line_of (tasks n) number) ended.status)
+          (over || stops) other due.0 has mine_is
+          (tickets-kept build.own n (with_end (build.own n).collected number ended) node) together) (nodes node)
+
+      by : (fails : Bool) → run.fails (run.line_of (tasks n) number) ended.status ≡ fails
+          → Turning build stand clean (ends n number owner ended)
+      by false well = record {
+        now = turn.ends_line n ∷ settled_by tasks n number;
+        turned = ap (λ f. ended_by tasks n number f) (sym well);
+        may = (
+          subst (MayEndLine meaning.next plan) (sym line.stage_is)
+              (record {
+                status = ended.status;
+                output = ended.output;
+                next_is = next_is;
+                well = goes-on line.line ended.status ended.output
+                    (subst (λ one. run.fails one ended.status ≡ false) line_is well);
+              }),
+          end.may,
+        );
+        files = files ∙ sym end.files;
+        nodes = each-node n _
+            (subst (λ r. FitsNode meaning work tasks r own_then left n
+            ((after_turns plan first (settled_by tasks n number)).stage n)) (sym (run_is false well)) end.mine)
+            (λ node other.
+            others node _ other
+            (end.others node other
+            ∙ other-stage meaning work tasks n node (turn.line_ended (clean.stage n)) clean.stage other));
+        looks = λ no_look. end.looks;
+      }
+      by true bad = record {
+        now = turn.fails n ∷ [];
+        turned = ap (λ f. ended_by tasks n number f) (sym bad);
+        may = (
+          subst (MayFail meaning.next plan) (sym line.stage_is)
+              (record {
+                status = ended.status;
+                output = ended.output;
+                next_is = next_is;
+                bad = goes-not line.line ended.status ended.output
+                    (subst (λ one. run.fails one ended.status ≡ true) line_is bad);
+              }),
+          tt,
+        );
+        files = files;
+        nodes = each-node n _
+            (subst (λ r. FitsNode meaning work tasks r own_then left n
+            (with_stage n failed clean.stage n)) (sym (run_is true bad))
+            (fits-failed build.run own_then left n (with_stage n failed clean.stage n)))
+            (λ node other.
+            others node _ other (other-stage meaning work tasks n node failed clean.stage other));
+        looks = λ no_look. refl;
+      }
 
   -- a child does a step
   pub stepped-on : (build : Build) (stand : Stand) (clean : turn.Build) (ticket owner time : ℕ) (deed : Deed)
       → contents stand.files ≡ clean.files → FitsAllNodes build stand clean
-      → AreTogether work tasks build.run build.own stand.children
+      → AreOfNodes build.run build.own stand.children
       → MayHappen meaning stand (happened (steps ticket owner deed time))
       → Turning build stand clean (steps ticket owner deed time)
-  stepped-on build stand clean ticket owner time deed files nodes together may = record {
+  stepped-on build stand clean ticket owner time deed files nodes of_nodes may = record {
     now = turn.steps n deed ∷ [];
     turned = (n, has, mine_is, refl);
     may = (
@@ -563,7 +651,7 @@ module _ (meaning : Meaning) (work : Work) (tasks : run.Tasks) where
         (clean.stage node) _
         (other-stage meaning work tasks n node (turn.stepped deed (clean.stage n)) clean.stage other)
         (quiet-steps meaning work tasks build.run build.own stand.children n node ticket deed other has
-        mine_is together) (nodes node));
+        mine_is of_nodes) (nodes node));
     looks = λ no_look. refl;
   }
     where
@@ -578,7 +666,7 @@ module _ (meaning : Meaning) (work : Work) (tasks : run.Tasks) where
       step = child.2
 
       found : (n : ℕ) × HasChild build.run n × ((build.own n).ticket ≡ child.0.ticket)
-      found = together.node child.0 (child_in-contains stand.children ticket child.0 child.1)
+      found = of_nodes.node child.0 (child_in-contains stand.children ticket child.0 child.1)
 
       n : ℕ
       n = found.0
@@ -596,7 +684,7 @@ module _ (meaning : Meaning) (work : Work) (tasks : run.Tasks) where
           (with_stage n (turn.stepped deed (clean.stage n)) clean.stage n)
       mine = record {
         undecided = λ given. let clash : Some Open ≡ Some Undecided = sym has.0 ∙ given in absurd cc;
-        decided = λ given. let clash : Some Open ≡ Some Settled = sym has.0 ∙ given in absurd cc;
+        decided = λ going given. let clash : Some Open ≡ Some Settled = sym has.0 ∙ given in absurd cc;
         running = λ one again here.
             let now : Some (record child.0 { deeds = child.0.deeds ++ deed ∷ [] }) ≡ Some one =
             sym (child_in-stepped ticket deed stand.children child.0 child.1)
@@ -608,6 +696,7 @@ module _ (meaning : Meaning) (work : Work) (tasks : run.Tasks) where
               deeds = line.deeds ++ deed ∷ [];
               line = line.line;
               line_is = line.line_is;
+              has = line.has;
               later = line.later;
               cmd = line.cmd;
               stage_is = own-stage meaning work tasks n (turn.stepped deed (clean.stage n)) clean.stage
@@ -631,7 +720,7 @@ module _ (meaning : Meaning) (work : Work) (tasks : run.Tasks) where
   put-turn : (build : Build) (stand : Stand) (clean : turn.Build) (n : ℕ) (change : Change)
       (path bytes : List ℕ) → FitsAllNodes build stand clean
       → path ≡ meta_path (node_at work.plan n).name
-      → put_by change ≡ turn.puts_meta path (Some bytes) ∷ []
+      → put_by n change ≡ turn.puts_meta path (Some bytes) ∷ []
       → contents (stand_after stand (happened (changes n change))).files
       ≡ put clean.files (record { path = path; bytes = Some bytes })
       → ((node : ℕ) → (own_changed build.own n change node).ticket ≡ (build.own node).ticket)
@@ -652,21 +741,42 @@ module _ (meaning : Meaning) (work : Work) (tasks : run.Tasks) where
     looks = λ no_look. refl;
   }
 
+  -- make removes the target of a node that has failed
+  pub record Removing (build : Build) (clean : turn.Build) (n : ℕ) : Type 0 where
+    pub stage_is : clean.stage n ≡ failed
+    pub shut : slice_get build.run.nodes n ≡ Some Failed
+    pub makes : makes_file (node_at work.plan n) ≡ true
+
+  gone-turn : (build : Build) (stand : Stand) (clean : turn.Build) (n time : ℕ) (path : List ℕ)
+      → contents stand.files ≡ clean.files → FitsAllNodes build stand clean → Removing build clean n
+      → path ≡ (node_at work.plan n).name → Turning build stand clean (changes n (gone path time))
+  gone-turn build stand clean n time path files nodes removing path_is = record {
+    now = turn.removes n ∷ [];
+    turned = refl;
+    may = ((removing.stage_is, removing.makes), tt);
+    files = contents-effected_all stand.files (record { path = path; bytes = None } ∷ []) time
+        ∙ (ap (λ store. put store (record { path = path; bytes = None })) files
+        ∙ ap (λ at. put clean.files (record { path = at; bytes = None })) path_is);
+    nodes = nodes;
+    looks = λ no_look. refl;
+  }
+
   pub changed-by : (build : Build) (stand : Stand) (clean : turn.Build) (n : ℕ) (change : Change)
       → contents stand.files ≡ clean.files → FitsAllNodes build stand clean
-      → (build.duty ≡ remove n → ⊥) → MayFollow work build.duty (changes n change)
+      → (build.duty ≡ remove n → Removing build clean n) → MayFollow work build.duty (changes n change)
       → MayChange work tasks build n change → Turning build stand clean (changes n change)
-  changed-by build stand clean n (gone path time) files nodes none follow may = absurd (none follow)
-  changed-by build stand clean n (head path bytes time) files nodes none follow may =
+  changed-by build stand clean n (gone path time) files nodes removing follow may =
+      gone-turn build stand clean n time path files nodes (removing follow) may
+  changed-by build stand clean n (head path bytes time) files nodes removing follow may =
       put-turn build stand clean n (head path bytes time) path bytes nodes may.0.path_is refl
       (put-files stand.files clean.files path bytes time files)
       (λ node. tickets-kept build.own n _ node) refl
-  changed-by build stand clean n (whole path bytes time) files nodes none follow may =
+  changed-by build stand clean n (whole path bytes time) files nodes removing follow may =
       put-turn build stand clean n (whole path bytes time) path bytes nodes may.0.path_is refl
       (put-files stand.files clean.files path bytes time files) (λ node. refl) refl
-  changed-by build stand clean n (cut_head path part time) files nodes none follow may =
+  changed-by build stand clean n (cut_head path part time) files nodes removing follow may =
       put-turn build stand clean n (cut_head path part time) path part nodes may.1.path_is refl
       (put-files stand.files clean.files path part time files) (λ node. refl) refl
-  changed-by build stand clean n (cut_whole path part time) files nodes none follow may =
+  changed-by build stand clean n (cut_whole path part time) files nodes removing follow may =
       put-turn build stand clean n (cut_whole path part time) path part nodes may.1.path_is refl
       (put-files stand.files clean.files path part time files) (λ node. refl) refl

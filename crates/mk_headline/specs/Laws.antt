@@ -7,8 +7,8 @@ use Rattle.mk_clean.specs.Turns as turn
 use Rattle.mk_clean.specs.Turns.{Turn, MayTurns}
 use Rattle.mk_decision.specs.Decisions.{Work}
 use Rattle.mk_meta.specs.TrueHistory.{IsTrueHistory}
-use Rattle.mk_trace.specs.Builds.{IsBuild, Makes, Moment, first_build, build_after_all}
-use Rattle.mk_trace.specs.Calls.{GivesUpLast, NoneLeft}
+use Rattle.mk_trace.specs.Builds.{IsBuild, Makes, Moment, first_build, build_after_all, rules_of}
+use Rattle.mk_trace.specs.Calls.{GivesUpLast}
 use Rattle.mk_trace.specs.Ends.{IsOver}
 use Rattle.mk_decision.specs.Makers.{jobs_of}
 use Rattle.mk_trace.specs.Items.{Item, looks, keeps, refuses, starts, passes, waits, steps, ends, changes, leaves, Happened}
@@ -20,6 +20,7 @@ use Rattle.mk_world.specs.Talks.{Meaning}
 use Rattle.mk_world.specs.Told.{Told}
 use Rattle.mk_world.specs.declared.history.History.{History}
 use Rattle.mk_headline.specs.Plans.{clean_plan, has_job}
+use Rattle.mk_plan.specs.Deciding.{is_stopped}
 use Rattle.mk_plan.specs.Plans.{node_at}
 use Rattle.mk_plan.specs.declared.plan.NodeState.TheVariants.{Settled}
 use Rattle.mk_headline.specs.Premises.{IsWellMade, GoesByMetaMode}
@@ -35,8 +36,10 @@ pub record IsBuildOfTurns (meaning : Meaning) (work : Work) (tasks : Tasks) (ite
     pub may : MayTurns meaning (clean_plan work tasks) (turn.first_build (files_of old)) turns
     pub files : (turn.after_turns (clean_plan work tasks) (turn.first_build (files_of old)) turns).files
         ≡ files_of new
-    -- a node that is settled in the build is so in the turns
-    pub settled_are : (node : ℕ)
+    -- a node that is settled in the build is so in the turns, unless a failure has stopped the run, behind
+    -- which a job ends with its next line
+    pub settled_are : is_stopped (rules_of work) (build_after_all work tasks (first_build work) items).run.nodes
+        ≡ false → (node : ℕ)
         → slice_get (build_after_all work tasks (first_build work) items).run.nodes node ≡ Some Settled
         → (turn.after_turns (clean_plan work tasks) (turn.first_build (files_of old)) turns).stage node
         ≡ turn.settled
@@ -55,24 +58,23 @@ KeepsNoJob work (ends node number owner ended ∷ items) = KeepsNoJob work items
 KeepsNoJob work (changes node change ∷ items) = KeepsNoJob work items
 KeepsNoJob work (leaves ticket owner ∷ items) = KeepsNoJob work items
 
--- A build that keeps no node with commands, and in which nothing has failed so far, is one of turns.
+-- A build that keeps no node with commands is one of turns, whatever has failed so far.
 abbrev pub FirstBuildsAreTurns : Type 0
 FirstBuildsAreTurns =
     (meaning : Meaning) (work : Work) (tasks : Tasks) (items : List Item) (old new : History)
     → (state_of old).children ≡ [] → IsWellMade work → KeepsNoJob work items
-    → Makes work tasks (first_build work) items → Happened meaning items old new → NoneLeft items
-    → (build_after_all work tasks (first_build work) items).failure ≡ None
+    → Makes work tasks (first_build work) items → Happened meaning items old new → GivesUpLast items
     → IsBuildOfTurns meaning work tasks items old new
 
--- A build in meta mode in which nothing has failed so far is one of turns, whichever nodes it has kept.
+-- A build in meta mode is one of turns, whichever nodes it has kept, whatever has failed so far, and
+-- whichever children were given up.
 abbrev pub BuildsAreTurns : Type 0
 BuildsAreTurns =
     (meaning : Meaning) (work : Work) (tasks : Tasks) (items : List Item) (old new : History)
     → IsLawful meaning old → (state_of old).children ≡ [] → IsTrueHistory meaning.next old
     → IsWellMade work → GoesByMetaMode work tasks
     → IsDeclared (clean_plan work tasks) (clean_build meaning (clean_plan work tasks) (files_of old))
-    → Makes work tasks (first_build work) items → Happened meaning items old new → NoneLeft items
-    → (build_after_all work tasks (first_build work) items).failure ≡ None
+    → Makes work tasks (first_build work) items → Happened meaning items old new → GivesUpLast items
     → IsBuildOfTurns meaning work tasks items old new
 
 -- A build begins so: where no child runs, in a history that may have come about, in which each meta file that
@@ -87,14 +89,20 @@ pub record IsReady (meaning : Meaning) (work : Work) (tasks : Tasks) (old : Hist
   pub declared : IsDeclared (clean_plan work tasks)
       (clean_build meaning (clean_plan work tasks) (files_of old))
 
--- In a build in which nothing has failed so far, jobs have kept apart.
+-- In a build jobs have kept apart, whatever has failed so far, and whichever children were given up.
 abbrev pub BuildsKeepApart : Type 0
 BuildsKeepApart =
     (meaning : Meaning) (work : Work) (tasks : Tasks) (items : List Item) (old new : History)
     → IsReady meaning work tasks old → Makes work tasks (first_build work) items
-    → Happened meaning items old new → NoneLeft items
-    → (build_after_all work tasks (first_build work) items).failure ≡ None
-    → IsApart work tasks items
+    → Happened meaning items old new → GivesUpLast items → IsApart work tasks items
+
+-- So meta files tell what happened behind the items of a build, at whatever moment, whatever has failed, and however
+-- it ends.
+abbrev pub BuildsStayTrue : Type 0
+BuildsStayTrue =
+    (meaning : Meaning) (work : Work) (tasks : Tasks) (items : List Item) (old new : History)
+    → IsReady meaning work tasks old → Makes work tasks (first_build work) items
+    → Happened meaning items old new → GivesUpLast items → IsTrueHistory meaning.next new
 
 -- A build leaves what the clean build leaves: that goes well, each file that its nodes make has the bytes
 -- that it gives it, and each step of the build is a step of the same node in it. Its jobs have kept apart,
@@ -104,7 +112,7 @@ pub record IsClean (meaning : Meaning) (work : Work) (tasks : Tasks) (items : Li
   where
     pub files : HasCleanFiles meaning (clean_plan work tasks) (files_of old) (files_of new)
     pub built : IsBuildOfTurns meaning work tasks items old new
-    pub steps_are : DoesCleanSteps (clean_build meaning (clean_plan work tasks) (files_of old)) built.turns
+    pub steps_are : DoesCleanSteps (clean_plan work tasks) (clean_build meaning (clean_plan work tasks) (files_of old)) built.turns
         (turn.after_turns (clean_plan work tasks) (turn.first_build (files_of old)) built.turns)
     pub apart : IsApart work tasks items
     pub truth : IsTrueHistory meaning.next new

@@ -1,11 +1,11 @@
 -- A build as turns: what each item of it is beside the clean build.
-use Rattle.std.specs.Prelude.{◌≡◌, ◌⊎◌, ℕ, ◌==◌, nat_le, List, [], ◌∷◌, ◌++◌, length, Some, if◌then◌else◌}
+use Rattle.std.specs.Prelude.{◌≡◌, ◌⊎◌, ℕ, ◌==◌, nat_le, Bool, true, false, List, [], ◌∷◌, ◌++◌, length, Some, if◌then◌else◌}
 use Rattle.mk_clean.specs.Turns as turn
 use Rattle.mk_clean.specs.Turns.{Turn}
 use Rattle.mk_decision.specs.Decisions.{Work}
 use Rattle.mk_trace.specs.Builds.{Build, build_after}
 use Rattle.mk_trace.specs.Items.{Change, gone, head, whole, cut_head, cut_whole, Item, looks, keeps, refuses, starts, passes, waits, steps, ends, changes, leaves, path_of}
-use Rattle.mk_trace.specs.Runs.{Tasks}
+use Rattle.mk_trace.specs.Runs.{Tasks, fails, line_of}
 use Rattle.mk_trace.specs.Together.{HasChild}
 
 -- a job begins with its first line
@@ -17,13 +17,18 @@ abbrev pub settled_by : Tasks → ℕ → ℕ → List Turn
 settled_by tasks node number =
     if nat_le (length (tasks node)) number then turn.settles node ∷ [] else []
 
--- what make changes of meta files
-abbrev pub put_by : Change → List Turn
-put_by (gone path time) = []
-put_by (head path bytes time) = turn.puts_meta path (Some bytes) ∷ []
-put_by (whole path bytes time) = turn.puts_meta path (Some bytes) ∷ []
-put_by (cut_head path part time) = turn.puts_meta path (Some part) ∷ []
-put_by (cut_whole path part time) = turn.puts_meta path (Some part) ∷ []
+-- a line ends, or fails
+abbrev pub ended_by : Tasks → ℕ → ℕ → Bool → List Turn
+ended_by tasks node number true = turn.fails node ∷ []
+ended_by tasks node number false = turn.ends_line node ∷ settled_by tasks node number
+
+-- what make changes: the target of a node that has failed, and meta files
+abbrev pub put_by : ℕ → Change → List Turn
+put_by node (gone path time) = turn.removes node ∷ []
+put_by node (head path bytes time) = turn.puts_meta path (Some bytes) ∷ []
+put_by node (whole path bytes time) = turn.puts_meta path (Some bytes) ∷ []
+put_by node (cut_head path part time) = turn.puts_meta path (Some part) ∷ []
+put_by node (cut_whole path part time) = turn.puts_meta path (Some part) ∷ []
 
 -- The turns of an item. A look for a decision may count; a step is that of the node whose child does it.
 abbrev pub IsTurned : Tasks → Build → Item → List Turn → Type 0
@@ -40,8 +45,8 @@ IsTurned tasks build (steps ticket owner deed time) turns =
     (node : ℕ) × HasChild build.run node × ((build.own node).ticket ≡ ticket)
     × (turns ≡ turn.steps node deed ∷ [])
 IsTurned tasks build (ends node number owner ended) turns =
-    turns ≡ turn.ends_line node ∷ settled_by tasks node number
-IsTurned tasks build (changes node change) turns = turns ≡ put_by change
+    turns ≡ ended_by tasks node number (fails (line_of (tasks node) number) ended.status)
+IsTurned tasks build (changes node change) turns = turns ≡ put_by node change
 IsTurned tasks build (leaves ticket owner) turns = turns ≡ []
 
 -- The turns of a build, item after item.

@@ -1,21 +1,29 @@
 //! What holds of builds beside the clean one.
-ghost use Rattle.mk_headline.specs.Laws.{BuildsAreClean, BuildsAreTurns, BuildsKeepApart, DoneBuildsAreClean, FirstBuildsAreTurns};
+ghost use Rattle.mk_headline.specs.Laws.{BuildsAreClean, BuildsAreTurns, BuildsKeepApart, BuildsStayTrue, DoneBuildsAreClean, FirstBuildsAreTurns};
 
-/// A build that keeps no node with commands, and in which nothing has failed so far, is one of turns.
+/// A build that keeps no node with commands is one of turns, whatever has failed so far.
 pub fn first_builds_are_turns()
     ensures { FirstBuildsAreTurns }
 {}
 
-/// A build in meta mode in which nothing has failed so far is one of turns, whatever nodes it kept: each item
-/// is one or a few turns that may follow those before them, and the files are those that the turns leave.
+/// A build in meta mode is one of turns, whatever nodes it kept, whatever has failed so far, and whichever
+/// children were given up: each item is one or a few turns that may follow those before them, and the files are
+/// those that the turns leave.
 pub fn builds_are_turns()
     ensures { BuildsAreTurns }
 {}
 
-/// In a build in meta mode in which nothing has failed so far, jobs have kept apart: no child changed a meta
-/// file, and while a job was open, nothing but its own children changed its target, or what these changed.
+/// In a build in meta mode jobs have kept apart, whatever has failed so far, and whichever children were given
+/// up: no child changed a meta file, and while a job was open, nothing but its own children changed its target,
+/// or what these changed.
 pub fn builds_keep_apart()
     ensures { BuildsKeepApart }
+{}
+
+/// So meta files tell what happened at every moment of a build in meta mode: whatever has failed, and however
+/// the build ends.
+pub fn builds_stay_true()
+    ensures { BuildsStayTrue }
 {}
 
 /// Where a build in meta mode is over and nothing failed, it leaves what the clean build leaves, and meta files

@@ -1,5 +1,5 @@
 -- Runs whose builds leave what the clean build leaves.
-use Rattle.std.proofs.Common.{◌≡◌, ◌∙◌, ℕ, List, [], ◌∷◌, Bool, true, Option, Some, Result, Ok, Err, slice_get, if◌then◌else◌}
+use Rattle.std.proofs.Common.{◌≡◌, ◌∙◌, ℕ, List, [], ◌∷◌, Bool, true, false, Option, Some, Result, Ok, Err, slice_get, if◌then◌else◌}
 use Rattle.std.proofs.Common.{inl, inr, refl, sym, ap, subst}
 use Rattle.std.specs.List.{AllByRecursion}
 use Rattle.mk_bytes.specs.Agrees.{◌>>=◌}
@@ -24,6 +24,7 @@ use Rattle.mk_meta.specs.Jobs.{working}
 use Rattle.mk_meta.specs.TrueHistory.{IsTrueHistory, deeds_of_job}
 use Rattle.mk_plan.proofs.PlanLawLemmas.{names_differ, plans_reached, plans_sourced}
 use Rattle.mk_plan.proofs.PlanLemmas.{nodes_of-ordered}
+use Rattle.mk_plan.specs.Deciding.{is_stopped}
 use Rattle.mk_plan.specs.Plans.{are_ordered, node_at, planned}
 use Rattle.mk_bytes.specs.declared.pair.Pair.{Pair}
 use Rattle.mk_plan.specs.Tasks.{task_with}
@@ -35,7 +36,7 @@ use Rattle.mk_scopes.specs.Scopes.{Variables}
 use Rattle.mk_scopes.specs.declared.scopes.Env.{Env}
 use Rattle.mk_trace.proofs.AlongLemmas.{OnlyAsked, questions-children, same-history}
 use Rattle.mk_trace.proofs.QuestionLemmas.{questions-keep-truth}
-use Rattle.mk_trace.specs.Builds.{build_after_all, command_of, first_build}
+use Rattle.mk_trace.specs.Builds.{build_after_all, command_of, first_build, rules_of}
 use Rattle.mk_trace.specs.Items.{Item}
 use Rattle.mk_trace.specs.Runs.{Tasks}
 use Rattle.mk_trace.specs.TrueBuilds.{IsQuestion, LeavesFiles, longer}
@@ -234,14 +235,15 @@ clean-run meaning env order made flags nodes tasks items planned_at old planned_
         may = subst (λ s. MayTurns meaning plan (turn.first_build s) left.built.turns) start left.built.may;
         files = subst (λ s. (turn.after_turns plan (turn.first_build s) left.built.turns).files ≡ files_of new)
             start left.built.files;
-        settled_are = subst (λ s. (node : ℕ)
+        settled_are = subst (λ s. is_stopped (rules_of work) (build_after_all work tasks (first_build work) items).run.nodes
+            ≡ false → (node : ℕ)
             → slice_get (build_after_all work tasks (first_build work) items).run.nodes node ≡ Some Settled
             → (turn.after_turns plan (turn.first_build s) left.built.turns).stage node ≡ turn.settled)
             start left.built.settled_are;
       };
-      steps_are = subst (λ l. DoesCleanSteps l left.built.turns
+      steps_are = subst (λ l. DoesCleanSteps plan l left.built.turns
           (turn.after_turns plan (turn.first_build (files_of old)) left.built.turns)) (sym jobs.0)
-          (subst (λ s. DoesCleanSteps (clean_build meaning plan s) left.built.turns
+          (subst (λ s. DoesCleanSteps plan (clean_build meaning plan s) left.built.turns
           (turn.after_turns plan (turn.first_build s) left.built.turns)) start left.steps_are);
       apart = left.apart;
       truth = left.truth;

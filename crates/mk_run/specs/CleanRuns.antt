@@ -160,7 +160,7 @@ pub record LeavesCleanFiles (meaning : Meaning) (work : Work) (tasks : Tasks) (i
         → files_of new (node_at clean.plan one.node).name
         ≡ clean_files_of meaning clean files (node_at clean.plan one.node).name
     pub built : IsBuildOfTurns meaning work tasks items old new
-    pub steps_are : DoesCleanSteps (clean_jobs_of meaning clean files) built.turns
+    pub steps_are : DoesCleanSteps (clean_plan work tasks) (clean_jobs_of meaning clean files) built.turns
         (turn.after_turns (clean_plan work tasks) (turn.first_build (files_of old)) built.turns)
     pub apart : IsApart work tasks items
     pub truth : IsTrueHistory meaning.next new

@@ -2,14 +2,17 @@
 use Rattle.std.proofs.Common.{◌≡◌, ◌≢◌, ◌⊎◌, ◌∙◌, ℕ, ◌<◌, ◌==◌, Bool, true, false, not, List, [], ◌∷◌, ◌++◌, length, slice_get, Option, Some, None, is_some, if◌then◌else◌}
 use Rattle.std.proofs.Common.{inl, inr, refl, sym, ap, subst, set, arith}
 use Rattle.std.proofs.lemmas.Bool.{false≢true}
+use Rattle.std.specs.List.{AllByRecursion}
 use Rattle.std.specs.Option.{option_map}
 use Rattle.mk_clean.proofs.BesideLemmas.{at_first, turns_keep}
 use Rattle.mk_clean.specs.Clean.{IsAmong, Plan, clean_build}
 use Rattle.mk_clean.specs.Declared.{IsDeclared}
 use Rattle.mk_clean.specs.Turns as turn
 use Rattle.mk_decision.specs.Decisions.{IsBegun, IsKept, Work}
+use Rattle.mk_headline.proofs.ApartLemmas.{keep_apart}
 use Rattle.mk_headline.proofs.FullLemmas.{full_turns}
-use Rattle.mk_headline.proofs.GoodLemmas.{begun-has, failure-all, failure-back}
+use Rattle.mk_headline.proofs.GoodLemmas.{begun-has}
+use Rattle.mk_headline.proofs.LateLemmas.{IsLate, last-parts, late-all-same, late-makes, none-given}
 use Rattle.mk_headline.proofs.PastLemmas.{Past, none-first, past-more}
 use Rattle.mk_headline.proofs.PlanLemmas.{are-well-made, job-has}
 use Rattle.mk_headline.specs.Laws.{IsBuildOfTurns}
@@ -18,7 +21,8 @@ use Rattle.mk_headline.specs.Premises.{IsWellMade}
 use Rattle.mk_meta.specs.TrueHistory.{IsTrueHistory}
 use Rattle.mk_plan.specs.Lists.{is_nil}
 use Rattle.mk_plan.specs.Plans.{node_at}
-use Rattle.mk_plan.specs.declared.plan.NodeState.TheVariants.{Open, Settled}
+use Rattle.mk_plan.specs.declared.plan.NodeState.{NodeState}
+use Rattle.mk_plan.specs.declared.plan.NodeState.TheVariants.{Failed, Open, Settled}
 use Rattle.mk_run.proofs.CleanRunLemmas.{same-jobs}
 use Rattle.mk_run.specs.CleanRuns.{bare, clean_jobs_of}
 use Rattle.mk_sound.proofs.AgreeLemmas.{Agree, build-agrees, goes_by, make-agrees, node_of, run-agrees}
@@ -27,13 +31,14 @@ use Rattle.mk_sound.proofs.SourceLemmas.{IsStill, SawRight, task-lines}
 use Rattle.mk_sound.specs.Sound.{BuildsHaveCleanTasks, IsSound}
 use Rattle.mk_trace.proofs.BegunLemmas.{Steady, end-open, steady-all}
 use Rattle.mk_trace.proofs.ItemLemmas.{state_of-happened}
+use Rattle.mk_trace.proofs.TrueLemmas.{meta_files_true}
 use Rattle.mk_trace.proofs.TrueRuns.{slice-same}
-use Rattle.mk_trace.specs.Builds.{Build, HasReason, Makes, MayChange, MayFollow, MayMake, build_after, build_after_all, due_change, first_build, free, begin, date, close, or_next, rules_of}
-use Rattle.mk_trace.specs.Calls.{NoneLeft}
+use Rattle.mk_trace.specs.Builds.{Build, HasReason, Makes, MayChange, MayFollow, MayMake, build_after, build_after_all, due_change, first_build, free, begin, date, close, rules_of}
+use Rattle.mk_trace.specs.Calls.{GivesUpLast, NoneLeft}
 use Rattle.mk_trace.specs.Items.{Change, gone, head, whole, cut_head, cut_whole, Fits, FitsAll, Happened, IsSeenIn, Item, looks, keeps, refuses, starts, passes, waits, steps, ends, changes, leaves, happened, happened_all, reported}
 use Rattle.mk_trace.specs.Runs as run
 use Rattle.mk_trace.specs.TrueBuilds.{IsOpenJob, behind}
-use Rattle.mk_trace.specs.declared.result.Failure.{Failure}
+use Rattle.mk_values.specs.declared.fault.ExpandFault.{ExpandFault}
 use Rattle.mk_world.proofs.CallLemmas.{MayAll-parts}
 use Rattle.mk_world.specs.Calls.{when_of}
 use Rattle.mk_world.specs.Deeds.{Store}
@@ -71,10 +76,6 @@ none-has : (commands : List (List ℕ)) → commands ≡ [] → not (is_nil comm
 none-has [] is has = absurd (false≢true has)
 none-has (one ∷ commands) is has = cc
 
-refuse-fails : (failure : Option Failure) (next : Failure) → or_next failure (Some next) ≡ None → ⊥
-refuse-fails None next is = absurd cc
-refuse-fails (Some failure) next is = absurd cc
-
 module _ (meaning : Meaning) (work : Work) (lines tasks : run.Tasks) (old : History)
     (lawful : IsLawful meaning old) (idle : (state_of old).children ≡ [])
     (truth : IsTrueHistory meaning.next old) (well : IsWellMade work)
@@ -111,16 +112,16 @@ module _ (meaning : Meaning) (work : Work) (lines tasks : run.Tasks) (old : Hist
         → Happened meaning done old (behind old done)
     happens done build stand past = record { base = refl; events = refl; lawful = past.happens; fits = past.fits }
 
-    turned : (done : List Item) (build : Build) (stand : Stand) → IsPast done build stand → build.failure ≡ None
+    turned : (done : List Item) (build : Build) (stand : Stand) → IsPast done build stand
         → IsBuildOfTurns meaning work lines done old (behind old done)
-    turned done build stand past fine =
+    turned done build stand past =
         full_turns meaning work lines done old (behind old done) lawful idle truth well sound.mode declared past.makes
-        (happens done build stand past) past.none (ap (λ (b : Build). b.failure) past.at ∙ fine)
+        (happens done build stand past) (none-given done past.none)
 
-    still-is : (done : List Item) (build : Build) (stand : Stand) → IsPast done build stand → build.failure ≡ None
+    still-is : (done : List Item) (build : Build) (stand : Stand) → IsPast done build stand
         → (path : List ℕ) → IsStill meaning work lines store sound path → contents stand.files path ≡ store path
-    still-is done build stand past fine path still =
-        let built = turned done build stand past fine in
+    still-is done build stand past path still =
+        let built = turned done build stand past in
         let beside = turns_keep meaning plan store declared (are-well-made meaning work lines store well)
         (turn.first_build store) built.turns
         (at_first meaning plan store declared (are-well-made meaning work lines store well)) built.may in
@@ -130,20 +131,20 @@ module _ (meaning : Meaning) (work : Work) (lines tasks : run.Tasks) (old : Hist
         ap (λ (files : Store). files path) (sym now)
         ∙ (ap (λ (files : Store). files path) (sym built.files)
         ∙ beside.sources path
-        (λ one among. still.alone one (subst (IsAmong one) (sym jobs-are) among)) still.no_meta)
+        (λ one among. still.alone one (subst (IsAmong one) (sym jobs-are) among)) still.no_made still.no_meta)
 
     -- looks saw that
 
     abbrev SeenRight : Build → Type 0
     SeenRight build = (node : ℕ) (look : Seen) → IsAmong look (build.seen node) → Right look
 
-    look-right : (done : List Item) (build : Build) (stand : Stand) → IsPast done build stand → build.failure ≡ None
+    look-right : (done : List Item) (build : Build) (stand : Stand) → IsPast done build stand
         → (look : Seen) → IsSeenIn stand look → Right look
-    look-right done build stand past fine (dated one) is = λ still.
+    look-right done build stand past (dated one) is = λ still.
         ap (λ when. not (is_missing when)) is
         ∙ (when-is stand.files one.path
-        ∙ ap (λ (bytes : Option (List ℕ)). is_some bytes) (still-is done build stand past fine one.path still))
-    look-right done build stand past fine (read path bytes) is = tt
+        ∙ ap (λ (bytes : Option (List ℕ)). is_some bytes) (still-is done build stand past one.path still))
+    look-right done build stand past (read path bytes) is = tt
 
     seen-more : (build : Build) (node : ℕ) (new : Seen) → SeenRight build → Right new → (own : Bool) (look : Seen)
         → IsAmong look (if own then build.seen node ++ new ∷ [] else build.seen node) → Right look
@@ -155,19 +156,19 @@ module _ (meaning : Meaning) (work : Work) (lines tasks : run.Tasks) (old : Hist
     seen-more build node new right fresh false look among = right node look among
 
     seen-next : (done : List Item) (build : Build) (stand : Stand) (item : Item) → IsPast done build stand
-        → build.failure ≡ None → Fits meaning stand item → SeenRight build
+        → Fits meaning stand item → SeenRight build
         → SeenRight (build_after work tasks build item)
-    seen-next done build stand (looks n seen) past fine fits right = λ node look among.
-        seen-more build node seen right (look-right done build stand past fine seen fits) (node == n) look among
-    seen-next done build stand (keeps n) past fine fits right = right
-    seen-next done build stand (refuses n number what) past fine fits right = right
-    seen-next done build stand (starts n number ticket owner cmd) past fine fits right = right
-    seen-next done build stand (passes n number) past fine fits right = right
-    seen-next done build stand waits past fine fits right = right
-    seen-next done build stand (steps ticket owner deed time) past fine fits right = right
-    seen-next done build stand (ends n number owner ended) past fine fits right = right
-    seen-next done build stand (changes n change) past fine fits right = right
-    seen-next done build stand (leaves ticket owner) past fine fits right = right
+    seen-next done build stand (looks n seen) past fits right = λ node look among.
+        seen-more build node seen right (look-right done build stand past seen fits) (node == n) look among
+    seen-next done build stand (keeps n) past fits right = right
+    seen-next done build stand (refuses n number what) past fits right = right
+    seen-next done build stand (starts n number ticket owner cmd) past fits right = right
+    seen-next done build stand (passes n number) past fits right = right
+    seen-next done build stand waits past fits right = right
+    seen-next done build stand (steps ticket owner deed time) past fits right = right
+    seen-next done build stand (ends n number owner ended) past fits right = right
+    seen-next done build stand (changes n change) past fits right = right
+    seen-next done build stand (leaves ticket owner) past fits right = right
 
     -- the lines of a node that is decided
 
@@ -288,53 +289,87 @@ module _ (meaning : Meaning) (work : Work) (lines tasks : run.Tasks) (old : Hist
         opens other is (inr (inr (inl due))) = let clash : free ≡ date other = sym duty ∙ due in absurd cc
         opens other is (inr (inr (inr due))) = let clash : free ≡ close other = sym duty ∙ due in absurd cc
 
+    -- a node that is refused has no lines
+    refuse-step : (build : Build) (node number : ℕ) (what : ExpandFault) → Known work lines tasks build
+        → build.duty ≡ free → Step build (refuses node number what)
+    refuse-step build node number what known duty = record {
+      agree = λ other is. absurd cc;
+      kept = λ other is. absurd cc;
+      known = known-next work lines tasks build (refuses node number what) known opens dones;
+    }
+      where
+        same-some : (other : ℕ) → ◌≡◌ {A = Option ℕ} (Some node) (Some other) → node ≡ other
+        same-some other is = cc
+
+        at : {stands : NodeState} (other : ℕ) → node_of (refuses node number what) ≡ Some other
+            → slice_get (set build.run.nodes node Failed) other ≡ Some stands → Failed ≡ stands
+        at {stands} other is there =
+            slice-same build.run.nodes node Failed stands
+            (subst (λ n. slice_get (set build.run.nodes node Failed) n ≡ Some stands) (sym (same-some other is)) there)
+
+        opens : (other : ℕ) → node_of (refuses node number what) ≡ Some other
+            → IsOpenJob (build_after work tasks build (refuses node number what)) other → tasks other ≡ lines other
+        opens other is (inl is_open) = let clash : Failed ≡ Open = at other is is_open in absurd cc
+        opens other is (inr (inl due)) = let clash : free ≡ begin other = sym duty ∙ due in absurd cc
+        opens other is (inr (inr (inl due))) = let clash : free ≡ date other = sym duty ∙ due in absurd cc
+        opens other is (inr (inr (inr due))) = let clash : free ≡ close other = sym duty ∙ due in absurd cc
+
+        dones : (other : ℕ) → node_of (refuses node number what) ≡ Some other
+            → has_job (node_at work.plan other) ≡ true
+            → slice_get (build_after work tasks build (refuses node number what)).run.nodes other ≡ Some Settled
+            → tasks other ≡ lines other
+        dones other is has settled = let clash : Failed ≡ Settled = at other is settled in absurd cc
+
     step : (build : Build) (item : Item) → Known work lines tasks build → SeenRight build
         → Steady build.run.nodes build.run.due → run.MayAll (rules_of work) tasks build.run (reported item)
         → MayFollow work build.duty item → MayMake work tasks build item
-        → (build_after work tasks build item).failure ≡ None → NoneLeft (item ∷ []) → Step build item
-    step build (looks n seen) known right steady may follow make fine none =
+        → NoneLeft (item ∷ []) → Step build item
+    step build (looks n seen) known right steady may follow make none =
         by-none build (looks n seen) known refl refl (λ other is. cc)
-    step build (keeps n) known right steady may follow make fine none = keep-step build n known right follow make
-    step build (refuses n number what) known right steady may follow make fine none =
-        absurd (refuse-fails build.failure _ fine)
-    step build (starts n number ticket owner cmd) known right steady may follow make fine none =
+    step build (keeps n) known right steady may follow make none = keep-step build n known right follow make
+    step build (refuses n number what) known right steady may follow make none =
+        refuse-step build n number what known follow
+    step build (starts n number ticket owner cmd) known right steady may follow make none =
         by-lines build (starts n number ticket owner cmd) n known (λ other is. cc) (λ other is. is) (λ other is. cc)
         (λ other is. start-lines build n number build.run.due known right steady may.0 make.0)
-    step build (passes n number) known right steady may follow make fine none =
+    step build (passes n number) known right steady may follow make none =
         by-lines build (passes n number) n known (λ other is. cc) (λ other is. is) (λ other is. cc)
         (λ other is. start-lines build n number build.run.due known right steady may.0 make)
-    step build waits known right steady may follow make fine none =
+    step build waits known right steady may follow make none =
         by-none build waits known refl refl (λ other is. cc)
-    step build (steps ticket owner deed time) known right steady may follow make fine none =
+    step build (steps ticket owner deed time) known right steady may follow make none =
         by-none build (steps ticket owner deed time) known refl refl (λ other is. cc)
-    step build (ends n number owner ended) known right steady may follow make fine none =
+    step build (ends n number owner ended) known right steady may follow make none =
         by-lines build (ends n number owner ended) n known (λ other is. cc) (λ other is. is) (λ other is. cc)
         (λ other is. known.in_hand n (inl (end-open build.run n number ended.status build.run.due steady may.0)))
-    step build (changes n change) known right steady may follow make fine none =
+    step build (changes n change) known right steady may follow make none =
         by-lines build (changes n change) n known (λ other is. change-of n other change is) (λ other is. is)
         (λ other is. cc) (change-lines build n change known right follow make)
-    step build (leaves ticket owner) known right steady may follow make fine none = absurd none
+    step build (leaves ticket owner) known right steady may follow make none = absurd none
 
-    walk : (done todo : List Item) (build : Build) (stand : Stand) → IsPast done build stand
+    -- the items to come are those of the build with these lines, and what is known behind them
+    record Walked (build : Build) (todo : List Item) : Type 0 where
+      makes : Makes work lines build todo
+      known : Known work lines tasks (build_after_all work tasks build todo)
+
+    walk : (tail done todo : List Item) (build : Build) (stand : Stand) → IsPast done build stand
         → Known work lines tasks build → SeenRight build → Steady build.run.nodes build.run.due
-        → Makes work tasks build todo → MayHappen meaning stand (happened_all todo) → FitsAll meaning stand todo
-        → NoneLeft todo → (build_after_all work tasks build todo).failure ≡ None
-        → Known work lines tasks (build_after_all work tasks build todo)
-    walk done [] build stand past known right steady makes may fits none fine = known
-    walk done (item ∷ todo) build stand past known right steady makes may fits none fine =
-        walk (done ++ item ∷ []) todo (build_after work tasks build item) (stand_after stand (happened item))
-        (subst (λ b. IsPast (done ++ item ∷ []) b (stand_after stand (happened item))) same
-        (past-more meaning work lines entry idle done build stand item past makes_lines parts.0 fits.0 apart.0))
-        here.known
-        (seen-next done build stand item past fine_now fits.0 right)
-        (steady-all (rules_of work) tasks build.run (reported item) steady makes.0) makes.3 parts.1 fits.1 apart.1 fine
+        → Makes work tasks build (todo ++ tail) → MayHappen meaning stand (happened_all todo)
+        → FitsAll meaning stand todo → NoneLeft todo → AllByRecursion IsLate tail → Walked build (todo ++ tail)
+    walk tail done [] build stand past known right steady makes may fits none late = record {
+      makes = late-makes work lines build tail late;
+      known = subst (Known work lines tasks) (sym (late-all-same work tasks build tail late)) known;
+    }
+    walk tail done (item ∷ todo) build stand past known right steady makes may fits none late = record {
+      makes = (
+        one_makes.0,
+        one_makes.1,
+        one_makes.2,
+        subst (λ b. Makes work lines b (todo ++ tail)) (sym same) rest.makes,
+      );
+      known = rest.known;
+    }
       where
-        fine_next : (build_after work tasks build item).failure ≡ None
-        fine_next = failure-all work tasks (build_after work tasks build item) todo fine
-
-        fine_now : build.failure ≡ None
-        fine_now = failure-back work tasks build item fine_next
-
         apart : NoneLeft (item ∷ []) × NoneLeft todo
         apart = none-first item todo none
 
@@ -343,21 +378,56 @@ module _ (meaning : Meaning) (work : Work) (lines tasks : run.Tasks) (old : Hist
         parts = MayAll-parts meaning stand (happened item) (happened_all todo) may
 
         here : Step build item
-        here = step build item known right steady makes.0 makes.1 makes.2 fine_next apart.0
+        here = step build item known right steady makes.0 makes.1 makes.2 apart.0
 
         same : build_after work lines build item ≡ build_after work tasks build item
         same = build-agrees work tasks lines build item here.agree
 
-        makes_lines : Makes work lines build (item ∷ [])
-        makes_lines = (
+        one_makes : Makes work lines build (item ∷ [])
+        one_makes = (
           run-agrees work tasks lines build item here.agree makes.0,
           makes.1,
           make-agrees work tasks lines build item here.agree here.kept makes.2,
           tt,
         )
 
+        rest : Walked (build_after work tasks build item) (todo ++ tail)
+        rest =
+            walk tail (done ++ item ∷ []) todo (build_after work tasks build item) (stand_after stand (happened item))
+            (subst (λ b. IsPast (done ++ item ∷ []) b (stand_after stand (happened item))) same
+            (past-more meaning work lines entry idle done build stand item past one_makes parts.0 fits.0 apart.0))
+            here.known
+            (seen-next done build stand item past fits.0 right)
+            (steady-all (rules_of work) tasks build.run (reported item) steady makes.0) makes.3 parts.1 fits.1 apart.1
+            late
+
+    pub walked : (items : List Item) (new : History) → Makes work tasks (first_build work) items
+        → Happened meaning items old new → GivesUpLast items → Walked (first_build work) items
+    walked items new makes happens last =
+        let tail = last.left ++ last.late in
+        let parts = last-parts meaning work tasks entry items last makes happens.lawful happens.fits in
+        subst (Walked (first_build work)) (sym last.are)
+        (walk tail [] last.front (first_build work) entry
+        (record { at = refl; stand_at = refl; makes = tt; happens = tt; fits = tt; none = tt })
+        (known-first work lines tasks) (λ node look among. absurd among) tt
+        (subst (Makes work tasks (first_build work)) last.are makes) parts.happens parts.fits last.none parts.late)
+
+    -- so meta files stay true
+    pub truth-behind : (items : List Item) (new : History) → Makes work tasks (first_build work) items
+        → Happened meaning items old new → GivesUpLast items → IsTrueHistory meaning.next new
+    truth-behind items new makes happens last =
+        let makes_lines = (walked items new makes happens last).makes in
+        meta_files_true meaning work lines items old new lawful idle truth makes_lines happens last
+        (keep_apart meaning work lines items old new
+        (record {
+          lawful = lawful;
+          idle = idle;
+          truth = truth;
+          well_made = well;
+          mode = sound.mode;
+          declared = declared;
+        }) makes_lines happens last)
+
 pub have_clean_tasks : BuildsHaveCleanTasks
-have_clean_tasks meaning work lines tasks items old new lawful idle truth well sound makes happens none fine =
-    (walk meaning work lines tasks old lawful idle truth well sound [] items (first_build work) (state_of old)
-    (record { at = refl; stand_at = refl; makes = tt; happens = tt; fits = tt; none = tt })
-    (known-first work lines tasks) (λ node look among. absurd among) tt makes happens.lawful happens.fits none fine).done
+have_clean_tasks meaning work lines tasks items old new lawful idle truth well sound makes happens last =
+    (walked meaning work lines tasks old lawful idle truth well sound items new makes happens last).known.done

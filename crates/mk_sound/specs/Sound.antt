@@ -24,7 +24,7 @@ use Rattle.mk_run.specs.CleanRuns.{IsPlannedOn, LeavesCleanFiles, bare, by_files
 use Rattle.mk_run.specs.TrueRuns.{Built, IsTrueOrderRun, build, build_of, dry}
 use Rattle.mk_scopes.specs.declared.scopes.Env.{Env}
 use Rattle.mk_trace.specs.Builds.{Makes, build_after_all, first_build}
-use Rattle.mk_trace.specs.Calls.{NoneLeft}
+use Rattle.mk_trace.specs.Calls.{GivesUpLast}
 use Rattle.mk_trace.specs.Items.{Happened, Item}
 use Rattle.mk_trace.specs.Runs.{Tasks}
 use Rattle.mk_trace.specs.TrueBuilds.{LeavesFiles, longer}
@@ -62,14 +62,14 @@ HaveLines work lines tasks items =
     → slice_get (build_after_all work tasks (first_build work) items).run.nodes node ≡ Some Settled
     → tasks node ≡ lines node
 
--- A build in which nothing has failed so far has the tasks of the clean build, where that is sound.
+-- A build has the tasks of the clean build, where that is sound, whatever has failed so far.
 abbrev pub BuildsHaveCleanTasks : Type 0
 BuildsHaveCleanTasks =
     (meaning : Meaning) (work : Work) (lines tasks : Tasks) (items : List Item) (old new : History)
     → IsLawful meaning old → (state_of old).children ≡ [] → IsTrueHistory meaning.next old → IsWellMade work
     → IsSound meaning work lines (files_of old)
-    → Makes work tasks (first_build work) items → Happened meaning items old new → NoneLeft items
-    → (build_after_all work tasks (first_build work) items).failure ≡ None → HaveLines work lines tasks items
+    → Makes work tasks (first_build work) items → Happened meaning items old new → GivesUpLast items
+    → HaveLines work lines tasks items
 
 -- Before a run, in which at least one job may run at once: no child runs, the history is one that may have come
 -- about, and each meta file that stands tells what happened. The commands that the run asks with `!=` change no file.
@@ -114,3 +114,16 @@ RunsLeaveCleanFiles =
     → (node : ℕ) → makes_file (node_at work.plan node) ≡ true
     → files_of new (node_at work.plan node).name
     ≡ clean_files_of meaning work (bare work.plan (files_of old)) (node_at work.plan node).name
+
+-- When a run has built, and its clean build is sound, the history behind it may have come about, and each meta file that
+-- stands tells what happened: whatever failed, whoever was given up, and however the run ended. So the next run begins as
+-- this one did.
+abbrev pub SoundRunsStayTrue : Type 0
+SoundRunsStayTrue =
+    (meaning : Meaning) (words : List (List ℕ)) (env : Env) (order : Order) (first last : Point) (err : Held)
+    (report : Report) (run : IsTrueOrderRun meaning words env order first last err report) (old new : History)
+    (planned_at : Option History) (work : Work) (lines tasks : Tasks) (items : List Item)
+    → first.history ≡ Some old → last.history ≡ Some new
+    → build_of run.run ≡ Some (build planned_at work tasks items)
+    → IsSoundRun meaning env order planned_at work lines old
+    → IsLawful meaning new × IsTrueHistory meaning.next new
