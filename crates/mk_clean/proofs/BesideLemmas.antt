@@ -4,9 +4,9 @@ use Rattle.std.proofs.Common.{◌≡◌, ◌≢◌, ◌⊎◌, inl, inr, ⊎_eli
 use Rattle.std.proofs.lemmas.Bool.{eqb-false, false≢true}
 use Rattle.std.proofs.lemmas.Slice.Eq.{bytes_eq-Decides}
 use Rattle.std.specs.Str.{bytes_eq}
-use Rattle.mk_clean.proofs.CleanLemmas.{after_over, after_none, put_elsewhere, bool_two, over_changed, changed_first, changed_last, step_elsewhere, doings_in_clean, untouched, left_by, left_at_end, job_of_node, before_among, agree_on}
+use Rattle.mk_clean.proofs.CleanLemmas.{after_over, after_none, put_elsewhere, bool_two, over_changed, changed_first, changed_last, step_elsewhere, doings_in_clean, untouched, left_by, left_at_end, job_of_node, before_among, agree_on, among_first, among_last}
 use Rattle.mk_clean.proofs.JobLemmas.{JobTalks, IsJob, job_is, job_agree}
-use Rattle.mk_clean.specs.Clean.{Plan, IsAmong, DependsOn, CleanJob, deeds_of, doings_on, cleared, clean_build, clean_files, AllWell, IsWell, is_changed, Changes, LeavesIt, StandsBefore}
+use Rattle.mk_clean.specs.Clean.{Plan, lines_in, IsAmong, DependsOn, CleanJob, deeds_of, doings_on, cleared, clean_build, clean_files, AllWell, IsWell, is_changed, Changes, LeavesIt, StandsBefore}
 use Rattle.mk_clean.specs.Declared.{IsSource, IsMadeBefore, IsOwn, IsPrivate, IsDeclared, AreWellMade}
 use Rattle.mk_clean.specs.Jobs.{goes_on}
 use Rattle.mk_clean.specs.Same.{BuildsAreClean}
@@ -168,17 +168,6 @@ next_deed next cmd seen deed (first ∷ more) rest status output files clean rig
 
 -- what a step takes from outside belongs to what all of them take
 
-among_last : (paths more : List (List ℕ)) (path : List ℕ) → IsAmong path more
-    → IsAmong path (paths ++ more)
-among_last [] more path among = among
-among_last (one ∷ paths) more path among = inr (among_last paths more path among)
-
-among_first : (paths more : List (List ℕ)) (path : List ℕ) → IsAmong path paths
-    → IsAmong path (paths ++ more)
-among_first [] more path among = absurd among
-among_first (one ∷ paths) more path (inl is) = inl is
-among_first (one ∷ paths) more path (inr among) = inr (among_first paths more path among)
-
 outer_behind : (over : Over) (deeds more : List Deed) (path : List ℕ)
     → IsAmong path (outer (over_deeds over deeds) more) → IsAmong path (outer over (deeds ++ more))
 outer_behind over [] more path among = among
@@ -321,7 +310,7 @@ module _ (meaning : Meaning) (plan : Plan) (store : Store)
       where
         by : IsSource plan all path ⊎ IsMadeBefore plan all one path → one.before path ≡ build.files path
         by (inl is) =
-            (untouched meaning plan path plan.order (cleared plan store) is.alone).1 one among
+            (untouched meaning plan.command (lines_in plan) path plan.order (cleared plan store) is.alone).1 one among
             ∙ (cleared_at path is.no_made is.no_meta
             ∙ sym (beside.sources path is.alone is.no_made is.no_meta))
         by (inr is) =
@@ -331,7 +320,7 @@ module _ (meaning : Meaning) (plan : Plan) (store : Store)
             let now : build.files (plan.node is.maker.node).name ≡ Some file.bytes =
             made_it.1 is.made (Some file.bytes) file.is in
             let before : one.before (plan.node is.maker.node).name ≡ Some file.bytes =
-            left_by meaning plan (plan.node is.maker.node).name (Some file.bytes) is.maker file.is plan.order
+            left_by meaning plan.command (lines_in plan) (plan.node is.maker.node).name (Some file.bytes) is.maker file.is plan.order
             (cleared plan store)
             (λ later stands. later_leaves is.maker later stands (plan.node is.maker.node).name
             (over_changed (plan.node is.maker.node).name (Some file.bytes) (deeds_of is.maker) file.is))
@@ -444,7 +433,7 @@ module _ (meaning : Meaning) (plan : Plan) (store : Store)
             → IsWell plan one × HasItsFile plan one build.files
         kept_own one among waits settled_are keep =
             let ran : one.doings ≡ doings_on meaning plan one.node one.before =
-            doings_in_clean meaning plan plan.order (cleared plan store) one among in
+            doings_in_clean meaning plan.command (lines_in plan) plan.order (cleared plan store) one among in
             let agree : AgreeOn one.before (seen_by build one.node) (outer nothing_over (deeds_of one)) =
             agree_on one.before (seen_by build one.node) (outer nothing_over (deeds_of one))
             (λ path reads.
@@ -517,14 +506,14 @@ module _ (meaning : Meaning) (plan : Plan) (store : Store)
           subst (λ k. Ahead meaning.next plan one [] (plan.node k).lines) is (first one among),
           (λ path bytes over. absurd (none_over bytes path over)),
         ))
-        (job_of_node meaning plan node plan.order (cleared plan store) may.2)
+        (job_of_node meaning plan.command (lines_in plan) node plan.order (cleared plan store) may.2)
       where
         first : (one : CleanJob) → IsAmong one all
             → Ahead meaning.next plan one [] (plan.node one.node).lines
         first one among =
             let is : IsJob meaning.next plan.command (plan.node one.node).lines one.before one.doings =
             subst (IsJob meaning.next plan.command (plan.node one.node).lines one.before)
-            (sym (doings_in_clean meaning plan plan.order (cleared plan store) one among))
+            (sym (doings_in_clean meaning plan.command (lines_in plan) plan.order (cleared plan store) one among))
             (job_is meaning plan.command (plan.node one.node).lines one.before) in
             record {
               rest = one.doings;
@@ -915,7 +904,7 @@ module _ (meaning : Meaning) (plan : Plan) (store : Store)
     made_at_end one among well made files has =
         let file = declared.leaves one among well made in
         has made (Some file.bytes) file.is
-        ∙ sym (left_at_end meaning plan (plan.node one.node).name (Some file.bytes) one file.is plan.order
+        ∙ sym (left_at_end meaning plan.command (lines_in plan) (plan.node one.node).name (Some file.bytes) one file.is plan.order
         (cleared plan store)
         (λ later stands. later_leaves one later stands (plan.node one.node).name
         (over_changed (plan.node one.node).name (Some file.bytes) (deeds_of one) file.is)) among)

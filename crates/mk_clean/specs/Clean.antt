@@ -1,5 +1,5 @@
 -- The clean build: what a build does that has nothing of earlier builds, one job after the other.
-use Rattle.std.specs.Prelude.{◌≡◌, ◌⊎◌, ℕ, ◌||◌, List, [], ◌∷◌, None, Bool, true, false, if◌then◌else◌}
+use Rattle.std.specs.Prelude.{◌≡◌, ◌⊎◌, ℕ, ◌||◌, List, [], ◌∷◌, map, None, Bool, true, false, if◌then◌else◌}
 use Rattle.std.specs.List.{list_any}
 use Rattle.std.specs.Str.{bytes_eq}
 use Rattle.mk_clean.specs.Jobs.{goes_on, job}
@@ -50,24 +50,46 @@ pub record CleanJob : Type 0 where
 abbrev pub deeds_of : CleanJob → List Deed
 deeds_of one = deeds_of_job one.doings
 
-abbrev pub doings_on : Meaning → Plan → ℕ → Store → List Doing
-doings_on meaning plan node store = job meaning plan.command (plan.node node).lines store
+-- the lines of each node, by the files that stand at its turn
+abbrev pub Lines : Type 0
+Lines = ℕ → Store → List TaskLine
 
-abbrev pub after_job : Meaning → Plan → ℕ → Store → Store
-after_job meaning plan node store = after_deeds store (deeds_of_job (doings_on meaning plan node store))
+-- what the job of a node does on these files, and what it leaves
+abbrev pub doings_by : Meaning → (TaskLine → Cmd) → Lines → ℕ → Store → List Doing
+doings_by meaning command lines node store = job meaning command (lines node store) store
 
--- its jobs, each on what those before it left
-abbrev pub clean_jobs : Meaning → Plan → List ℕ → Store → List CleanJob
-clean_jobs meaning plan [] store = []
-clean_jobs meaning plan (node ∷ nodes) store =
-    record { node = node; before = store; doings = doings_on meaning plan node store }
-    ∷ clean_jobs meaning plan nodes (after_job meaning plan node store)
+abbrev pub after_by : Meaning → (TaskLine → Cmd) → Lines → ℕ → Store → Store
+after_by meaning command lines node store =
+    after_deeds store (deeds_of_job (doings_by meaning command lines node store))
+
+-- The jobs of these nodes, each on what those before it left, also behind one that failed.
+abbrev pub jobs_by : Meaning → (TaskLine → Cmd) → Lines → List ℕ → Store → List CleanJob
+jobs_by meaning command lines [] store = []
+jobs_by meaning command lines (node ∷ nodes) store =
+    record { node = node; before = store; doings = doings_by meaning command lines node store }
+    ∷ jobs_by meaning command lines nodes (after_by meaning command lines node store)
 
 -- the files behind them
+abbrev pub files_by : Meaning → (TaskLine → Cmd) → Lines → List ℕ → Store → Store
+files_by meaning command lines [] store = store
+files_by meaning command lines (node ∷ nodes) store =
+    files_by meaning command lines nodes (after_by meaning command lines node store)
+
+-- the lines of a plan, whatever files stand
+abbrev pub lines_in : Plan → Lines
+lines_in plan node store = (plan.node node).lines
+
+abbrev pub doings_on : Meaning → Plan → ℕ → Store → List Doing
+doings_on meaning plan = doings_by meaning plan.command (lines_in plan)
+
+abbrev pub after_job : Meaning → Plan → ℕ → Store → Store
+after_job meaning plan = after_by meaning plan.command (lines_in plan)
+
+abbrev pub clean_jobs : Meaning → Plan → List ℕ → Store → List CleanJob
+clean_jobs meaning plan = jobs_by meaning plan.command (lines_in plan)
+
 abbrev pub clean_end : Meaning → Plan → List ℕ → Store → Store
-clean_end meaning plan [] store = store
-clean_end meaning plan (node ∷ nodes) store =
-    clean_end meaning plan nodes (after_job meaning plan node store)
+clean_end meaning plan = files_by meaning plan.command (lines_in plan)
 
 -- The clean build of a plan on the files that stand there.
 abbrev pub clean_build : Meaning → Plan → Store → List CleanJob
@@ -75,6 +97,15 @@ clean_build meaning plan store = clean_jobs meaning plan plan.order (cleared pla
 
 abbrev pub clean_files : Meaning → Plan → Store → Store
 clean_files meaning plan store = clean_end meaning plan plan.order (cleared plan store)
+
+-- What stands at made files and meta files does not count in it: its jobs do the same, and leave the same.
+abbrev pub CleanBuildsForget : Type 0
+CleanBuildsForget =
+    (meaning : Meaning) (plan : Plan) (store other : Store)
+    → ((path : List ℕ) → plan.is_made path ≡ false → plan.is_meta path ≡ false → store path ≡ other path)
+    → (map (λ one. one.doings) (clean_build meaning plan store)
+    ≡ map (λ one. one.doings) (clean_build meaning plan other))
+    × ((path : List ℕ) → clean_files meaning plan store path ≡ clean_files meaning plan other path)
 
 -- each line ran, and none failed
 abbrev pub AllWell : List TaskLine → List Doing → Type 0

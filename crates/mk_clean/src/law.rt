@@ -1,4 +1,5 @@
 //! What holds of jobs, of targets that are kept, and of builds beside the clean one.
+ghost use Rattle.mk_clean.specs.Clean.{CleanBuildsForget};
 ghost use Rattle.mk_clean.specs.Jobs.{SameJobs};
 ghost use Rattle.mk_clean.specs.Kept.{KeptTargetsStand};
 ghost use Rattle.mk_clean.specs.Same.{BuildsAreClean, StepsAreClean};
@@ -7,6 +8,11 @@ ghost use Rattle.mk_clean.specs.Tested.{NoReasonMayKeep};
 /// Two sets of files that agree on what a job takes from outside itself let it do the same.
 pub fn jobs_with_the_same_reads_are_the_same()
     ensures { SameJobs }
+{}
+
+/// What stands at made files and meta files does not count in a clean build.
+pub fn clean_builds_forget_what_builds_leave()
+    ensures { CleanBuildsForget }
 {}
 
 /// Where a meta file tells what happened, its target was left alone since it was written, and what its
@@ -33,7 +39,8 @@ pub fn settled_builds_have_the_clean_files()
 
 /// Where what the jobs of a plan read and change is declared, each step of a build is a step of the same
 /// node in the clean build: at every moment a node's job has done nothing, or the first steps that it does
-/// there; and where the node is settled, nothing or all of them.
+/// there; where the node is settled, nothing or all of them; and where it has failed, all of them, and its job
+/// fails there, too.
 pub fn steps_are_those_of_the_clean_build()
     ensures { StepsAreClean }
 {}

@@ -20,7 +20,7 @@ use Rattle.mk_headline.proofs.PastLemmas.{none-first, together}
 use Rattle.mk_headline.proofs.PlanLemmas.{clean-node, job-has, meta_path-is, names-differ, node-is}
 use Rattle.mk_headline.proofs.StageLemmas.{after-append, may-append}
 use Rattle.mk_headline.proofs.TurnLemmas.{Turning}
-use Rattle.mk_headline.specs.Laws.{BuildsKeepApart, BuildsStayTrue, IsReady}
+use Rattle.mk_headline.specs.Laws.{BuildsKeepApart, BuildsStayTrue, IsReadyBuild}
 use Rattle.mk_headline.specs.Plans.{clean_plan, has_job, is_meta_path}
 use Rattle.mk_meta.specs.TrueHistory.{JobEvent, begun as begun_event, did, ended as ended_event, LeavesAlone, Alone, changed_paths, if_same, job_event, job_events, meta_path}
 use Rattle.mk_plan.specs.Plans.{node_at}
@@ -78,7 +78,7 @@ own-event true event more path is first later =
 own-event false event more path is first later = later is
 
 module _ (meaning : Meaning) (work : Work) (tasks : run.Tasks) (old : History)
-    (ready : IsReady meaning work tasks old) where
+    (ready : IsReadyBuild meaning work tasks old) where
   abbrev plan : Plan
   plan = clean_plan work tasks
 

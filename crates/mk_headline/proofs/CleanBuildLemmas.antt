@@ -5,7 +5,7 @@ use Rattle.mk_decision.specs.Decisions.{Work}
 use Rattle.mk_decision.specs.Makers.{jobs_of}
 use Rattle.mk_headline.proofs.EndLemmas.{done_clean}
 use Rattle.mk_headline.specs.CleanBuilds.{IsCleanBuild}
-use Rattle.mk_headline.specs.Laws.{IsClean, IsReady}
+use Rattle.mk_headline.specs.Laws.{IsClean, IsReadyBuild}
 use Rattle.mk_trace.proofs.TrueBuildLemmas.{build-true}
 use Rattle.mk_trace.specs.Builds.{IsBuild, Moment}
 use Rattle.mk_trace.specs.Ends.{StandsBy, is_cut}
@@ -24,7 +24,7 @@ clean-by : (meaning : Meaning) (work : Work) (result : BuildResult) (first last 
     → (build : IsBuild meaning work (is_cut result) first last (StandsBy work result))
     → result ≡ ended.Done
     → Told first.history last.history
-    (λ old new. IsReady meaning work build.tasks old
+    (λ old new. IsReadyBuild meaning work build.tasks old
     → IsClean meaning work build.tasks build.items old new)
 clean-by meaning work ended.Done first last jobs build is = done_clean meaning work false first last build jobs
 clean-by meaning work (ended.JobFailed n number status) first last jobs build is = absurd cc

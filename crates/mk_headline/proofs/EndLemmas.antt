@@ -13,7 +13,7 @@ use Rattle.mk_headline.proofs.FullLemmas.{full_turns}
 use Rattle.mk_headline.proofs.GoodLemmas.{none-failed, sound-all}
 use Rattle.mk_headline.proofs.PastLemmas.{settled-at}
 use Rattle.mk_headline.proofs.PlanLemmas.{length-before, are-well-made, before-less, clean-node, job-has}
-use Rattle.mk_headline.specs.Laws.{BuildsAreClean, DoneBuildsAreClean, IsClean, IsReady}
+use Rattle.mk_headline.specs.Laws.{BuildsAreClean, DoneBuildsAreClean, IsClean, IsReadyBuild}
 use Rattle.mk_headline.specs.Plans.{clean_plan}
 use Rattle.mk_headline.specs.Premises.{IsWellMade}
 use Rattle.mk_plan.specs.declared.plan.NodeState.TheVariants.{Undecided, Settled}
@@ -106,7 +106,7 @@ told_clean : (meaning : Meaning) (work : Work) (tasks : run.Tasks) (items : List
     → 0 < jobs_of work → IsOver work None (build_after_all work tasks (first_build work) items)
     → Told before after (Happened meaning items)
     → Told before after
-    (λ old new. IsReady meaning work tasks old → IsClean meaning work tasks items old new)
+    (λ old new. IsReadyBuild meaning work tasks old → IsClean meaning work tasks items old new)
 told_clean meaning work tasks items before None makes last room over told = tt
 told_clean meaning work tasks items None (Some new) makes last room over told = absurd told
 told_clean meaning work tasks items (Some old) (Some new) makes last room over told =

@@ -109,11 +109,7 @@ job-has work one among =
 
 pub clean-node : (meaning : Meaning) (plan : clean.Plan) (nodes : List ℕ) (store : Store) (one : CleanJob)
     → IsAmong one (clean_jobs meaning plan nodes store) → IsAmong one.node nodes
-clean-node meaning plan [] store one among = absurd among
-clean-node meaning plan (node ∷ nodes) store one (inl same) =
-    inl (ap (λ (job : CleanJob). job.node) same)
-clean-node meaning plan (node ∷ nodes) store one (inr among) =
-    inr (clean-node meaning plan nodes (after_job meaning plan node store) one among)
+clean-node meaning plan = node_of_job meaning plan.command (lines_in plan)
 
 -- the places rise
 abbrev AreLater : ℕ → List ℕ → Type 0

@@ -1,7 +1,7 @@
 -- Builds of which it is said that they leave what the clean build leaves.
 use Rattle.std.specs.Prelude.{◌≡◌}
 use Rattle.mk_decision.specs.Decisions.{Work}
-use Rattle.mk_headline.specs.Laws.{IsClean, IsReady}
+use Rattle.mk_headline.specs.Laws.{IsClean, IsReadyBuild}
 use Rattle.mk_trace.specs.Builds.{Moment}
 use Rattle.mk_trace.specs.Ends.{StandsBy, is_cut}
 use Rattle.mk_trace.specs.TrueBuilds.{IsTrueBuild}
@@ -17,5 +17,5 @@ pub record IsCleanBuild (meaning : Meaning) (work : Work) (result : BuildResult)
   where
     pub true_build : IsTrueBuild meaning work (is_cut result) first last (StandsBy work result)
     pub clean : result ≡ Done → Told first.history last.history
-        (λ old new. IsReady meaning work true_build.build.tasks old
+        (λ old new. IsReadyBuild meaning work true_build.build.tasks old
         → IsClean meaning work true_build.build.tasks true_build.build.items old new)

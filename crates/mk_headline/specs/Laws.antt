@@ -80,7 +80,7 @@ BuildsAreTurns =
 -- A build begins so: where no child runs, in a history that may have come about, in which each meta file that
 -- stands tells what happened. The plan is well made, the build goes by meta mode, and what the jobs of the
 -- clean build read and change is declared.
-pub record IsReady (meaning : Meaning) (work : Work) (tasks : Tasks) (old : History) : Type 0 where
+pub record IsReadyBuild (meaning : Meaning) (work : Work) (tasks : Tasks) (old : History) : Type 0 where
   pub lawful : IsLawful meaning old
   pub idle : (state_of old).children ≡ []
   pub truth : IsTrueHistory meaning.next old
@@ -93,7 +93,7 @@ pub record IsReady (meaning : Meaning) (work : Work) (tasks : Tasks) (old : Hist
 abbrev pub BuildsKeepApart : Type 0
 BuildsKeepApart =
     (meaning : Meaning) (work : Work) (tasks : Tasks) (items : List Item) (old new : History)
-    → IsReady meaning work tasks old → Makes work tasks (first_build work) items
+    → IsReadyBuild meaning work tasks old → Makes work tasks (first_build work) items
     → Happened meaning items old new → GivesUpLast items → IsApart work tasks items
 
 -- So meta files tell what happened behind the items of a build, at whatever moment, whatever has failed, and however
@@ -101,7 +101,7 @@ BuildsKeepApart =
 abbrev pub BuildsStayTrue : Type 0
 BuildsStayTrue =
     (meaning : Meaning) (work : Work) (tasks : Tasks) (items : List Item) (old new : History)
-    → IsReady meaning work tasks old → Makes work tasks (first_build work) items
+    → IsReadyBuild meaning work tasks old → Makes work tasks (first_build work) items
     → Happened meaning items old new → GivesUpLast items → IsTrueHistory meaning.next new
 
 -- A build leaves what the clean build leaves: that goes well, each file that its nodes make has the bytes
@@ -121,7 +121,7 @@ pub record IsClean (meaning : Meaning) (work : Work) (tasks : Tasks) (items : Li
 abbrev pub BuildsAreClean : Type 0
 BuildsAreClean =
     (meaning : Meaning) (work : Work) (tasks : Tasks) (items : List Item) (old new : History)
-    → IsReady meaning work tasks old → Makes work tasks (first_build work) items
+    → IsReadyBuild meaning work tasks old → Makes work tasks (first_build work) items
     → Happened meaning items old new → GivesUpLast items → 0 < jobs_of work
     → IsOver work None (build_after_all work tasks (first_build work) items)
     → IsClean meaning work tasks items old new
@@ -133,5 +133,5 @@ DoneBuildsAreClean =
     (meaning : Meaning) (work : Work) (cut : Bool) (first last : Moment)
     (build : IsBuild meaning work cut first last (IsOver work None)) → 0 < jobs_of work
     → Told first.history last.history
-    (λ old new. IsReady meaning work build.tasks old
+    (λ old new. IsReadyBuild meaning work build.tasks old
     → IsClean meaning work build.tasks build.items old new)

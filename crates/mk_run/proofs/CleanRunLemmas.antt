@@ -17,7 +17,7 @@ use Rattle.mk_flags.specs.declared.Flags.{Flags}
 use Rattle.mk_graph.specs.Nodes as graph
 use Rattle.mk_graph.specs.declared.Made.{Made}
 use Rattle.mk_headline.proofs.PlanLemmas.{clean-node, job-has}
-use Rattle.mk_headline.specs.Laws.{IsClean, IsReady}
+use Rattle.mk_headline.specs.Laws.{IsClean, IsReadyBuild}
 use Rattle.mk_headline.specs.Plans.{clean_plan, has_job, jobs_from, lines_of, makes_file}
 use Rattle.mk_headline.specs.Premises.{IsWellMade}
 use Rattle.mk_meta.specs.Jobs.{working}
@@ -213,7 +213,7 @@ pub clean-run : (meaning : Meaning) (env : Env) (order : Order) (made : Made) (f
     (files : Store) → planned_at ≡ Some planned_then → OnlyAsked meaning old planned_then
     → planned files made flags.requested flags.query ≡ Ok nodes
     → AreDistinct (graph.names_of made.graph)
-    → (IsReady meaning (work_on nodes made flags) tasks planned_then
+    → (IsReadyBuild meaning (work_on nodes made flags) tasks planned_then
     → IsClean meaning (work_on nodes made flags) tasks items planned_then new)
     → IsReadyRun meaning env order planned_at (work_on nodes made flags) tasks old clean
     → LeavesCleanFiles meaning (work_on nodes made flags) tasks items old new clean (bare nodes (files_of old))
@@ -265,7 +265,7 @@ clean-run meaning env order made flags nodes tasks items planned_at old planned_
         × (clean_files_of meaning clean (bare nodes (files_of old)) ≡ clean_files meaning plan (files_of old))
     jobs = alike-jobs meaning env order (files_of old) work clean tasks ready.alike
 
-    is_ready : IsReady meaning work tasks planned_then
+    is_ready : IsReadyBuild meaning work tasks planned_then
     is_ready = record {
       lawful = runs_stay_lawful meaning old planned_then asked.run ready.lawful;
       idle = ap (λ (s : Stand). s.children) (asked-state meaning old planned_then asked)

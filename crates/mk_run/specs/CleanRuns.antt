@@ -5,7 +5,7 @@ use Rattle.std.specs.Prelude.{◌≡◌, ℕ, ◌||◌, ◌&&◌, true, List, []
 use Rattle.std.specs.Prelude.{is_some, if◌then◌else◌}
 use Rattle.std.specs.List.{AllByRecursion, list_any}
 use Rattle.mk_blocks.specs.Acts.{Act, wrote, looked, dated, listed, ran}
-use Rattle.mk_clean.specs.Clean.{AllWell, CleanJob, IsAmong}
+use Rattle.mk_clean.specs.Clean.{AllWell, CleanJob, IsAmong, after_by, doings_by, files_by, jobs_by}
 use Rattle.mk_clean.specs.Declared.{IsDeclared}
 use Rattle.mk_clean.specs.Jobs.{job}
 use Rattle.mk_clean.specs.Same.{DoesCleanSteps}
@@ -89,23 +89,17 @@ abbrev pub lines_on : Work → ℕ → Store → List TaskLine
 lines_on work node files = lines_of_task (task_on work node files)
 
 abbrev pub job_on : Meaning → Work → ℕ → Store → List Doing
-job_on meaning work node files = job meaning (command_of work) (lines_on work node files) files
+job_on meaning work = doings_by meaning (command_of work) (lines_on work)
 
 abbrev pub left_by : Meaning → Work → ℕ → Store → Store
-left_by meaning work node files = after_deeds files (deeds_of_job (job_on meaning work node files))
+left_by meaning work = after_by meaning (command_of work) (lines_on work)
 
--- the jobs of these nodes, each on what those before it left
+-- the jobs of these nodes, each on what those before it left, and the files behind them
 abbrev pub jobs_on : Meaning → Work → List ℕ → Store → List CleanJob
-jobs_on meaning work [] files = []
-jobs_on meaning work (node ∷ nodes) files =
-    record { node = node; before = files; doings = job_on meaning work node files }
-    ∷ jobs_on meaning work nodes (left_by meaning work node files)
+jobs_on meaning work = jobs_by meaning (command_of work) (lines_on work)
 
--- the files behind them
 abbrev pub files_behind : Meaning → Work → List ℕ → Store → Store
-files_behind meaning work [] files = files
-files_behind meaning work (node ∷ nodes) files =
-    files_behind meaning work nodes (left_by meaning work node files)
+files_behind meaning work = files_by meaning (command_of work) (lines_on work)
 
 -- The clean build of a plan on files that have nothing of earlier builds: the jobs of its nodes with commands, in
 -- plan order, each to its end, also behind one that failed.

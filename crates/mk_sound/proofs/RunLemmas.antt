@@ -3,6 +3,7 @@ use Rattle.std.proofs.Common.{◌≡◌, ◌⊎◌, ◌∙◌, ℕ, Bool, true, 
 use Rattle.std.proofs.Common.{inl, inr, refl, sym, ap, subst}
 use Rattle.std.proofs.lemmas.Bool.{false≢true}
 use Rattle.std.specs.List.{AllByRecursion}
+use Rattle.mk_clean.proofs.CleanLemmas.{job_of_node, node_of_job}
 use Rattle.mk_clean.specs.Clean.{CleanJob, DependsOn, source, through, IsAmong, AllWell}
 use Rattle.mk_clean.specs.Declared.{IsDeclared, IsMadeBefore, IsOwn, IsPrivate, IsSource}
 use Rattle.mk_cli.specs.declared.order.Order.{Order}
@@ -11,7 +12,8 @@ use Rattle.mk_decision.specs.Makers.{work_on}
 use Rattle.mk_flags.specs.declared.Flags.{Flags}
 use Rattle.mk_graph.specs.Nodes as graph
 use Rattle.mk_graph.specs.declared.Made.{Made}
-use Rattle.mk_headline.proofs.EndLemmas.{all-settled, none-left}
+use Rattle.mk_headline.proofs.DecideLemmas.{makes-job}
+use Rattle.mk_headline.proofs.EndLemmas.{all-settled}
 use Rattle.mk_headline.proofs.PlanLemmas.{job-among, job-has}
 use Rattle.mk_headline.specs.Plans.{clean_plan, has_job, jobs_from, lines_of, makes_file}
 use Rattle.mk_headline.specs.Premises.{IsWellMade}
@@ -30,16 +32,15 @@ use Rattle.mk_plan.specs.declared.plan.PlanNode.{PlanNode}
 use Rattle.mk_pool.specs.Pool.{AreDistinct}
 use Rattle.mk_run.proofs.CleanRunLemmas.{asked-files, asked-history, asked-state, done-before, done-build, well-made}
 use Rattle.mk_run.proofs.TrueRunLemmas.{asked-then, goes-told, looks-ask, questions-ask, told-at, told-before}
-use Rattle.mk_run.specs.CleanRuns.{IsReadyRun, bare, clean_files_of, clean_jobs_of, jobs_on, left_by, task_on}
+use Rattle.mk_run.specs.CleanRuns.{IsReadyRun, bare, clean_files_of, clean_jobs_of, lines_on, task_on}
 use Rattle.mk_run.specs.TrueRuns.{LeavesClean, build, build_of, built_in}
 use Rattle.mk_scopes.specs.declared.scopes.Env.{Env}
-use Rattle.mk_sound.proofs.SourceLemmas.{job-of}
 use Rattle.mk_sound.proofs.WalkLemmas.{have_clean_tasks}
 use Rattle.mk_sound.specs.Sound.{IsSound, IsSoundRun, LeavesWhatIsSound, RunsLeaveCleanFiles, SoundRunsLeaveClean}
 use Rattle.mk_trace.proofs.AlongLemmas.{OnlyAsked, questions-children}
 use Rattle.mk_trace.proofs.QuestionLemmas.{questions-keep-truth}
-use Rattle.mk_trace.specs.Builds.{IsBuild, Makes, build_after_all, first_build, moment, rules_of}
-use Rattle.mk_trace.specs.Calls.{GivesUpLast, NoneLeft}
+use Rattle.mk_trace.specs.Builds.{IsBuild, Makes, build_after_all, command_of, first_build, moment}
+use Rattle.mk_trace.specs.Calls.{GivesUpLast}
 use Rattle.mk_trace.specs.Ends.{IsOver, StandsBy, is_cut}
 use Rattle.mk_trace.specs.Items.{FitsAll, Happened, Item, happened_all}
 use Rattle.mk_trace.specs.Runs as run
@@ -100,65 +101,12 @@ module _ (work : Work) (lines tasks : run.Tasks) (all : List CleanJob)
       no_meta = is.no_meta;
     }
 
--- a node that makes a file has a job
-makes-has : (node : PlanNode) → makes_file node ≡ true → has_job node ≡ true
-makes-has node is = by (has_job node) is
-  where
-    by : (has : Bool) → (has && not node.marks.phony) ≡ true → has ≡ true
-    by true both = refl
-    by false both = absurd (false≢true both)
-
--- a build that is over gave no child up
-over-none : (meaning : Meaning) (work : Work) (tasks : run.Tasks) (items : List Item) (old new : History)
-    → (state_of old).children ≡ [] → Makes work tasks (first_build work) items → Happened meaning items old new
-    → GivesUpLast items → IsOver work None (build_after_all work tasks (first_build work) items) → NoneLeft items
-over-none meaning work tasks items old new idle makes happens last over =
-    subst NoneLeft (sym last.are)
-    (none-left meaning work tasks (state_of old) idle last.front last.left last.late last.none last.left_are
-    last.late_are (subst (Makes work tasks (first_build work)) last.are makes)
-    (subst (λ l. MayHappen meaning (state_of old) (happened_all l)) last.are happens.lawful)
-    (subst (FitsAll meaning (state_of old)) last.are happens.fits)
-    (subst (λ l. run.IsOver (rules_of work) (build_after_all work tasks (first_build work) l).run) last.are over.over))
-
--- a run of a sound clean build is ready
-sound-ready : (meaning : Meaning) (env : Env) (order : Order) (made : Made) (flags : Flags) (nodes : List PlanNode)
-    (tasks lines : run.Tasks) (items : List Item) (planned_at : Option History) (old planned_then new : History)
-    (files : Store) → planned_at ≡ Some planned_then → OnlyAsked meaning old planned_then
-    → planned files made flags.requested flags.query ≡ Ok nodes → AreDistinct (graph.names_of made.graph)
-    → Makes (work_on nodes made flags) tasks (first_build (work_on nodes made flags)) items
-    → Happened meaning items planned_then new → GivesUpLast items
-    → IsOver (work_on nodes made flags) None
-    (build_after_all (work_on nodes made flags) tasks (first_build (work_on nodes made flags)) items)
-    → IsSoundRun meaning env order planned_at (work_on nodes made flags) lines old
-    → IsReadyRun meaning env order planned_at (work_on nodes made flags) tasks old (work_on nodes made flags)
-sound-ready meaning env order made flags nodes tasks lines items planned_at old planned_then new files here asked is
-    differ makes happens last over ready = record {
-      lawful = ready.lawful;
-      idle = ready.idle;
-      truth = ready.truth;
-      asks = ready.asks;
-      mode = record {
-        by_records = ready.sound.mode.by_records;
-        compared = λ node is_made.
-            subst (AllByRecursion (λ (line : TaskLine). line.compared ≡ true))
-            (sym (same node (makes-has (node_at work.plan node) is_made))) (ready.sound.mode.compared node is_made);
-        none_ignored = ready.sound.mode.none_ignored;
-        no_meta_names = ready.sound.mode.no_meta_names;
-      };
-      alike = record {
-        planned = ready.planned;
-        plan = refl;
-        same_tasks = λ one among.
-            let its = ready.sound.tasks_are one among in (
-              its.asked,
-              subst (λ (l : List TaskLine). task_on work one.node one.before
-                  ≡ Ok (task_with work.variables work.mode.exports (node_at work.plan one.node).name l, its.asked))
-                  (sym (same-job one among)) its.task,
-            );
-      };
-      declared = declared-too work lines tasks (clean_jobs_of meaning work (bare work.plan (files_of old))) same-job
-          ready.sound.declared;
-    }
+-- A run of a sound clean build, where its plan is made: questions have changed no file, so all is as at its entry.
+module _ (meaning : Meaning) (env : Env) (order : Order) (made : Made) (flags : Flags) (nodes : List PlanNode)
+    (lines : run.Tasks) (planned_at : Option History) (old planned_then : History) (files : Store)
+    (here : planned_at ≡ Some planned_then) (asked : OnlyAsked meaning old planned_then)
+    (is : planned files made flags.requested flags.query ≡ Ok nodes) (differ : AreDistinct (graph.names_of made.graph))
+    (ready : IsSoundRun meaning env order planned_at (work_on nodes made flags) lines old)
   where
     work : Work
     work = work_on nodes made flags
@@ -183,25 +131,62 @@ sound-ready meaning env order made flags nodes tasks lines items planned_at old 
     well : IsWellMade work
     well = well-made files made flags nodes is differ
 
-    -- the nodes with jobs have the lines of the clean build
-    same : (node : ℕ) → has_job (node_at work.plan node) ≡ true → tasks node ≡ lines node
-    same node has =
-        have_clean_tasks meaning work lines tasks items planned_then new lawful idle truth well
-        (subst (IsSound meaning work lines) (sym start) ready.sound) makes happens
-        (over-none meaning work tasks items planned_then new idle makes happens last over) over.failed node has
-        (all-settled work tasks items well makes ready.room over node (job-has work node (job-among work node has)).0)
+    sound : IsSound meaning work lines (files_of planned_then)
+    sound = subst (IsSound meaning work lines) (sym start) ready.sound
 
-    job-node : (ns : List ℕ) (store : Store) (one : CleanJob) → IsAmong one (jobs_on meaning work ns store)
-        → IsAmong one.node ns
-    job-node [] store one among = absurd among
-    job-node (n ∷ ns) store one (inl at) = inl (ap (λ (job : CleanJob). job.node) at)
-    job-node (n ∷ ns) store one (inr among) = inr (job-node ns (left_by meaning work n store) one among)
+    -- meta files stay true, whatever the end
+    stays-true : (tasks : run.Tasks) (items : List Item) (new : History) → Makes work tasks (first_build work) items
+        → Happened meaning items planned_then new → GivesUpLast items → IsTrueHistory meaning.next new
+    stays-true tasks items new makes happens last =
+        truth-behind meaning work lines tasks planned_then lawful idle truth well sound items new makes happens last
 
-    same-job : (one : CleanJob) → IsAmong one (clean_jobs_of meaning work (bare work.plan (files_of old)))
-        → tasks one.node ≡ lines one.node
-    same-job one among =
-        same one.node (job-has work one.node
-        (job-node (jobs_from 0 work.plan) (bare work.plan (files_of old)) one among)).1
+    -- where all is made, the run is ready
+    sound-ready : (tasks : run.Tasks) (items : List Item) (new : History) → Makes work tasks (first_build work) items
+        → Happened meaning items planned_then new → GivesUpLast items
+        → IsOver work None (build_after_all work tasks (first_build work) items)
+        → IsReadyRun meaning env order planned_at work tasks old work
+    sound-ready tasks items new makes happens last over = record {
+      lawful = ready.lawful;
+      idle = ready.idle;
+      truth = ready.truth;
+      asks = ready.asks;
+      mode = record {
+        by_records = ready.sound.mode.by_records;
+        compared = λ node is_made.
+            subst (AllByRecursion (λ (line : TaskLine). line.compared ≡ true))
+            (sym (same node (makes-job (node_at work.plan node) is_made))) (ready.sound.mode.compared node is_made);
+        none_ignored = ready.sound.mode.none_ignored;
+        no_meta_names = ready.sound.mode.no_meta_names;
+      };
+      alike = record {
+        planned = ready.planned;
+        plan = refl;
+        same_tasks = λ one among.
+            let its = ready.sound.tasks_are one among in (
+              its.asked,
+              subst (λ (l : List TaskLine). task_on work one.node one.before
+                  ≡ Ok (task_with work.variables work.mode.exports (node_at work.plan one.node).name l, its.asked))
+                  (sym (same-job one among)) its.task,
+            );
+      };
+      declared = declared-too work lines tasks (clean_jobs_of meaning work (bare work.plan (files_of old))) same-job
+          ready.sound.declared;
+    }
+      where
+        -- the nodes with jobs have the lines of the clean build
+        same : (node : ℕ) → has_job (node_at work.plan node) ≡ true → tasks node ≡ lines node
+        same node has =
+            have_clean_tasks meaning work lines tasks items planned_then new lawful idle truth well sound makes happens
+            last node has
+            (all-settled work tasks items well makes ready.room over node
+            (job-has work node (job-among work node has)).0)
+
+        same-job : (one : CleanJob) → IsAmong one (clean_jobs_of meaning work (bare work.plan (files_of old)))
+            → tasks one.node ≡ lines one.node
+        same-job one among =
+            same one.node (job-has work one.node
+            (node_of_job meaning (command_of work) (lines_on work) (jobs_from 0 work.plan)
+            (bare work.plan (files_of old)) one among)).1
 
 -- what follows the reading
 goes-sound : (meaning : Meaning) (env : Env) (order : Order) (meant : Meant) (end : End) (old read : History)
@@ -235,12 +220,11 @@ goes-sound meaning env order (builds made flags) end old read first last went ne
     planned_from (Some planned_then) here = λ done lines ready.
         let looked = told-at _ at here built.planned in
         clean done work
-        (sound-ready meaning env order made flags built.nodes one.tasks lines one.items built.planned_at old
-        planned_then new (files_of read) here
-        (asked-then meaning old read planned_then asked (looks-ask meaning read planned_then looked.0)) looked.1
-        built.names_differ one.makes (told-at _ here is one.told) one.gives_up
+        (sound-ready meaning env order made flags built.nodes lines built.planned_at old planned_then (files_of read)
+        here (asked-then meaning old read planned_then asked (looks-ask meaning read planned_then looked.0)) looked.1
+        built.names_differ ready one.tasks one.items new one.makes (told-at _ here is one.told) one.gives_up
         (subst (λ r. StandsBy work r (build_after_all work one.tasks (first_build work) one.items))
-        (done-build built.nodes built.result went.end (well done) built.end) one.stands) ready)
+        (done-build built.nodes built.result went.end (well done) built.end) one.stands))
 
 follows-sound : (meaning : Meaning) (env : Env) (order : Order) (first last : Point) (err : Held)
     (went : Went) (end : End) (old new : History) → first.history ≡ Some old → last.history ≡ Some new
@@ -283,8 +267,8 @@ runs_leave_files meaning words env order first last err report run old new plann
     (told-at (LeavesWhatIsSound meaning env order (build_of run.run) report.end) at is
     (runs_leave_clean meaning words env order first last err report run)) done lines ready in
     let cleared = bare work.plan (files_of old) in
-    let job = job-of meaning work (jobs_from 0 work.plan) cleared node
-    (job-among work node (makes-has (node_at work.plan node) makes)) in
+    let job = job_of_node meaning (command_of work) (lines_on work) node (jobs_from 0 work.plan) cleared
+    (job-among work node (makes-job (node_at work.plan node) makes)) in
     subst (λ n. files_of new (node_at work.plan n).name ≡ clean_files_of meaning work cleared (node_at work.plan n).name)
     job.2
     (left.same job.0 job.1 (subst (λ n. makes_file (node_at work.plan n) ≡ true) (sym job.2) makes))

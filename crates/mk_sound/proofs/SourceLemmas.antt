@@ -1,7 +1,7 @@
 -- What a sound clean build has at sources, and the tasks of nodes that were judged by looks which saw that.
 use Rattle.std.proofs.Common.{◌≡◌, ◌⊎◌, ◌∙◌, ℕ, Bool, true, false, not, ◌||◌, List, [], ◌∷◌, ◌++◌, map, Option, None, Ok, is_some, if◌then◌else◌}
 use Rattle.std.proofs.Common.{inl, inr, refl, sym, ap, subst}
-use Rattle.mk_clean.proofs.CleanLemmas.{unchanged}
+use Rattle.mk_clean.proofs.CleanLemmas.{among_first, among_last, job_of_node, untouched}
 use Rattle.mk_clean.specs.Clean.{CleanJob, IsAmong, LeavesIt}
 use Rattle.mk_clean.specs.Declared.{IsSource}
 use Rattle.mk_decision.specs.Decisions.{IsJudged, Sight, Work, newer_of, source_names}
@@ -13,10 +13,11 @@ use Rattle.mk_plan.proofs.NewerLemmas.{newer_do_not_count}
 use Rattle.mk_plan.specs.Asking.{answers_by, as_asked}
 use Rattle.mk_plan.specs.Plans.{node_at}
 use Rattle.mk_plan.specs.Tasks.{Setting, setting_of, task_of, task_with}
-use Rattle.mk_run.specs.CleanRuns.{bare, by_files, clean_jobs_of, job_on, jobs_on, left_by}
+use Rattle.mk_run.specs.CleanRuns.{bare, by_files, clean_jobs_of, lines_on}
 use Rattle.mk_same.proofs.TaskLemmas.{tasks_part_at_questions}
 use Rattle.mk_same.specs.Answered.{PartAtQuestion}
 use Rattle.mk_sound.specs.Sound.{HasItsTask, IsSound}
+use Rattle.mk_trace.specs.Builds.{command_of}
 use Rattle.mk_trace.specs.Runs.{Tasks}
 use Rattle.mk_values.specs.declared.facts.Asked.{Asked}
 use Rattle.mk_world.specs.Deeds.{Store}
@@ -25,17 +26,6 @@ use Rattle.mk_world.specs.Talks.{Meaning}
 use Rattle.mk_world.specs.declared.command.Task.{Task}
 
 -- lists
-
-pub among-last : {A : Type 0} (first second : List A) (one : A) → IsAmong one second
-    → IsAmong one (first ++ second)
-among-last [] second one among = among
-among-last (item ∷ first) second one among = inr (among-last first second one among)
-
-pub among-first : {A : Type 0} (first second : List A) (one : A) → IsAmong one first
-    → IsAmong one (first ++ second)
-among-first [] second one among = absurd among
-among-first (item ∷ first) second one (inl is) = inl is
-among-first (item ∷ first) second one (inr among) = inr (among-first first second one among)
 
 among-map : {A B : Type 0} (f : A → B) (items : List A) (one : A) → IsAmong one items
     → IsAmong (f one) (map f items)
@@ -49,30 +39,6 @@ mapped f [] one among = absurd among
 mapped f (item ∷ items) one (inl is) = (item, inl refl, is)
 mapped f (item ∷ items) one (inr among) =
     let rest = mapped f items one among in (rest.0, inr rest.1, rest.2)
-
--- the jobs of the clean build
-
-pub job-of : (meaning : Meaning) (work : Work) (nodes : List ℕ) (files : Store) (node : ℕ) → IsAmong node nodes
-    → (one : CleanJob) × IsAmong one (jobs_on meaning work nodes files) × (one.node ≡ node)
-job-of meaning work [] files node among = absurd among
-job-of meaning work (first ∷ nodes) files node (inl is) =
-    (record { node = first; before = files; doings = job_on meaning work first files }, inl refl, sym is)
-job-of meaning work (first ∷ nodes) files node (inr among) =
-    let rest = job-of meaning work nodes (left_by meaning work first files) node among in
-    (rest.0, inr rest.1, rest.2)
-
--- a path that no job changes stays
-before-is : (meaning : Meaning) (work : Work) (nodes : List ℕ) (files : Store) (path : List ℕ)
-    → ((one : CleanJob) → IsAmong one (jobs_on meaning work nodes files) → LeavesIt one path)
-    → (one : CleanJob) → IsAmong one (jobs_on meaning work nodes files) → one.before path ≡ files path
-before-is meaning work [] files path leaves one among = absurd among
-before-is meaning work (node ∷ nodes) files path leaves one (inl is) =
-    ap (λ (job : CleanJob). job.before path) is
-before-is meaning work (node ∷ nodes) files path leaves one (inr among) =
-    before-is meaning work nodes (left_by meaning work node files) path
-    (λ other there. leaves other (inr there)) one among
-    ∙ unchanged files (deeds_of_job (job_on meaning work node files)) path
-    (leaves (record { node = node; before = files; doings = job_on meaning work node files }) (inl refl))
 
 abbrev question : List ℕ → Bool → Asked
 question path answer = record { path = path; answer = answer }
@@ -104,7 +70,8 @@ module _ (meaning : Meaning) (work : Work) (lines : Tasks) (store : Store)
     before-store : (one : CleanJob) → IsAmong one all → (path : List ℕ) → IsStill path
         → one.before path ≡ store path
     before-store one among path source =
-        before-is meaning work (jobs_from 0 work.plan) (bare work.plan store) path source.alone one among
+        (untouched meaning (command_of work) (lines_on work) path (jobs_from 0 work.plan) (bare work.plan store)
+        source.alone).1 one among
         ∙ bare-is path source
 
     -- the question at which two tasks part was answered by a look, which saw what the clean build has
@@ -121,14 +88,14 @@ module _ (meaning : Meaning) (work : Work) (lines : Tasks) (store : Store)
         still : IsStill part.path
         still = its.sources (question part.path part.answer)
             (subst (IsAmong (question part.path part.answer)) (sym part.is)
-            (among-last part.common (question part.path part.answer ∷ part.rest)
+            (among_last part.common (question part.path part.answer ∷ part.rest)
             (question part.path part.answer) (inl refl)))
 
         found : (look : Dated) × IsAmong look asked
             × (◌≡◌ {A = Asked} (question part.path (not part.answer)) (as_asked look))
         found = mapped as_asked asked (question part.path (not part.answer))
             (subst (IsAmong (question part.path (not part.answer))) (sym part.other_is)
-            (among-last part.common (question part.path (not part.answer) ∷ part.other_rest)
+            (among_last part.common (question part.path (not part.answer) ∷ part.other_rest)
             (question part.path (not part.answer)) (inl refl)))
 
         path_is : part.path ≡ found.0.path
@@ -164,9 +131,9 @@ module _ (meaning : Meaning) (work : Work) (lines : Tasks) (store : Store)
         asked_right : (look : Dated) → IsAmong look sight.asked → SawRight (dated look)
         asked_right look there = right (dated look)
             (subst (IsAmong (dated look)) (sym judged.are)
-            (among-first judged.first _ (dated look)
+            (among_first judged.first _ (dated look)
             (subst (IsAmong (dated look)) (sym sight.are)
-            (among-last _ (map dated sight.asked) (dated look) (among-map dated sight.asked look there)))))
+            (among_last _ (map dated sight.asked) (dated look) (among-map dated sight.asked look there)))))
 
         by : (◌≡◌ {A = Task × List Asked} (task, map as_asked sight.asked) (given, its.asked))
             ⊎ PartAtQuestion (by_files one.before) its.asked (map as_asked sight.asked)
@@ -178,7 +145,8 @@ module _ (meaning : Meaning) (work : Work) (lines : Tasks) (store : Store)
         (why : Option Why) → IsJudged work node seen task why
         → ((look : Seen) → IsAmong look seen → SawRight look) → task.lines ≡ lines node
     task-lines node has seen task why judged right =
-        let job = job-of meaning work (jobs_from 0 work.plan) (bare work.plan store) node (job-among work node has) in
+        let job = job_of_node meaning (command_of work) (lines_on work) node (jobs_from 0 work.plan)
+        (bare work.plan store) (job-among work node has) in
         subst (λ n. task.lines ≡ lines n) job.2
         (judged-lines job.0 job.1 seen task why
         (subst (λ n. IsJudged work n seen task why) (sym job.2) judged) right)
