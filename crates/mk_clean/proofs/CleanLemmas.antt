@@ -4,7 +4,7 @@ use Rattle.std.proofs.lemmas.Bool.{false≢true}
 use Rattle.std.specs.List.{list_any}
 use Rattle.std.specs.Str.{bytes_eq}
 use Rattle.mk_clean.proofs.JobLemmas.{job_agree}
-use Rattle.mk_clean.specs.Clean.{CleanBuildsForget, Plan, CleanJob, Lines, cleared, clean_build, deeds_of, doings_by, after_by, jobs_by, files_by, lines_in, is_changed, LeavesIt, IsAmong, StandsBefore}
+use Rattle.mk_clean.specs.Clean.{CleanBuildsForget, Plan, CleanJob, Lines, cleared, deeds_of, doings_by, after_by, jobs_by, files_by, lines_in, is_changed, LeavesIt, IsAmong, StandsBefore}
 use Rattle.mk_clean.specs.Jobs.{job}
 use Rattle.mk_meta.specs.TrueHistory.{changed_paths, deeds_of_job}
 use Rattle.mk_world.proofs.OuterLemmas.{on-over_deeds}

@@ -1,5 +1,5 @@
 -- What a run of the example leaves alone, and that it may be run again.
-use Rattle.std.proofs.Common.{◌≡◌, ◌∙◌, ◌⊎◌, ℕ, List, [], ◌∷◌, ◌++◌, Bool, true, false, Option, Some, if◌then◌else◌}
+use Rattle.std.proofs.Common.{◌≡◌, ◌∙◌, ◌⊎◌, ℕ, List, [], ◌∷◌, ◌++◌, Bool, true, false, Option, Some, None, if◌then◌else◌}
 use Rattle.std.proofs.Common.{inl, inr, refl, sym, ap, subst, codes}
 use Rattle.std.proofs.lemmas.Bool.{eq-eqb, false≢true}
 use Rattle.std.specs.List.{AllByRecursion}
@@ -11,7 +11,8 @@ use Rattle.mk_clean.specs.Turns.{Build, MayTurns, Turn}
 use Rattle.mk_decision.specs.Decisions.{Work}
 use Rattle.mk_filemon.proofs.PathLemmas.{same_bytes}
 use Rattle.mk_headline.proofs.PlanLemmas.{meta_path-is}
-use Rattle.mk_headline.specs.Plans.{clean_plan, is_meta_path}
+use Rattle.mk_headline.specs.Plans.{clean_plan, is_meta_path, makes_file}
+use Rattle.mk_plan.specs.Plans.{node_at}
 use Rattle.mk_commands.specs.Meaning.{language}
 use Rattle.mk_meta.specs.Texts.{meta_text}
 use Rattle.mk_meta.specs.TrueHistory.{IsTrueHistory, meta_path}
@@ -36,7 +37,9 @@ TurnLeaves path (turn.keeps node) = Unit {0}
 TurnLeaves path (turn.begins node) = Unit {0}
 TurnLeaves path (turn.starts_line node) = Unit {0}
 TurnLeaves path (turn.ends_line node) = Unit {0}
+TurnLeaves path (turn.fails node) = Unit {0}
 TurnLeaves path (turn.settles node) = Unit {0}
+TurnLeaves path (turn.removes node) = Unit {0}
 TurnLeaves path (turn.puts_meta at bytes) = Unit {0}
 
 put-leaves : (files : Store) (at path : List ℕ) (bytes : Option (List ℕ)) → is_meta_path at ≡ true
@@ -48,14 +51,27 @@ put-leaves files at path bytes meta plain = by (bytes_eq at path) refl
         absurd (false≢true (sym plain ∙ (sym (ap is_meta_path (same_bytes at path same)) ∙ meta)))
     by false same = refl
 
--- where no step of a build of turns changes a path that is none of a meta file, it stands as it did
+-- a path at which no node makes a file
+abbrev pub IsNotMade : Work → List ℕ → Type 0
+IsNotMade work path =
+    (n : ℕ) → makes_file (node_at work.plan n) ≡ true → (node_at work.plan n).name ≡ path → ⊥
+
+gone-leaves : (files : Store) (at path : List ℕ) → (at ≡ path → ⊥)
+    → (if bytes_eq at path then None else files path) ≡ files path
+gone-leaves files at path apart = by (bytes_eq at path) refl
+  where
+    by : (b : Bool) → bytes_eq at path ≡ b → (if b then None else files path) ≡ files path
+    by true same = absurd (apart (same_bytes at path same))
+    by false same = refl
+
+-- where no step of a build of turns changes a path that is none of a meta file or a made one, it stands as it did
 turns-leave : (work : Work) (tasks : Tasks) (path : List ℕ) (turns : List Turn) (build : Build)
-    → is_meta_path path ≡ false → MayTurns language (clean_plan work tasks) build turns
+    → is_meta_path path ≡ false → IsNotMade work path → MayTurns language (clean_plan work tasks) build turns
     → AllByRecursion (TurnLeaves path) turns
     → (turn.after_turns (clean_plan work tasks) build turns).files path ≡ build.files path
-turns-leave work tasks path [] build plain may all = refl
-turns-leave work tasks path (one ∷ turns) build plain may all =
-    turns-leave work tasks path turns (turn.after_turn (clean_plan work tasks) build one) plain may.1 all.1
+turns-leave work tasks path [] build plain none may all = refl
+turns-leave work tasks path (one ∷ turns) build plain none may all =
+    turns-leave work tasks path turns (turn.after_turn (clean_plan work tasks) build one) plain none may.1 all.1
     ∙ by one may.0 all.0
   where
     by : (one : Turn) → turn.MayTurn language (clean_plan work tasks) build one → TurnLeaves path one
@@ -67,7 +83,9 @@ turns-leave work tasks path (one ∷ turns) build plain may all =
     by (turn.begins node) may_one leaves = refl
     by (turn.starts_line node) may_one leaves = refl
     by (turn.ends_line node) may_one leaves = refl
+    by (turn.fails node) may_one leaves = refl
     by (turn.settles node) may_one leaves = refl
+    by (turn.removes node) may_one leaves = gone-leaves build.files (node_at work.plan node).name path (none node may_one.1)
 
 -- the steps of a build, node by node
 
@@ -100,15 +118,17 @@ each-turn path (one ∷ turns) all = (
     by (turn.begins node) own = tt
     by (turn.starts_line node) own = tt
     by (turn.ends_line node) own = tt
+    by (turn.fails node) own = tt
     by (turn.settles node) own = tt
+    by (turn.removes node) own = tt
     by (turn.puts_meta at bytes) own = tt
 
 -- where no step of the clean build changes a path, none of the build does
-clean-leave : (path : List ℕ) (all : List CleanJob) (turns : List Turn) (build : Build)
-    → DoesCleanSteps all turns build
+clean-leave : (work : Work) (tasks : Tasks) (path : List ℕ) (all : List CleanJob) (turns : List Turn) (build : Build)
+    → DoesCleanSteps (clean_plan work tasks) all turns build
     → ((one : CleanJob) → IsAmong one all → AllByRecursion (LeavesPath path) (deeds_of one))
     → AllByRecursion (TurnLeaves path) turns
-clean-leave path all turns build does leaves = each-turn path turns (λ node. by node (does.begun node))
+clean-leave work tasks path all turns build does leaves = each-turn path turns (λ node. by node (does.begun node))
   where
     by : (node : ℕ) → (steps_of node turns ≡ []) ⊎ AreFirstSteps all node (steps_of node turns)
         → AllByRecursion (LeavesPath path) (steps_of node turns)
@@ -118,16 +138,17 @@ clean-leave path all turns build does leaves = each-turn path turns (λ node. by
         (subst (AllByRecursion (LeavesPath path)) first.are (leaves first.one first.among))
 
 pub stays-there : (work : Work) (tasks : Tasks) (path : List ℕ) (all : List CleanJob) (turns : List Turn)
-    (old new : History) → is_meta_path path ≡ false
+    (old new : History) → is_meta_path path ≡ false → IsNotMade work path
     → MayTurns language (clean_plan work tasks) (turn.first_build (files_of old)) turns
     → (turn.after_turns (clean_plan work tasks) (turn.first_build (files_of old)) turns).files ≡ files_of new
-    → DoesCleanSteps all turns (turn.after_turns (clean_plan work tasks) (turn.first_build (files_of old)) turns)
+    → DoesCleanSteps (clean_plan work tasks) all turns
+    (turn.after_turns (clean_plan work tasks) (turn.first_build (files_of old)) turns)
     → ((one : CleanJob) → IsAmong one all → AllByRecursion (LeavesPath path) (deeds_of one))
     → files_of new path ≡ files_of old path
-stays-there work tasks path all turns old new plain may files does leaves =
+stays-there work tasks path all turns old new plain none may files does leaves =
     ap (λ (s : Store). s path) (sym files)
-    ∙ turns-leave work tasks path turns (turn.first_build (files_of old)) plain may
-    (clean-leave path all turns _ does leaves)
+    ∙ turns-leave work tasks path turns (turn.first_build (files_of old)) plain none may
+    (clean-leave work tasks path all turns _ does leaves)
 
 -- an edit of the source
 

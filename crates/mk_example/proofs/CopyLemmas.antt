@@ -72,7 +72,8 @@ use Rattle.mk_world.specs.declared.step.Deed.TheVariants.{Read, Write}
 use Rattle.mk_example.proofs.AgainLemmas.{LeavesPath, stays-there}
 use Rattle.mk_example.proofs.ReadingLemmas.{IsLooked, IsQuiet, agreeing, agrees, asked-quiet, first-found, found_in, quiet-leaves, quiet-looks}
 use Rattle.mk_example.proofs.RowLemmas.{answers, clean-planned-is, clean-reading-is, planned-differ, planned-is, put-there, reading-first, reading-is, task-is, with_file, files, lines, made, nodes, work}
-use Rattle.mk_example.proofs.TaskLemmas.{IsJudged, over-judged}
+use Rattle.mk_headline.proofs.JudgedLemmas.{over-judged}
+use Rattle.mk_headline.specs.Laws.{HasJudgedLines}
 use Rattle.mk_example.specs.Copies.{CopiesAreRight, IsCopied, IsReady, NewWorldsAreReady, env, makefile, new_world}
 
 -- the clean build
@@ -324,8 +325,15 @@ was-read bytes old mid held held_after made_then ready reads = record {
 some-same : {A : Type 0} {one other : A} → ◌≡◌ {A = Option A} (Some one) (Some other) → one ≡ other
 some-same {A} {one} {other} is = cc
 
+-- the target alone is made
+not-made : (path : List ℕ) → (codes "t" ≡ path → ⊥) → (n : ℕ) → makes_file (node_at nodes n) ≡ true
+    → (node_at nodes n).name ≡ path → ⊥
+not-made path other zero makes is = false≢true makes
+not-made path other (suc zero) makes is = other is
+not-made path other (suc (suc n)) makes is = false≢true makes
+
 -- the lines of its task are those of the clean build
-judged-lines : (tasks : Tasks) → IsJudged work tasks 1 → tasks 1 ≡ lines
+judged-lines : (tasks : Tasks) → HasJudgedLines work tasks 1 → tasks 1 ≡ lines
 judged-lines tasks (seen, inl (inl none)) = let empty = none.0 in absurd cc
 judged-lines tasks (seen, inl (inr (some, task, judged, is))) =
     is ∙ ap (λ (it : Task × List Asked). it.0.lines)
@@ -361,8 +369,10 @@ leaves-copy bytes old mid new first last went made_then ready was at then_is don
     planned_then (Some planned_at) here = record {
       target_is = leaves.same (job (files_of old) bytes) among refl
           ∙ subst (λ s. clean_files_of language work s (codes "t") ≡ Some bytes) starts (files-are (files_of old) bytes);
-      makefile_is = stays (codes "makefile") refl (λ all. refl, (λ all. refl, tt)) ∙ ready.makefile_is;
-      source_is = stays (codes "a") refl (λ all. refl, (λ all. refl, tt)) ∙ ready.source_is;
+      makefile_is = stays (codes "makefile") refl (λ is. false≢true (sym (ap (bytes_eq (codes "t")) is)))
+          (λ all. refl, (λ all. refl, tt)) ∙ ready.makefile_is;
+      source_is = stays (codes "a") refl (λ is. false≢true (sym (ap (bytes_eq (codes "t")) is)))
+          (λ all. refl, (λ all. refl, tt)) ∙ ready.source_is;
       lawful = runs_stay_lawful language old new happened ready.lawful;
       truth = leaves.truth;
     }
@@ -397,7 +407,7 @@ leaves-copy bytes old mid new first last went made_then ready was at then_is don
 
         tasks_are : built.built.true_build.build.tasks 1 ≡ lines
         tasks_are = judged-lines built.built.true_build.build.tasks
-            (subst (λ w. IsJudged w built.built.true_build.build.tasks 1) work_is
+            (subst (λ w. HasJudgedLines w built.built.true_build.build.tasks 1) work_is
             (over-judged (work_on built.nodes made_then no_order.flags) built.built.true_build.build.tasks
             built.built.true_build.build.items (subst IsWellMade (sym work_is) well-made)
             built.built.true_build.build.makes
@@ -414,12 +424,14 @@ leaves-copy bytes old mid new first last went made_then ready was at then_is don
             (λ asked is. quiet-leaves old planned_at (quiet-looks old mid planned_at was.quiet looked_only.0) asked
             (some-same (sym here ∙ is))) tasks_are))
 
-        stays : (path : List ℕ) → is_meta_path path ≡ false
+        stays : (path : List ℕ) → is_meta_path path ≡ false → (codes "t" ≡ path → ⊥)
             → AllByRecursion (LeavesPath path) (deeds_of (job (files_of old) bytes))
             → files_of new path ≡ files_of old path
-        stays path plain leave =
+        stays path plain other leave =
             stays-there (work_on built.nodes made_then no_order.flags) built.built.true_build.build.tasks path
             (clean_jobs_of language work (bare built.nodes (files_of old))) leaves.built.turns old new plain
+            (subst (λ l. (n : ℕ) → makes_file (node_at l n) ≡ true → (node_at l n).name ≡ path → ⊥) (sym nodes_are)
+            (not-made path other))
             leaves.built.may leaves.built.files leaves.steps_are
             (λ one is. subst (λ (it : CleanJob). AllByRecursion (LeavesPath path) (deeds_of it))
             (the-job (files_of old) bytes one

@@ -3,4 +3,3 @@ pub mod ChainLemmas
 pub mod CopyLemmas
 pub mod ReadingLemmas
 pub mod RowLemmas
-pub mod TaskLemmas

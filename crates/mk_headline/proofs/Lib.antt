@@ -5,6 +5,7 @@ pub mod EndLemmas
 pub mod FirstLemmas
 pub mod FullLemmas
 pub mod GoodLemmas
+pub mod JudgedLemmas
 pub mod KeepLemmas
 pub mod LateLemmas
 pub mod LookLemmas

@@ -6,7 +6,8 @@ use Rattle.std.proofs.lemmas.Bool.Decides.{nat_tests}
 use Rattle.std.proofs.lemmas.Grind.{common_steps}
 use Rattle.std.proofs.lemmas.List.{get_or-map}
 use Rattle.std.specs.List.{list_any, list_all}
-use Rattle.mk_clean.specs.Clean.{CleanJob, DependsOn, source, through, IsAmong, StandsBefore, clean_jobs, after_job, clean_build, cleared}
+use Rattle.mk_clean.proofs.CleanLemmas.{node_of_job}
+use Rattle.mk_clean.specs.Clean.{CleanJob, DependsOn, source, through, IsAmong, StandsBefore, clean_jobs, after_job, clean_build, cleared, lines_in}
 use Rattle.mk_clean.specs.Clean as clean
 use Rattle.mk_clean.specs.Declared.{AreWellMade}
 use Rattle.mk_decision.specs.Decisions.{Work}

@@ -1,11 +1,11 @@
 -- That a build of the program is one of turns.
-use Rattle.std.specs.Prelude.{◌≡◌, ℕ, ◌<◌, Bool, List, [], ◌∷◌, Some, None, false, slice_get}
+use Rattle.std.specs.Prelude.{◌≡◌, ◌⊎◌, ℕ, ◌<◌, Bool, List, [], ◌∷◌, Some, None, false, slice_get}
 use Rattle.mk_clean.specs.Clean.{clean_build}
 use Rattle.mk_clean.specs.Declared.{IsDeclared}
 use Rattle.mk_clean.specs.Same.{DoesCleanSteps, HasCleanFiles}
 use Rattle.mk_clean.specs.Turns as turn
 use Rattle.mk_clean.specs.Turns.{Turn, MayTurns}
-use Rattle.mk_decision.specs.Decisions.{Work}
+use Rattle.mk_decision.specs.Decisions.{Work, IsBegun, IsKept}
 use Rattle.mk_meta.specs.TrueHistory.{IsTrueHistory}
 use Rattle.mk_trace.specs.Builds.{IsBuild, Makes, Moment, first_build, build_after_all, rules_of}
 use Rattle.mk_trace.specs.Calls.{GivesUpLast}
@@ -16,6 +16,7 @@ use Rattle.mk_trace.specs.Runs.{Tasks}
 use Rattle.mk_trace.specs.TrueBuilds.{IsApart}
 use Rattle.mk_world.specs.History.{files_of, state_of}
 use Rattle.mk_world.specs.Lawful.{IsLawful}
+use Rattle.mk_world.specs.Looks.{Seen}
 use Rattle.mk_world.specs.Talks.{Meaning}
 use Rattle.mk_world.specs.Told.{Told}
 use Rattle.mk_world.specs.declared.history.History.{History}
@@ -135,3 +136,15 @@ DoneBuildsAreClean =
     → Told first.history last.history
     (λ old new. IsReadyBuild meaning work build.tasks old
     → IsClean meaning work build.tasks build.items old new)
+
+-- a node has the lines with which it was kept or begun, by what was seen
+abbrev pub HasJudgedLines : Work → Tasks → ℕ → Type 0
+HasJudgedLines work tasks node =
+    (seen : List Seen) × (IsKept work node seen (tasks node) ⊎ IsBegun work node seen (tasks node))
+
+-- Each node that is settled in a build has such lines.
+abbrev pub SettledHaveJudgedLines : Type 0
+SettledHaveJudgedLines =
+    (work : Work) (tasks : Tasks) (items : List Item) → Makes work tasks (first_build work) items → (node : ℕ)
+    → slice_get (build_after_all work tasks (first_build work) items).run.nodes node ≡ Some Settled
+    → HasJudgedLines work tasks node

@@ -1,5 +1,5 @@
 //! What holds of builds beside the clean one.
-ghost use Rattle.mk_headline.specs.Laws.{BuildsAreClean, BuildsAreTurns, BuildsKeepApart, BuildsStayTrue, DoneBuildsAreClean, FirstBuildsAreTurns};
+ghost use Rattle.mk_headline.specs.Laws.{BuildsAreClean, BuildsAreTurns, BuildsKeepApart, BuildsStayTrue, DoneBuildsAreClean, FirstBuildsAreTurns, SettledHaveJudgedLines};
 
 /// A build that keeps no node with commands is one of turns, whatever has failed so far.
 pub fn first_builds_are_turns()
@@ -35,4 +35,9 @@ pub fn builds_are_clean()
 /// So does each build as the driver's contract states it, where the world tells its history.
 pub fn done_builds_are_clean()
     ensures { DoneBuildsAreClean }
+{}
+
+/// Each node that is settled in a build has the lines with which it was kept or begun, by what was seen.
+pub fn settled_nodes_have_judged_lines()
+    ensures { SettledHaveJudgedLines }
 {}

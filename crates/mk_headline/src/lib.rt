@@ -7,5 +7,5 @@ mod law;
 
 pub use law::{
     builds_are_clean, builds_are_turns, builds_keep_apart, builds_stay_true, done_builds_are_clean,
-    first_builds_are_turns,
+    first_builds_are_turns, settled_nodes_have_judged_lines,
 };

@@ -1,13 +1,12 @@
 -- The clean build beside a run: what a make does that has nothing of earlier builds. It reads the makefiles and
 -- plans anew, on the files at the beginning without made files and meta files, and then runs the job of each
 -- node, in the order of its plan, on what those before it left.
-use Rattle.std.specs.Prelude.{◌≡◌, ℕ, ◌||◌, ◌&&◌, true, List, [], ◌∷◌, Option, Some, None, Result, Ok, Err}
+use Rattle.std.specs.Prelude.{◌≡◌, ℕ, ◌||◌, ◌&&◌, true, List, [], Option, Some, None, Result, Ok, Err}
 use Rattle.std.specs.Prelude.{is_some, if◌then◌else◌}
 use Rattle.std.specs.List.{AllByRecursion, list_any}
 use Rattle.mk_blocks.specs.Acts.{Act, wrote, looked, dated, listed, ran}
 use Rattle.mk_clean.specs.Clean.{AllWell, CleanJob, IsAmong, after_by, doings_by, files_by, jobs_by}
 use Rattle.mk_clean.specs.Declared.{IsDeclared}
-use Rattle.mk_clean.specs.Jobs.{job}
 use Rattle.mk_clean.specs.Same.{DoesCleanSteps}
 use Rattle.mk_clean.specs.Turns as turn
 use Rattle.mk_cli.specs.declared.order.Order.{Order}
@@ -20,7 +19,7 @@ use Rattle.mk_headline.specs.Laws.{IsBuildOfTurns}
 use Rattle.mk_headline.specs.Plans.{clean_plan, is_called, is_meta_path, jobs_from, makes_file}
 use Rattle.mk_headline.specs.Premises.{GoesByMetaMode}
 use Rattle.mk_meta.specs.Jobs.{working}
-use Rattle.mk_meta.specs.TrueHistory.{IsTrueHistory, deeds_of_job}
+use Rattle.mk_meta.specs.TrueHistory.{IsTrueHistory}
 use Rattle.mk_plan.specs.Plans.{node_at, planned}
 use Rattle.mk_plan.specs.Tasks.{setting_of, task_of, task_with}
 use Rattle.mk_plan.specs.declared.fault.TaskFault.{TaskFault}
@@ -31,7 +30,7 @@ use Rattle.mk_trace.specs.Builds.{command_of}
 use Rattle.mk_trace.specs.Items.{Item}
 use Rattle.mk_trace.specs.Runs.{Tasks}
 use Rattle.mk_trace.specs.TrueBuilds.{IsApart, LeavesFiles, longer}
-use Rattle.mk_world.specs.Deeds.{Store, after_deeds}
+use Rattle.mk_world.specs.Deeds.{Store}
 use Rattle.mk_world.specs.History.{files_of, state_of}
 use Rattle.mk_world.specs.Lawful.{IsLawful}
 use Rattle.mk_world.specs.Listings.{Lists}

@@ -1,7 +1,6 @@
 -- A run whose clean build is sound is ready, and so leaves what the clean build leaves.
-use Rattle.std.proofs.Common.{◌≡◌, ◌⊎◌, ◌∙◌, ℕ, Bool, true, false, not, ◌&&◌, List, [], ◌∷◌, Option, Some, None, Ok, if◌then◌else◌}
+use Rattle.std.proofs.Common.{◌≡◌, ◌⊎◌, ◌∙◌, ℕ, true, List, [], Option, Some, None, Ok, if◌then◌else◌}
 use Rattle.std.proofs.Common.{inl, inr, refl, sym, ap, subst}
-use Rattle.std.proofs.lemmas.Bool.{false≢true}
 use Rattle.std.specs.List.{AllByRecursion}
 use Rattle.mk_clean.proofs.CleanLemmas.{job_of_node, node_of_job}
 use Rattle.mk_clean.specs.Clean.{CleanJob, DependsOn, source, through, IsAmong, AllWell}
@@ -25,6 +24,7 @@ use Rattle.mk_modes.specs.Meaning.{Meant, only, prints, explains, queries, shows
 use Rattle.mk_modes.specs.Modes.{Followed, Goes, Held}
 use Rattle.mk_modes.specs.declared.building.Went.{Went}
 use Rattle.mk_modes.specs.declared.report.End.{End}
+use Rattle.mk_modes.specs.declared.report.Report.{Report}
 use Rattle.mk_modes.specs.declared.report.End.TheVariants.{Done}
 use Rattle.mk_plan.specs.Plans.{node_at, planned}
 use Rattle.mk_plan.specs.Tasks.{task_with}
@@ -33,22 +33,24 @@ use Rattle.mk_pool.specs.Pool.{AreDistinct}
 use Rattle.mk_run.proofs.CleanRunLemmas.{asked-files, asked-history, asked-state, done-before, done-build, well-made}
 use Rattle.mk_run.proofs.TrueRunLemmas.{asked-then, goes-told, looks-ask, questions-ask, told-at, told-before}
 use Rattle.mk_run.specs.CleanRuns.{IsReadyRun, bare, clean_files_of, clean_jobs_of, lines_on, task_on}
-use Rattle.mk_run.specs.TrueRuns.{LeavesClean, build, build_of, built_in}
+use Rattle.mk_run.specs.TrueRuns.{Built, IsTrueOrderRun, LeavesClean, build, build_of, built_in, dry}
 use Rattle.mk_scopes.specs.declared.scopes.Env.{Env}
-use Rattle.mk_sound.proofs.WalkLemmas.{have_clean_tasks}
-use Rattle.mk_sound.specs.Sound.{IsSound, IsSoundRun, LeavesWhatIsSound, RunsLeaveCleanFiles, SoundRunsLeaveClean}
+use Rattle.mk_sound.proofs.WalkLemmas.{have_clean_tasks, truth-behind}
+use Rattle.mk_sound.specs.Sound.{IsSound, IsSoundRun, LeavesWhatIsSound, RunsLeaveCleanFiles, SoundRunsLeaveClean, SoundRunsStayTrue}
 use Rattle.mk_trace.proofs.AlongLemmas.{OnlyAsked, questions-children}
 use Rattle.mk_trace.proofs.QuestionLemmas.{questions-keep-truth}
 use Rattle.mk_trace.specs.Builds.{IsBuild, Makes, build_after_all, command_of, first_build, moment}
 use Rattle.mk_trace.specs.Calls.{GivesUpLast}
 use Rattle.mk_trace.specs.Ends.{IsOver, StandsBy, is_cut}
-use Rattle.mk_trace.specs.Items.{FitsAll, Happened, Item, happened_all}
+use Rattle.mk_trace.specs.Items.{Happened, Item}
 use Rattle.mk_trace.specs.Runs as run
 use Rattle.mk_trace.specs.TrueBuilds.{LeavesFiles}
 use Rattle.mk_world.proofs.LawLemmas.{runs_stay_lawful}
 use Rattle.mk_world.specs.Deeds.{Store}
-use Rattle.mk_world.specs.History.{State as Stand, MayAll as MayHappen, files_of, state_of}
+use Rattle.mk_world.specs.History.{State as Stand, files_of, state_of}
 use Rattle.mk_world.specs.Lawful.{IsLawful}
+use Rattle.mk_world.specs.Looks.{OnlyLooks}
+use Rattle.mk_world.specs.Runs.{Run}
 use Rattle.mk_world.specs.Talks.{Meaning}
 use Rattle.mk_world.specs.Told.{Told}
 use Rattle.mk_world.specs.declared.command.TaskLine.{TaskLine}
@@ -189,21 +191,33 @@ module _ (meaning : Meaning) (env : Env) (order : Order) (made : Made) (flags : 
             (bare work.plan (files_of old)) one among)).1
 
 -- what follows the reading
+
+-- what is said of a run with a sound clean build: what it leaves where all is made, and that meta files stay true
+abbrev KeepsTruth : Meaning → Env → Order → Option Built → History → History → Type 0
+KeepsTruth meaning env order None old new = Unit {0}
+KeepsTruth meaning env order (Some (dry planned_at)) old new = Unit {0}
+KeepsTruth meaning env order (Some (build planned_at work tasks items)) old new =
+    (lines : run.Tasks) → IsSoundRun meaning env order planned_at work lines old → IsTrueHistory meaning.next new
+
+abbrev IsSoundly : Meaning → Env → Order → Option Built → End → History → History → Type 0
+IsSoundly meaning env order built end old new =
+    LeavesWhatIsSound meaning env order built end old new × KeepsTruth meaning env order built old new
+
 goes-sound : (meaning : Meaning) (env : Env) (order : Order) (meant : Meant) (end : End) (old read : History)
     (first last : Point) (went : Went) (new : History) → OnlyAsked meaning old read → first.history ≡ Some read
     → last.history ≡ Some new → (end ≡ Done → went.end ≡ Done) → (goes : Goes meaning meant first last went)
     → LeavesClean meaning env order (built_in meaning meant first last went goes) end old new
-    → LeavesWhatIsSound meaning env order (built_in meaning meant first last went goes) end old new
-goes-sound meaning env order (only outcome) end old read first last went new asked at is well goes clean = tt
+    → IsSoundly meaning env order (built_in meaning meant first last went goes) end old new
+goes-sound meaning env order (only outcome) end old read first last went new asked at is well goes clean = (tt, tt)
 goes-sound meaning env order (prints variables lists all) end old read first last went new asked at is well goes clean =
-    tt
-goes-sound meaning env order (explains made flags) end old read first last went new asked at is well goes clean = tt
-goes-sound meaning env order (queries made flags) end old read first last went new asked at is well goes clean = tt
+    (tt, tt)
+goes-sound meaning env order (explains made flags) end old read first last went new asked at is well goes clean = (tt, tt)
+goes-sound meaning env order (queries made flags) end old read first last went new asked at is well goes clean = (tt, tt)
 goes-sound meaning env order (shows made flags) end old read first last went new asked at is well (inl unplanned) clean =
-    tt
-goes-sound meaning env order (shows made flags) end old read first last went new asked at is well (inr shown) clean = tt
+    (tt, tt)
+goes-sound meaning env order (shows made flags) end old read first last went new asked at is well (inr shown) clean = (tt, tt)
 goes-sound meaning env order (builds made flags) end old read first last went new asked at is well (inl unplanned)
-    clean = tt
+    clean = (tt, tt)
 goes-sound meaning env order (builds made flags) end old read first last went new asked at is well (inr built) clean =
     planned_from built.planned_at refl
   where
@@ -215,28 +229,42 @@ goes-sound meaning env order (builds made flags) end old read first last went ne
     one = built.built.true_build.build
 
     planned_from : (point_at : Option History) → built.planned_at ≡ point_at
-        → LeavesWhatIsSound meaning env order (Some (build built.planned_at work one.tasks one.items)) end old new
+        → IsSoundly meaning env order (Some (build built.planned_at work one.tasks one.items)) end old new
     planned_from None here = absurd (told-before _ here is one.told)
-    planned_from (Some planned_then) here = λ done lines ready.
-        let looked = told-at _ at here built.planned in
-        clean done work
-        (sound-ready meaning env order made flags built.nodes lines built.planned_at old planned_then (files_of read)
-        here (asked-then meaning old read planned_then asked (looks-ask meaning read planned_then looked.0)) looked.1
-        built.names_differ ready one.tasks one.items new one.makes (told-at _ here is one.told) one.gives_up
-        (subst (λ r. StandsBy work r (build_after_all work one.tasks (first_build work) one.items))
-        (done-build built.nodes built.result went.end (well done) built.end) one.stands))
+    planned_from (Some planned_then) here = (
+      (λ done lines ready.
+          clean done work
+          (sound-ready meaning env order made flags built.nodes lines built.planned_at old planned_then
+          (files_of read) here asked_then looked.1 built.names_differ ready one.tasks one.items new one.makes told
+          one.gives_up
+          (subst (λ r. StandsBy work r (build_after_all work one.tasks (first_build work) one.items))
+          (done-build built.nodes built.result went.end (well done) built.end) one.stands))),
+      (λ lines ready.
+          stays-true meaning env order made flags built.nodes lines built.planned_at old planned_then (files_of read)
+          here asked_then looked.1 built.names_differ ready one.tasks one.items new one.makes told one.gives_up),
+    )
+      where
+        looked : OnlyLooks read planned_then
+            × (planned (files_of read) made flags.requested flags.query ≡ Ok built.nodes)
+        looked = told-at _ at here built.planned
+
+        asked_then : OnlyAsked meaning old planned_then
+        asked_then = asked-then meaning old read planned_then asked (looks-ask meaning read planned_then looked.0)
+
+        told : Happened meaning one.items planned_then new
+        told = told-at _ here is one.told
 
 follows-sound : (meaning : Meaning) (env : Env) (order : Order) (first last : Point) (err : Held)
     (went : Went) (end : End) (old new : History) → first.history ≡ Some old → last.history ≡ Some new
     → (end ≡ Done → went.end ≡ Done) → (does : Followed meaning env order first last err went)
     → LeavesClean meaning env order
     (built_in meaning (by_reading order does.read) (point does.read_at first.out) last went does.goes) end old new
-    → LeavesWhatIsSound meaning env order
+    → IsSoundly meaning env order
     (built_in meaning (by_reading order does.read) (point does.read_at first.out) last went does.goes) end old new
 follows-sound meaning env order first last err went end old new at is well does clean = read_from does.read_at refl
   where
     read_from : (read_at : Option History) → does.read_at ≡ read_at
-        → LeavesWhatIsSound meaning env order
+        → IsSoundly meaning env order
         (built_in meaning (by_reading order does.read) (point does.read_at first.out) last went does.goes) end old
         new
     read_from None here =
@@ -248,27 +276,50 @@ follows-sound meaning env order first last err went end old new at is well does 
         (questions-ask meaning does.reads.questions old read_then
         (told-at (AreAsked meaning does.reads.questions) at here does.reads.asked)) here is well does.goes clean
 
-pub runs_leave_clean : SoundRunsLeaveClean
-runs_leave_clean meaning words env order first last err report run = by first.history last.history refl refl run.clean
+runs-sound : (meaning : Meaning) (words : List (List ℕ)) (env : Env) (order : Order) (first last : Point) (err : Held)
+    (report : Report) (run : IsTrueOrderRun meaning words env order first last err report)
+    → Told first.history last.history (IsSoundly meaning env order (build_of run.run) report.end)
+runs-sound meaning words env order first last err report run = by first.history last.history refl refl run.clean
   where
     by : (before after : Option History) → first.history ≡ before → last.history ≡ after
         → Told before after (LeavesClean meaning env order (build_of run.run) report.end)
-        → Told before after (LeavesWhatIsSound meaning env order (build_of run.run) report.end)
+        → Told before after (IsSoundly meaning env order (build_of run.run) report.end)
     by before None at is clean = tt
     by None (Some new) at is clean = absurd clean
     by (Some old) (Some new) at is clean =
         follows-sound meaning env order first last (record { before = err.before; after = run.run.err_at }) run.run.went
         report.end old new at is (done-before words run.run.went.end report.end _ run.run.closed) run.run.followed clean
 
+pub runs_leave_clean : SoundRunsLeaveClean
+runs_leave_clean meaning words env order first last err report run =
+    by first.history last.history (runs-sound meaning words env order first last err report run)
+  where
+    by : (before after : Option History)
+        → Told before after (IsSoundly meaning env order (build_of run.run) report.end)
+        → Told before after (LeavesWhatIsSound meaning env order (build_of run.run) report.end)
+    by before None both = tt
+    by None (Some new) both = absurd both
+    by (Some old) (Some new) both = both.0
+
 pub runs_leave_files : RunsLeaveCleanFiles
 runs_leave_files meaning words env order first last err report run old new planned_at work lines tasks items at is built
     done ready node makes =
-    let left = subst (λ b. LeavesWhatIsSound meaning env order b report.end old new) built
-    (told-at (LeavesWhatIsSound meaning env order (build_of run.run) report.end) at is
-    (runs_leave_clean meaning words env order first last err report run)) done lines ready in
+    let left = subst (λ b. IsSoundly meaning env order b report.end old new) built
+    (told-at (IsSoundly meaning env order (build_of run.run) report.end) at is
+    (runs-sound meaning words env order first last err report run)) in
+    let leaves = left.0 done lines ready in
     let cleared = bare work.plan (files_of old) in
     let job = job_of_node meaning (command_of work) (lines_on work) node (jobs_from 0 work.plan) cleared
     (job-among work node (makes-job (node_at work.plan node) makes)) in
     subst (λ n. files_of new (node_at work.plan n).name ≡ clean_files_of meaning work cleared (node_at work.plan n).name)
     job.2
-    (left.same job.0 job.1 (subst (λ n. makes_file (node_at work.plan n) ≡ true) (sym job.2) makes))
+    (leaves.same job.0 job.1 (subst (λ n. makes_file (node_at work.plan n) ≡ true) (sym job.2) makes))
+
+-- and meta files stay true behind every end
+pub runs_stay_true : SoundRunsStayTrue
+runs_stay_true meaning words env order first last err report run old new planned_at work lines tasks items at is built
+    ready =
+    let left = subst (λ b. IsSoundly meaning env order b report.end old new) built
+    (told-at (IsSoundly meaning env order (build_of run.run) report.end) at is
+    (runs-sound meaning words env order first last err report run)) in
+    (runs_stay_lawful meaning old new (told-at (Run meaning) at is run.happened) ready.lawful, left.1 lines ready)

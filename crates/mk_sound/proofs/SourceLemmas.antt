@@ -1,13 +1,12 @@
 -- What a sound clean build has at sources, and the tasks of nodes that were judged by looks which saw that.
-use Rattle.std.proofs.Common.{◌≡◌, ◌⊎◌, ◌∙◌, ℕ, Bool, true, false, not, ◌||◌, List, [], ◌∷◌, ◌++◌, map, Option, None, Ok, is_some, if◌then◌else◌}
+use Rattle.std.proofs.Common.{◌≡◌, ◌⊎◌, ◌∙◌, ℕ, Bool, true, false, not, ◌||◌, List, [], ◌∷◌, map, Option, None, Ok, is_some, if◌then◌else◌}
 use Rattle.std.proofs.Common.{inl, inr, refl, sym, ap, subst}
 use Rattle.mk_clean.proofs.CleanLemmas.{among_first, among_last, job_of_node, untouched}
-use Rattle.mk_clean.specs.Clean.{CleanJob, IsAmong, LeavesIt}
+use Rattle.mk_clean.specs.Clean.{CleanJob, IsAmong}
 use Rattle.mk_clean.specs.Declared.{IsSource}
 use Rattle.mk_decision.specs.Decisions.{IsJudged, Sight, Work, newer_of, source_names}
 use Rattle.mk_headline.proofs.PlanLemmas.{job-among}
 use Rattle.mk_headline.specs.Plans.{clean_plan, has_job, is_meta_path, jobs_from}
-use Rattle.mk_meta.specs.TrueHistory.{deeds_of_job}
 use Rattle.mk_oodate.specs.declared.reason.Why.{Why}
 use Rattle.mk_plan.proofs.NewerLemmas.{newer_do_not_count}
 use Rattle.mk_plan.specs.Asking.{answers_by, as_asked}

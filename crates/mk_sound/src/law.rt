@@ -1,8 +1,8 @@
 //! What follows from the clean build.
-ghost use Rattle.mk_sound.specs.Sound.{BuildsHaveCleanTasks, RunsLeaveCleanFiles, SoundRunsLeaveClean};
+ghost use Rattle.mk_sound.specs.Sound.{BuildsHaveCleanTasks, RunsLeaveCleanFiles, SoundRunsLeaveClean, SoundRunsStayTrue};
 
-/// A build has the tasks of the clean build, in whatever order its jobs run and whatever it keeps, as far as nothing
-/// has failed.
+/// A build has the tasks of the clean build, in whatever order its jobs run, whatever it keeps, and whatever has
+/// failed.
 pub fn builds_have_clean_tasks()
     ensures { BuildsHaveCleanTasks }
 {}
@@ -17,4 +17,10 @@ pub fn sound_runs_leave_clean()
 /// targets need has the bytes that the clean build gives it.
 pub fn runs_leave_clean_files()
     ensures { RunsLeaveCleanFiles }
+{}
+
+/// So runs chain behind failures: behind a run whose clean build is sound each meta file that stands tells what happened,
+/// whatever failed, whoever was given up, and however the run ended.
+pub fn sound_runs_stay_true()
+    ensures { SoundRunsStayTrue }
 {}

@@ -5,4 +5,6 @@
 
 mod law;
 
-pub use law::{builds_have_clean_tasks, runs_leave_clean_files, sound_runs_leave_clean};
+pub use law::{
+    builds_have_clean_tasks, runs_leave_clean_files, sound_runs_leave_clean, sound_runs_stay_true,
+};

@@ -4,8 +4,8 @@ use Rattle.std.proofs.Common.{inl, inr, refl, sym, ap, subst, arith}
 use Rattle.mk_decision.specs.Decisions.{Work, IsBegun, IsKept}
 use Rattle.mk_decision.specs.Makers.{jobs_of}
 use Rattle.mk_graph.specs.Walks.{is_among}
-use Rattle.mk_headline.proofs.PastLemmas.{settled-at}
-use Rattle.mk_headline.proofs.PlanLemmas.{before-less, length-before}
+use Rattle.mk_headline.proofs.EndLemmas.{all-settled}
+use Rattle.mk_headline.specs.Laws.{HasJudgedLines, SettledHaveJudgedLines}
 use Rattle.mk_headline.specs.Premises.{IsWellMade}
 use Rattle.mk_plan.specs.Deciding.{Rules, is_stopped}
 use Rattle.mk_plan.specs.declared.plan.NodeState.TheVariants.{Undecided, Open, Settled, Failed}
@@ -22,23 +22,18 @@ use Rattle.mk_trace.specs.Runs as run
 use Rattle.mk_trace.specs.Runs.{Due, State, anything, child, line, close}
 use Rattle.mk_world.specs.Looks.{Seen}
 
--- the lines of a node were kept, or started, by what was seen
-abbrev pub IsJudged : Work → run.Tasks → ℕ → Type 0
-IsJudged work tasks node =
-    (seen : List Seen) × (IsKept work node seen (tasks node) ⊎ IsBegun work node seen (tasks node))
-
 abbrev KnownAt : Work → run.Tasks → ℕ → Option NodeState → Type 0
 KnownAt work tasks node None = Unit {0}
 KnownAt work tasks node (Some Undecided) = Unit {0}
 KnownAt work tasks node (Some Failed) = Unit {0}
-KnownAt work tasks node (Some Open) = IsJudged work tasks node
-KnownAt work tasks node (Some Settled) = IsJudged work tasks node
+KnownAt work tasks node (Some Open) = HasJudgedLines work tasks node
+KnownAt work tasks node (Some Settled) = HasJudgedLines work tasks node
 
 abbrev KnownDue : Work → run.Tasks → Due → Type 0
 KnownDue work tasks anything = Unit {0}
 KnownDue work tasks child = Unit {0}
-KnownDue work tasks (line node number) = IsJudged work tasks node
-KnownDue work tasks (close node number) = IsJudged work tasks node
+KnownDue work tasks (line node number) = HasJudgedLines work tasks node
+KnownDue work tasks (close node number) = HasJudgedLines work tasks node
 
 record Known (work : Work) (tasks : run.Tasks) (state : State) : Type 0 where
   nodes : (n : ℕ) → KnownAt work tasks n (slice_get state.nodes n)
@@ -68,7 +63,7 @@ settled work tasks state n one new known = record {
   due = tt;
 }
 
-started : (work : Work) (tasks : run.Tasks) (state : State) (n number : ℕ) → IsJudged work tasks n
+started : (work : Work) (tasks : run.Tasks) (state : State) (n number : ℕ) → HasJudgedLines work tasks n
     → Known work tasks state → Known work tasks (run.start_line tasks state n number)
 started work tasks state n number judged known = record {
   nodes = known-set work tasks state.nodes n Open judged known.nodes;
@@ -80,7 +75,7 @@ started work tasks state n number judged known = record {
     due_is false = judged
 
 ended : (work : Work) (tasks : run.Tasks) (rules : Rules) (state : State) (n number status : ℕ)
-    → IsJudged work tasks n → Known work tasks state
+    → HasJudgedLines work tasks n → Known work tasks state
     → Known work tasks (run.end_line rules tasks state n number status)
 ended work tasks rules state n number status judged known =
     by (run.fails (run.line_of (tasks n) number) status)
@@ -96,21 +91,21 @@ ended work tasks rules state n number status judged known =
 -- what may be started or ended is judged
 
 start-judged : (work : Work) (tasks : run.Tasks) (state : State) (n number : ℕ) (due : Due) → state.due ≡ due
-    → (number ≡ 1 → IsJudged work tasks n) → Known work tasks state
-    → run.MayStart (rules_of work) tasks state n number due → IsJudged work tasks n
+    → (number ≡ 1 → HasJudgedLines work tasks n) → Known work tasks state
+    → run.MayStart (rules_of work) tasks state n number due → HasJudgedLines work tasks n
 start-judged work tasks state n number anything is first known may = first may.1
 start-judged work tasks state n number child is first known may = absurd may
 start-judged work tasks state n number (line one next) is first known may =
-    subst (IsJudged work tasks) (sym may.0) (subst (KnownDue work tasks) is known.due)
+    subst (HasJudgedLines work tasks) (sym may.0) (subst (KnownDue work tasks) is known.due)
 start-judged work tasks state n number (close one last) is first known may = absurd may
 
 end-judged : (work : Work) (tasks : run.Tasks) (state : State) (n number status : ℕ) (due : Due)
-    → state.due ≡ due → Known work tasks state → run.MayEnd state n number status due → IsJudged work tasks n
+    → state.due ≡ due → Known work tasks state → run.MayEnd state n number status due → HasJudgedLines work tasks n
 end-judged work tasks state n number status anything is known may = absurd may
 end-judged work tasks state n number status child is known may = subst (KnownAt work tasks n) may.0 (known.nodes n)
 end-judged work tasks state n number status (line one next) is known may = absurd may
 end-judged work tasks state n number status (close one last) is known may =
-    subst (IsJudged work tasks) (sym may.0) (subst (KnownDue work tasks) is known.due)
+    subst (HasJudgedLines work tasks) (sym may.0) (subst (KnownDue work tasks) is known.due)
 
 -- one item
 
@@ -158,45 +153,16 @@ none-yet work tasks (first ∷ before) (suc n) = undecided before n
     undecided (first ∷ before) (suc m) = undecided before m
 
 -- A node that is settled behind these items was judged.
-pub settled-judged : (work : Work) (tasks : run.Tasks) (items : List Item) (n : ℕ)
-    → Makes work tasks (first_build work) items
-    → slice_get (build_after_all work tasks (first_build work) items).run.nodes n ≡ Some Settled
-    → IsJudged work tasks n
-settled-judged work tasks items n makes is =
+pub settled-judged : SettledHaveJudgedLines
+settled-judged work tasks items makes n is =
     let known = known-all work tasks (first_build work) items makes
     (record { nodes = none-yet work tasks (rules_of work).before; due = tt }) in
     subst (KnownAt work tasks n) is (known.nodes n)
 
--- all nodes are settled behind a build that is over
-
-settled-all : (work : Work) (tasks : run.Tasks) (items : List Item) → IsWellMade work
-    → Makes work tasks (first_build work) items → 0 < jobs_of work
-    → IsOver work None (build_after_all work tasks (first_build work) items) → (n : ℕ) → n < length work.plan
-    → slice_get (build_after_all work tasks (first_build work) items).run.nodes n ≡ Some Settled
-settled-all work tasks items well makes room over n within =
-    let events = reported_all items in
-    let now = run-events work tasks (first_build work) items in
-    let failure : run.first_failure tasks events ≡ None =
-    sym (ap event_of (sym over.failed) ∙ failure-events work tasks (first_build work) items) in
-    let long : length (predecessors work.plan) ≡ length work.plan = length-before work.plan in
-    settled-at _ n
-    (ap (λ (s : run.State). get_or s.nodes n Undecided) now
-    ∙ over_settled (rules_of work) tasks events
-    (record {
-      each = run-legal work tasks (first_build work) items makes;
-      over = subst (run.IsOver (rules_of work)) now over.over;
-    }) failure stand-behind room n (omega (arith, within, long)))
-  where
-    stand-behind : StandBehind (predecessors work.plan)
-    stand-behind node one among =
-        let less = before-less work.plan 0 node one well.ordered
-        (subst (λ l. is_among l one ≡ true) (predecessors-at work.plan node) among) in
-        omega (arith, less)
-
--- The task of each node of such a build is one by which it was decided.
+-- And so was each node of a build that is over, and in which nothing failed.
 pub over-judged : (work : Work) (tasks : run.Tasks) (items : List Item) → IsWellMade work
     → Makes work tasks (first_build work) items → 0 < jobs_of work
     → IsOver work None (build_after_all work tasks (first_build work) items) → (n : ℕ) → n < length work.plan
-    → IsJudged work tasks n
+    → HasJudgedLines work tasks n
 over-judged work tasks items well makes room over n within =
-    settled-judged work tasks items n makes (settled-all work tasks items well makes room over n within)
+    settled-judged work tasks items makes n (all-settled work tasks items well makes room over n within)
