@@ -1,26 +1,19 @@
 -- The tasks of a build are those by which its nodes were decided.
-use Rattle.std.proofs.Common.{◌≡◌, ◌∙◌, ◌⊎◌, ℕ, zero, suc, ◌+◌, ◌<◌, nat_le, ◌||◌, List, [], ◌∷◌, length, get_or, map, set, slice_get, Bool, true, false, Option, Some, None, if◌then◌else◌}
-use Rattle.std.proofs.Common.{inl, inr, refl, sym, ap, subst, arith}
-use Rattle.mk_decision.specs.Decisions.{Work, IsBegun, IsKept}
+use Rattle.std.proofs.Common.{◌≡◌, ℕ, zero, suc, ◌+◌, ◌<◌, nat_le, ◌||◌, List, [], ◌∷◌, length, map, set, slice_get, Bool, true, false, Option, Some, None, if◌then◌else◌}
+use Rattle.std.proofs.Common.{inl, inr, refl, sym, ap, subst}
+use Rattle.mk_decision.specs.Decisions.{Work}
 use Rattle.mk_decision.specs.Makers.{jobs_of}
-use Rattle.mk_graph.specs.Walks.{is_among}
 use Rattle.mk_headline.proofs.EndLemmas.{all-settled}
 use Rattle.mk_headline.specs.Laws.{HasJudgedLines, SettledHaveJudgedLines}
 use Rattle.mk_headline.specs.Premises.{IsWellMade}
 use Rattle.mk_plan.specs.Deciding.{Rules, is_stopped}
 use Rattle.mk_plan.specs.declared.plan.NodeState.TheVariants.{Undecided, Open, Settled, Failed}
 use Rattle.mk_plan.specs.declared.plan.NodeState.{NodeState}
-use Rattle.mk_sched.proofs.StartLemmas.{predecessors-at}
-use Rattle.mk_sched.specs.Schedule.{predecessors}
-use Rattle.mk_trace.proofs.ItemLemmas.{failure-events, run-events, run-legal}
-use Rattle.mk_trace.proofs.RunLemmas.{over_settled}
-use Rattle.mk_trace.specs.Builds.{Build, Makes, event_of, build_after, build_after_all, first_build, rules_of}
+use Rattle.mk_trace.specs.Builds.{Build, Makes, build_after, build_after_all, first_build, rules_of}
 use Rattle.mk_trace.specs.Ends.{IsOver}
-use Rattle.mk_trace.specs.Items.{Item, reported_all, looks, keeps, refuses, starts, passes, waits, steps, ends, changes, leaves}
-use Rattle.mk_trace.specs.RunLaws.{StandBehind}
+use Rattle.mk_trace.specs.Items.{Item, looks, keeps, refuses, starts, passes, waits, steps, ends, changes, leaves}
 use Rattle.mk_trace.specs.Runs as run
 use Rattle.mk_trace.specs.Runs.{Due, State, anything, child, line, close}
-use Rattle.mk_world.specs.Looks.{Seen}
 
 abbrev KnownAt : Work → run.Tasks → ℕ → Option NodeState → Type 0
 KnownAt work tasks node None = Unit {0}
