@@ -16,9 +16,10 @@ use Rattle.mk_plan.specs.Tasks.{Setting, at_line, line_as, line_of, line_of_tree
 use Rattle.mk_plan.specs.declared.fault.TaskFault.{TaskFault}
 use Rattle.mk_plan.specs.declared.tasks.Manner.{Manner}
 use Rattle.mk_world.specs.declared.command.TaskLine.{TaskLine}
-use Rattle.mk_same.proofs.AnswerLemmas.{tree-same}
-use Rattle.mk_same.proofs.SameLemmas.{asks-same, asks-then, part-longer}
-use Rattle.mk_same.specs.Answered.{PartAtQuestion, TasksAreByAnswers, TasksPartAtQuestions, with_answers}
+use Rattle.mk_answers.proofs.AnswerLemmas.{tree-same}
+use Rattle.mk_answers.proofs.SameLemmas.{asks-same, asks-then, part-longer}
+use Rattle.mk_answers.specs.Evaluations.{PartAtQuestion}
+use Rattle.mk_same.specs.Answered.{TasksAreByAnswers, TasksPartAtQuestions, with_answers}
 
 same-ok : {A E : Type 0} (one other : A) → ◌≡◌ {A = Result A E} (Ok one) (Ok other) → one ≡ other
 same-ok one other is = cc

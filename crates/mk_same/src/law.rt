@@ -1,15 +1,10 @@
-//! What evaluations, judgements and explanations are by.
-ghost use Rattle.mk_same.specs.Answered.{TasksAreByAnswers, TasksPartAtQuestions, ValuesAreByAnswers};
+//! What tasks, judgements and explanations are by.
+ghost use Rattle.mk_same.specs.Answered.{TasksAreByAnswers, TasksPartAtQuestions};
 ghost use Rattle.mk_same.specs.Judged.{ExplanationsAreByFiles, JudgementsAreByFiles};
 ghost use Rattle.mk_same.specs.Shown.{ShownAreExplained};
 ghost use Rattle.mk_same.specs.ShownRuns.{ShownRunsAreExplained};
 
-/// What a tree or a condition gives is by the answers to the paths that it asks `exists` of, and by no others.
-pub fn values_are_by_their_answers()
-    ensures { ValuesAreByAnswers }
-{}
-
-/// And so is the task of a node.
+/// The task of a node is by the answers to the paths that its commands ask `exists` of, and by no others.
 pub fn tasks_are_by_their_answers()
     ensures { TasksAreByAnswers }
 {}

@@ -1,4 +1,4 @@
-//! That what is evaluated, judged and explained by the same files is the same.
+//! That what is judged and explained by the same files is the same.
 //!
 //! No code stands here but the laws, each the contract of a function.
 #![tactic(auto)]
@@ -8,5 +8,4 @@ mod law;
 pub use law::{
     explanations_are_by_files, judgements_are_by_files, shown_nodes_are_explained,
     shown_runs_are_explained, tasks_are_by_their_answers, tasks_part_at_questions,
-    values_are_by_their_answers,
 };

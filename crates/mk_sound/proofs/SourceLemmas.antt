@@ -14,7 +14,7 @@ use Rattle.mk_plan.specs.Plans.{node_at}
 use Rattle.mk_plan.specs.Tasks.{Setting, setting_of, task_of, task_with}
 use Rattle.mk_run.specs.CleanRuns.{bare, by_files, clean_jobs_of, lines_on}
 use Rattle.mk_same.proofs.TaskLemmas.{tasks_part_at_questions}
-use Rattle.mk_same.specs.Answered.{PartAtQuestion}
+use Rattle.mk_answers.specs.Evaluations.{PartAtQuestion}
 use Rattle.mk_sound.specs.Sound.{HasItsTask, IsSound}
 use Rattle.mk_trace.specs.Builds.{command_of}
 use Rattle.mk_trace.specs.Runs.{Tasks}

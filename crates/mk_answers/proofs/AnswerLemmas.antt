@@ -24,18 +24,18 @@ use Rattle.mk_bytes.specs.Texts.{is_among}
 use Rattle.mk_values.specs.Facts.{Answers, Lists}
 use Rattle.mk_values.specs.Names.{Context, context, in_name, raw_of, while_bound, while_open}
 use Rattle.mk_values.specs.declared.facts.Asked.{Asked}
-use Rattle.mk_same.specs.Answered.{ConditionsAreByAnswers, TreesAreByAnswers}
+use Rattle.mk_answers.specs.Evaluations.{ConditionsAreByAnswers, TreesAreByAnswers}
 use Rattle.mk_values.specs.Parts as joint
 use Rattle.mk_values.specs.Parts.{shown, double_value}
 use Rattle.mk_values.specs.Substitutions.{without_anchors, old_in_tree}
 use Rattle.mk_values.specs.Texts.{parsed}
 use Rattle.mk_values.specs.Value as value
-use Rattle.mk_values.specs.Value.{finder, found_at, of_tree}
+use Rattle.mk_values.specs.Value.{finder, found_at, of_condition, of_text, of_tree}
 use Rattle.mk_values.specs.declared.local.Locals.{Locals}
 use Rattle.mk_scopes.specs.Scopes.{Variables}
 use Rattle.mk_values.specs.declared.chain.Found.{Found}
 use Rattle.mk_values.specs.declared.fault.ExpandFault.TheVariants.{Recursive, TooDeep, TooManyReferences}
-use Rattle.mk_same.proofs.SameLemmas.{Same-asked, Same, Same-gives, Same-tried, Same-looking, Same-either, Same-then}
+use Rattle.mk_answers.proofs.SameLemmas.{Same-asked, Same, Same-gives, Same-tried, Same-looking, Same-either, Same-then}
 
 -- the same meaning, but for the answers
 abbrev pub answered : Answers → Context → Context
@@ -330,11 +330,26 @@ tree-same variables locals lists one other keep asked tree =
     tree_value one other finder (found_is one other max_open) (context variables locals lists one keep)
     (progress 0 asked) tree
 
+pub text-same : (variables : Variables) (locals : Locals) (lists : Lists) (one other : Answers) (keep : Bool)
+    (asked : List Asked) (text : List ℕ)
+    → Same one other asked (of_text variables locals lists one keep asked text)
+    (of_text variables locals lists other keep asked text)
+text-same variables locals lists one other keep asked text =
+    text_value one other finder (found_is one other max_open) (context variables locals lists one keep)
+    (progress 0 asked) text
+
+pub condition-same : (variables : Variables) (locals : Locals) (lists : Lists) (one other : Answers)
+    (asked : List Asked) (one_cond : Cond)
+    → Same one other asked (of_condition variables locals lists one asked one_cond)
+    (of_condition variables locals lists other asked one_cond)
+condition-same variables locals lists one other asked one_cond =
+    truth_of one other finder (found_is one other max_open) (context variables locals lists one false)
+    (progress 0 asked) one_cond
+
 pub trees_are_by_answers : TreesAreByAnswers
 trees_are_by_answers variables locals lists one other keep asked tree is =
     (tree-same variables locals lists one other keep asked tree).same is
 
 pub conditions_are_by_answers : ConditionsAreByAnswers
 conditions_are_by_answers variables locals lists one other asked one_cond is =
-    (truth_of one other finder (found_is one other max_open) (context variables locals lists one false)
-    (progress 0 asked) one_cond).same is
+    (condition-same variables locals lists one other asked one_cond).same is

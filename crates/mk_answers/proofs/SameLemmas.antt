@@ -2,7 +2,7 @@
 use Rattle.std.proofs.Common.{◌≡◌, ◌⊎◌, ◌∙◌, ℕ, zero, suc, Bool, true, false, List, [], ◌∷◌, ◌++◌, length, Some, Result, Ok, Err, slice_get}
 use Rattle.std.proofs.Common.{refl, sym, ap, subst, inl, inr, append_assoc}
 use Rattle.std.proofs.lemmas.List.{append-nil}
-use Rattle.mk_same.specs.Answered.{PartAtQuestion}
+use Rattle.mk_answers.specs.Evaluations.{PartAtQuestion}
 use Rattle.mk_values.specs.Evaluators.{Answer, Counted, Progress, ◌>>=◌, answer_then, either, gives, looking, tried, with_asked}
 use Rattle.mk_values.specs.Facts.{AnsweredBy, Answers, AsksMore}
 use Rattle.mk_values.specs.Value.{questions_of}

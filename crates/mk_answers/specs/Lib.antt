@@ -1,0 +1,3 @@
+pub mod Evaluations
+pub mod OnFiles
+pub mod Readings

@@ -1,5 +1,0 @@
-use Rattle.mk_same.proofs.AnswerLemmas.{conditions_are_by_answers, trees_are_by_answers}
-use Rattle.mk_same.proofs.law.values_are_by_their_answers.Goals as goal
-
-pub returns : goal.returns
-returns c = (trees_are_by_answers, conditions_are_by_answers)
