@@ -18,6 +18,7 @@ use Rattle.mk_makefile.specs.Reading.{reading}
 use Rattle.mk_makefile.specs.SomeAnswers.{answers_to, are_answered}
 use Rattle.mk_meta.specs.TrueHistory.{changed_paths}
 use Rattle.mk_reader.specs.OnMaps.{Listings, answers_on, reading_on}
+use Rattle.mk_reader.specs.Results.{Gave}
 use Rattle.mk_values.specs.declared.facts.Asked.{Asked}
 use Rattle.mk_world.proofs.CallLemmas.{after_all-append}
 use Rattle.mk_world.proofs.ListingLemmas.{one-listing}
@@ -42,7 +43,7 @@ unchanged store (deed.Delete path ∷ deeds) none = absurd cc
 unchanged store (deed.Move from to bytes ∷ deeds) none = absurd cc
 
 -- a look changes no file
-looked-files : (old new : History) (path : List ℕ) → new.base ≡ old.base
+pub looked-files : (old new : History) (path : List ℕ) → new.base ≡ old.base
     → new.events ≡ old.events ++ Look path ∷ [] → files_of new ≡ files_of old
 looked-files old new path base events =
     ap (λ base. contents (after_all (first_state base) new.events).files) base
@@ -146,14 +147,21 @@ answered-from answers so_far (cut cmd ∷ more) by =
       outputs = by.outputs;
     })
 
+none-before : (place : ℕ) → place ≡ 0 + place
+none-before place = omega arith
+
 answered-first : (answers : Answers) (questions : List Question) → Answered answers questions
     → AnsweredFrom answers none_so_far questions
 answered-first answers questions by =
     answered-from answers none_so_far questions (record {
-      exists = by.exists;
-      contents = by.contents;
-      listings = by.listings;
-      outputs = by.outputs;
+      exists = λ place one at.
+          subst (λ n. one.answer ≡ answers.exists n one.path) (none-before place) (by.exists place one at);
+      contents = λ place one at.
+          subst (λ n. one.found ≡ answers.contents n one.path) (none-before place) (by.contents place one at);
+      listings = λ place one at.
+          subst (λ n. one.names ≡ answers.listings n one.dir) (none-before place) (by.listings place one at);
+      outputs = λ place one at.
+          subst (λ n. one.ended.output ≡ answers.outputs n one.cmd) (none-before place) (by.outputs place one at);
     })
 
 -- acts that are questions, among others
@@ -300,6 +308,8 @@ worlds_are_read_as_files meaning old new held held_after made env order listings
 
     answers : Answers
     answers = answers_to read.questions
+
+    gave : Gave held held_after (acts_of read.questions) (Ok made) (reading answers env order)
     gave = read.gave answers (are_answered read.questions)
 
     same : reading answers env order ≡ reading_on meaning files listings env order

@@ -3,3 +3,4 @@ pub mod KnownLemmas
 pub mod SourceLemmas
 pub mod WalkLemmas
 pub mod RunLemmas
+pub mod FilesLemmas

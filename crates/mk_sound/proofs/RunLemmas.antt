@@ -36,7 +36,7 @@ use Rattle.mk_run.specs.CleanRuns.{IsReadyRun, bare, clean_files_of, clean_jobs_
 use Rattle.mk_run.specs.TrueRuns.{Built, IsTrueOrderRun, LeavesClean, build, build_of, built_in, dry}
 use Rattle.mk_scopes.specs.declared.scopes.Env.{Env}
 use Rattle.mk_sound.proofs.WalkLemmas.{have_clean_tasks, truth-behind}
-use Rattle.mk_sound.specs.Sound.{IsSound, IsSoundRun, LeavesWhatIsSound, RunsLeaveCleanFiles, SoundRunsLeaveClean, SoundRunsStayTrue}
+use Rattle.mk_sound.specs.Sound.{IsSound, IsSoundRun, LeavesWhatIsSound, SoundRunsLeaveClean, SoundRunsStayTrue}
 use Rattle.mk_trace.proofs.AlongLemmas.{OnlyAsked, questions-children}
 use Rattle.mk_trace.proofs.QuestionLemmas.{questions-keep-truth}
 use Rattle.mk_trace.specs.Builds.{IsBuild, Makes, build_after_all, command_of, first_build, moment}
@@ -300,20 +300,6 @@ runs_leave_clean meaning words env order first last err report run =
     by before None both = tt
     by None (Some new) both = absurd both
     by (Some old) (Some new) both = both.0
-
-pub runs_leave_files : RunsLeaveCleanFiles
-runs_leave_files meaning words env order first last err report run old new planned_at work lines tasks items at is built
-    done ready node makes =
-    let left = subst (λ b. IsSoundly meaning env order b report.end old new) built
-    (told-at (IsSoundly meaning env order (build_of run.run) report.end) at is
-    (runs-sound meaning words env order first last err report run)) in
-    let leaves = left.0 done lines ready in
-    let cleared = bare work.plan (files_of old) in
-    let job = job_of_node meaning (command_of work) (lines_on work) node (jobs_from 0 work.plan) cleared
-    (job-among work node (makes-job (node_at work.plan node) makes)) in
-    subst (λ n. files_of new (node_at work.plan n).name ≡ clean_files_of meaning work cleared (node_at work.plan n).name)
-    job.2
-    (leaves.same job.0 job.1 (subst (λ n. makes_file (node_at work.plan n) ≡ true) (sym job.2) makes))
 
 -- and meta files stay true behind every end
 pub runs_stay_true : SoundRunsStayTrue

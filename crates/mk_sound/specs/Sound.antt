@@ -1,13 +1,13 @@
 -- What is asked of a clean build, and of nothing else, so that runs leave what it leaves: what its jobs read and change
 -- is declared, and their commands ask nothing of what builds change.
-use Rattle.std.specs.Prelude.{◌≡◌, ℕ, ◌<◌, List, [], Option, Some, None, Ok, true, false, slice_get}
+use Rattle.std.specs.Prelude.{◌≡◌, ℕ, ◌<◌, List, [], Option, Some, None, Ok, false, slice_get}
 use Rattle.std.specs.List.{AllByRecursion}
 use Rattle.mk_clean.specs.Clean.{CleanJob, IsAmong}
 use Rattle.mk_clean.specs.Declared.{IsDeclared, IsSource}
 use Rattle.mk_cli.specs.declared.order.Order.{Order}
 use Rattle.mk_decision.specs.Decisions.{Work, source_names}
 use Rattle.mk_decision.specs.Makers.{jobs_of}
-use Rattle.mk_headline.specs.Plans.{clean_plan, has_job, makes_file}
+use Rattle.mk_headline.specs.Plans.{clean_plan, has_job}
 use Rattle.mk_headline.specs.Premises.{GoesByMetaMode, IsWellMade}
 use Rattle.mk_looks.specs.Looks.{looks_for_newer}
 use Rattle.mk_meta.specs.TrueHistory.{IsTrueHistory}
@@ -20,7 +20,7 @@ use Rattle.mk_plan.specs.Newer.{task_names}
 use Rattle.mk_plan.specs.Plans.{node_at}
 use Rattle.mk_plan.specs.Tasks.{setting_of, task_with}
 use Rattle.mk_plan.specs.declared.plan.NodeState.TheVariants.{Settled}
-use Rattle.mk_run.specs.CleanRuns.{IsPlannedOn, LeavesCleanFiles, bare, by_files, clean_files_of, clean_jobs_of, task_on}
+use Rattle.mk_run.specs.CleanRuns.{IsPlannedOn, LeavesCleanFiles, bare, by_files, clean_jobs_of, task_on}
 use Rattle.mk_run.specs.TrueRuns.{Built, IsTrueOrderRun, build, build_of, dry}
 use Rattle.mk_scopes.specs.declared.scopes.Env.{Env}
 use Rattle.mk_trace.specs.Builds.{Makes, build_after_all, first_build}
@@ -100,20 +100,6 @@ SoundRunsLeaveClean =
     (meaning : Meaning) (words : List (List ℕ)) (env : Env) (order : Order) (first last : Point) (err : Held)
     (report : Report) (run : IsTrueOrderRun meaning words env order first last err report)
     → Told first.history last.history (LeavesWhatIsSound meaning env order (build_of run.run) report.end)
-
--- When a run has built all, and its clean build is sound, then each made file that the requested targets need has the
--- bytes that the clean build gives it.
-abbrev pub RunsLeaveCleanFiles : Type 0
-RunsLeaveCleanFiles =
-    (meaning : Meaning) (words : List (List ℕ)) (env : Env) (order : Order) (first last : Point) (err : Held)
-    (report : Report) (run : IsTrueOrderRun meaning words env order first last err report) (old new : History)
-    (planned_at : Option History) (work : Work) (lines tasks : Tasks) (items : List Item)
-    → first.history ≡ Some old → last.history ≡ Some new
-    → build_of run.run ≡ Some (build planned_at work tasks items) → report.end ≡ Done
-    → IsSoundRun meaning env order planned_at work lines old
-    → (node : ℕ) → makes_file (node_at work.plan node) ≡ true
-    → files_of new (node_at work.plan node).name
-    ≡ clean_files_of meaning work (bare work.plan (files_of old)) (node_at work.plan node).name
 
 -- When a run has built, and its clean build is sound, the history behind it may have come about, and each meta file that
 -- stands tells what happened: whatever failed, whoever was given up, and however the run ended. So the next run begins as

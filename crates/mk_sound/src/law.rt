@@ -1,5 +1,6 @@
 //! What follows from the clean build.
-ghost use Rattle.mk_sound.specs.Sound.{BuildsHaveCleanTasks, RunsLeaveCleanFiles, SoundRunsLeaveClean, SoundRunsStayTrue};
+ghost use Rattle.mk_sound.specs.Files.{RunsLeaveCleanFiles, SoundFilesMakeSoundRuns};
+ghost use Rattle.mk_sound.specs.Sound.{BuildsHaveCleanTasks, SoundRunsLeaveClean, SoundRunsStayTrue};
 
 /// A build has the tasks of the clean build, in whatever order its jobs run, whatever it keeps, and whatever has
 /// failed.
@@ -13,7 +14,13 @@ pub fn sound_runs_leave_clean()
     ensures { SoundRunsLeaveClean }
 {}
 
-/// The theorem in one sentence: when a run has built all, and its clean build is sound, each made file that the requested
+/// Each run from files that are sound is sound: what is asked of it may be asked of the makefiles and the files at its
+/// entry, before it begins.
+pub fn sound_files_make_sound_runs()
+    ensures { SoundFilesMakeSoundRuns }
+{}
+
+/// The theorem in one sentence: when a run from files that are sound has built all, each made file that the requested
 /// targets need has the bytes that the clean build gives it.
 pub fn runs_leave_clean_files()
     ensures { RunsLeaveCleanFiles }

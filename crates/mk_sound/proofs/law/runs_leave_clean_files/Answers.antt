@@ -1,4 +1,4 @@
-use Rattle.mk_sound.proofs.RunLemmas.{runs_leave_files}
+use Rattle.mk_sound.proofs.FilesLemmas.{runs_leave_files}
 use Rattle.mk_sound.proofs.law.runs_leave_clean_files.Goals as goal
 
 pub returns : goal.returns
