@@ -12,8 +12,8 @@ use Rattle.mk_mods.specs.State.{State, words_of}
 use Rattle.mk_mods.specs.declared.modifier.Mod.{Mod}
 use Rattle.mk_mods.specs.declared.modifier.Mod.TheVariants.{Keep, Without, Select, Range}
 use Rattle.mk_values.specs.Chains as chain
-use Rattle.mk_values.specs.Chains.{Chain, substitution, given_as, applied, with_state, name_condition}
-use Rattle.mk_values.specs.Chains.{chain_of, undefined, defined_as}
+use Rattle.mk_values.specs.Chains.{Chain, applied, name_condition}
+use Rattle.mk_values.specs.Chains.{chain_of}
 use Rattle.mk_values.specs.Conditions as cond
 use Rattle.mk_values.specs.Conditions.{trimmed, lone_reference}
 use Rattle.mk_values.specs.Evaluators.{Counted, Finder, Progress, progress, with_reference}
@@ -26,7 +26,6 @@ use Rattle.mk_values.specs.Names.{Context, context, in_name, raw_of, while_bound
 use Rattle.mk_values.specs.declared.facts.Asked.{Asked}
 use Rattle.mk_answers.specs.Evaluations.{ConditionsAreByAnswers, TreesAreByAnswers}
 use Rattle.mk_values.specs.Parts as joint
-use Rattle.mk_values.specs.Parts.{shown, double_value}
 use Rattle.mk_values.specs.Substitutions.{without_anchors, old_in_tree}
 use Rattle.mk_values.specs.Texts.{parsed}
 use Rattle.mk_values.specs.Value as value

@@ -9,9 +9,9 @@ use Rattle.mk_blocks.specs.Blocks as tree
 use Rattle.mk_blocks.specs.FileFaults.{file_checked, in_place, located}
 use Rattle.mk_blocks.specs.Languages.{Question}
 use Rattle.mk_blocks.specs.Meaning as blocks
-use Rattle.mk_blocks.specs.Meaning.{asked, branch_step, chosen, closed_run, condition_step, either, file_at, file_meaning, in_turns_of, line_step, opened, opened_if, turns_step, wanted_step, with_state}
-use Rattle.mk_blocks.specs.Outcomes.{Outcome, ◌>>=◌, done, refused, silent}
-use Rattle.mk_blocks.specs.Runs.{After, Files, Reads, Run, after, all_turns, counted, counted_if, max_lines, next, next_if, next_turn, next_turn_if, run_at}
+use Rattle.mk_blocks.specs.Meaning.{asked, branch_step, chosen, closed_run, condition_step, either, file_at, file_meaning, in_turns_of, line_step, opened_if, turns_step, wanted_step, with_state}
+use Rattle.mk_blocks.specs.Outcomes.{silent}
+use Rattle.mk_blocks.specs.Runs.{After, Files, Reads, Run, after, all_turns, counted, counted_if, max_lines, next, next_if, next_turn, next_turn_if}
 use Rattle.mk_blocks.specs.declared.fault.FileFault.{FileFault}
 use Rattle.mk_blocks.specs.declared.language.IncludedFile.{IncludedFile}
 use Rattle.mk_lines.specs.Lines.{lines_from}

@@ -1,5 +1,5 @@
 -- A reading in the world is that of the files at its beginning, where the commands of that one change none.
-use Rattle.std.proofs.Common.{◌≡◌, ◌∙◌, ℕ, zero, suc, ◌+◌, not, List, [], ◌∷◌, ◌++◌, Option, Some, None, Ok, is_some, slice_get}
+use Rattle.std.proofs.Common.{◌≡◌, ◌∙◌, ℕ, suc, ◌+◌, not, List, [], ◌∷◌, ◌++◌, Option, Some, None, Ok, is_some, slice_get}
 use Rattle.std.proofs.Common.{refl, sym, ap, subst, arith}
 use Rattle.std.specs.List.{AllByRecursion}
 use Rattle.std.specs.Option.{option_map}
@@ -7,10 +7,9 @@ use Rattle.mk_answers.proofs.ReadingLemmas.{readings_part_at_questions}
 use Rattle.mk_answers.specs.OnFiles.{ChangesNone, WorldsAreReadAsFiles}
 use Rattle.mk_answers.specs.Readings.{AnswerAlike, Counts, behind_act, behind_acts, none_so_far}
 use Rattle.mk_blocks.specs.Acts.{Act, wrote, looked, dated, listed, ran}
-use Rattle.mk_blocks.specs.Outcomes.{Outcome}
 use Rattle.mk_graph.specs.declared.Made.{Made}
 use Rattle.mk_makefile.specs.Acts.{acts_of, asked_in}
-use Rattle.mk_makefile.specs.Questions.{Answered, Answers, AreAsked, IsAsked, Listing, Question, Reading, Running}
+use Rattle.mk_makefile.specs.Questions.{Answered, Answers, AreAsked, Listing, Question, Reading, Running}
 use Rattle.mk_makefile.specs.Questions.{bytes_of, cut, names_of, output_of, time_of}
 use Rattle.mk_makefile.specs.Questions.{cuts_in, listings_in, readings_in, runnings_in, times_in}
 use Rattle.mk_makefile.specs.ReadFaults.{Reads}

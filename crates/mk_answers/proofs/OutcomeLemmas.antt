@@ -1,5 +1,5 @@
 -- Steps of a reading that are the same where they are answered the same.
-use Rattle.std.proofs.Common.{◌≡◌, ◌⊎◌, ◌∙◌, ℕ, zero, suc, ◌+◌, Bool, true, false, not, List, [], ◌∷◌, ◌++◌, drop, length, Option, Some, None, Result, Ok, Err, if◌then◌else◌}
+use Rattle.std.proofs.Common.{◌≡◌, ◌⊎◌, ◌∙◌, ℕ, suc, ◌+◌, Bool, true, false, not, List, [], ◌∷◌, ◌++◌, drop, length, Result, Ok, Err, if◌then◌else◌}
 use Rattle.std.proofs.Common.{refl, sym, ap, subst, inl, inr, append_assoc, arith}
 use Rattle.std.proofs.Math.Seq.{drop-append_seam}
 use Rattle.std.proofs.lemmas.List.{append-nil, length-append}
@@ -12,7 +12,7 @@ use Rattle.mk_makefile.specs.Acts.{dates}
 use Rattle.mk_makefile.specs.Moments.{Doing, Moment, given, stands}
 use Rattle.mk_makefile.specs.Questions.{Answers}
 use Rattle.mk_makefile.specs.ReadFaults.{fault_as, outcome_as}
-use Rattle.mk_makefile.specs.Values.{asking, expanded, found_by}
+use Rattle.mk_makefile.specs.Values.{asking, expanded}
 use Rattle.mk_makefile.specs.declared.fault.What.{What}
 use Rattle.mk_values.specs.Evaluators.{Answer, Counted}
 use Rattle.mk_values.specs.Facts.{AsksMore}

@@ -1,10 +1,10 @@
 -- Readings are the same where they are answered the same.
-use Rattle.std.proofs.Common.{◌≡◌, ℕ, List, [], ◌∷◌, Option, Some, None, refl}
+use Rattle.std.proofs.Common.{ℕ, List, [], ◌∷◌, Option, Some, None, refl}
 use Rattle.mk_answers.proofs.BlockLemmas.{counts_of, file_goes}
 use Rattle.mk_answers.proofs.OutcomeLemmas.{IsAlike, as-alike, counts_at, done-alike, last-same, refused-alike, then-alike}
 use Rattle.mk_answers.proofs.StepLemmas.{file_contents, mode_read, ordered}
-use Rattle.mk_answers.specs.Readings.{Counts, ReadingsPartAtQuestions}
-use Rattle.mk_blocks.specs.Outcomes.{Outcome, ◌>>=◌, done, refused}
+use Rattle.mk_answers.specs.Readings.{ReadingsPartAtQuestions}
+use Rattle.mk_blocks.specs.Outcomes.{done}
 use Rattle.mk_blocks.specs.Runs.{Run, max_files, run_at}
 use Rattle.mk_bytes.specs.Paths.{clean}
 use Rattle.mk_graph.specs.declared.mode.Mode.{Mode}

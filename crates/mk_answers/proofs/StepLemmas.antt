@@ -1,11 +1,11 @@
 -- Each step of the lines of makefiles is the same where it is answered the same.
-use Rattle.std.proofs.Common.{◌≡◌, ℕ, ◌+◌, Bool, true, false, not, is_some, List, [], ◌∷◌, ◌++◌, length, Option, Some, None, Result, Ok, Err, codes, if◌then◌else◌}
+use Rattle.std.proofs.Common.{◌≡◌, ℕ, ◌+◌, Bool, true, false, List, [], ◌∷◌, ◌++◌, Option, Some, None, Result, Ok, Err, codes, if◌then◌else◌}
 use Rattle.std.proofs.Common.{refl}
 use Rattle.mk_answers.proofs.AnswerLemmas.{condition-same, text-same}
 use Rattle.mk_answers.proofs.OutcomeLemmas.{Alike, asking-alike, counts_at, do-alike, expanded-alike, given-alike, if-alike, refused-alike}
 use Rattle.mk_ast.specs.declared.fault.AstFault.{AstFault}
 use Rattle.mk_blocks.specs.Acts.{looked, listed, ran, wrote}
-use Rattle.mk_blocks.specs.Outcomes.{Outcome, ◌>>=◌, done, refused}
+use Rattle.mk_blocks.specs.Outcomes.{◌>>=◌, refused}
 use Rattle.mk_blocks.specs.declared.language.IncludedFile.{IncludedFile}
 use Rattle.mk_bytes.specs.declared.pair.Pair.{Pair}
 use Rattle.mk_cli.specs.declared.order.AssignOp.{AssignOp}
@@ -13,7 +13,6 @@ use Rattle.mk_cli.specs.declared.order.AssignOp.TheVariants.{Plain, Append, Defa
 use Rattle.mk_cli.specs.declared.order.Set.{Set}
 use Rattle.mk_cond.specs.Cond.{Cond}
 use Rattle.mk_cond.specs.Conditions.{condition_of}
-use Rattle.mk_cond.specs.declared.cond.Form.{Form}
 use Rattle.mk_cond.specs.declared.fault.CondFault.{CondFault}
 use Rattle.mk_depline.specs.Lines.{dep_line}
 use Rattle.mk_depline.specs.declared.fault.DepFault.{DepFault}
@@ -31,7 +30,7 @@ use Rattle.mk_makefile.specs.Inclusions as inclusion
 use Rattle.mk_makefile.specs.Kinds.{command_in, is_only_white, plain_text}
 use Rattle.mk_makefile.specs.Messages as message
 use Rattle.mk_makefile.specs.Modes as mode
-use Rattle.mk_makefile.specs.Moments.{Doing, Moment, closed, given, stands}
+use Rattle.mk_makefile.specs.Moments.{Doing, Moment, closed, given}
 use Rattle.mk_makefile.specs.Orders as order
 use Rattle.mk_makefile.specs.Questions.{Answers}
 use Rattle.mk_makefile.specs.Steps as step
@@ -43,7 +42,6 @@ use Rattle.mk_makefile.specs.declared.fault.What.{What}
 use Rattle.mk_rules.specs.Rules.{Ruled}
 use Rattle.mk_scopes.specs.declared.scopes.Class.{Class}
 use Rattle.mk_scopes.specs.declared.scopes.Class.TheVariants.{Global, Command}
-use Rattle.mk_turns.specs.Turns.{Turn}
 use Rattle.mk_values.specs.Locals.{no_locals}
 use Rattle.mk_wild.specs.Names.{directory_of, is_pattern}
 use Rattle.mk_wild.specs.Wild.{taken}

@@ -9,7 +9,7 @@ use Rattle.mk_clean.proofs.CleanLemmas.{job_of_node}
 use Rattle.mk_cli.specs.declared.order.Order.{Order}
 use Rattle.mk_cli.specs.declared.order.Print.{Print}
 use Rattle.mk_decision.specs.Decisions.{Work}
-use Rattle.mk_decision.specs.Makers.{jobs_of, work_on}
+use Rattle.mk_decision.specs.Makers.{work_on}
 use Rattle.mk_flags.specs.declared.Flags.{Flags}
 use Rattle.mk_graph.specs.declared.Made.{Made}
 use Rattle.mk_headline.proofs.DecideLemmas.{makes-job}
@@ -17,7 +17,6 @@ use Rattle.mk_headline.proofs.PlanLemmas.{job-among}
 use Rattle.mk_headline.specs.Plans.{jobs_from, makes_file}
 use Rattle.mk_makefile.specs.Acts.{acts_of}
 use Rattle.mk_makefile.specs.Questions.{AreAsked, Question, bytes_of, cut, cuts_in, names_of, output_of, time_of}
-use Rattle.mk_makefile.specs.ReadFaults.{Reads}
 use Rattle.mk_makefile.specs.Reading.{reading}
 use Rattle.mk_makefile.specs.declared.fault.ReadFault.{ReadFault}
 use Rattle.mk_meta.specs.TrueHistory.{changed_paths}
@@ -30,22 +29,22 @@ use Rattle.mk_modes.specs.declared.report.Report.{Report}
 use Rattle.mk_plan.specs.Plans.{node_at, planned}
 use Rattle.mk_plan.specs.declared.fault.PlanFault.{PlanFault}
 use Rattle.mk_plan.specs.declared.plan.PlanNode.{PlanNode}
-use Rattle.mk_reader.specs.OnMaps.{Listings, reading_on}
+use Rattle.mk_reader.specs.OnMaps.{Listings}
 use Rattle.mk_reader.specs.Results.{ReadBy}
 use Rattle.mk_run.proofs.TrueRunLemmas.{goes-told, told-at, told-before}
-use Rattle.mk_run.specs.CleanRuns.{IsPlannedOn, bare, clean_files_of}
+use Rattle.mk_run.specs.CleanRuns.{bare, clean_files_of}
 use Rattle.mk_run.specs.TrueRuns.{Built, IsTrueOrderRun, build, build_of, built_in, dry}
 use Rattle.mk_scopes.specs.declared.scopes.Env.{Env}
 use Rattle.mk_sound.proofs.RunLemmas.{runs_leave_clean}
 use Rattle.mk_sound.specs.Files.{AreSound, HasBuilt, IsTrueStart, RunsLeaveCleanFiles, SoundFilesMakeSoundRuns}
-use Rattle.mk_sound.specs.Sound.{IsSound, IsSoundRun, LeavesWhatIsSound}
+use Rattle.mk_sound.specs.Sound.{IsSoundRun, LeavesWhatIsSound}
 use Rattle.mk_trace.proofs.AlongLemmas.{all-append}
 use Rattle.mk_trace.specs.Builds.{command_of}
 use Rattle.mk_trace.specs.Items.{Item}
 use Rattle.mk_trace.specs.Runs.{Tasks}
 use Rattle.mk_trace.specs.TrueBuilds.{LeavesFiles, longer}
 use Rattle.mk_world.specs.Deeds.{Store, changes}
-use Rattle.mk_world.specs.History.{Effect, at_time, files_of, state_of, timed_effects}
+use Rattle.mk_world.specs.History.{Effect, at_time, files_of, timed_effects}
 use Rattle.mk_world.specs.Looks.{OnlyLooks}
 use Rattle.mk_world.specs.Talks.{Meaning, after_doing, does}
 use Rattle.mk_world.specs.declared.history.Happening.{Happening}
