@@ -1,6 +1,6 @@
 -- What is asked of a clean build, and of nothing else, so that runs leave what it leaves: what its jobs read and change
 -- is declared, and their commands ask nothing of what builds change.
-use Rattle.std.specs.Prelude.{◌≡◌, ℕ, ◌<◌, List, [], Option, Some, None, Ok, false, slice_get}
+use Rattle.std.specs.Prelude.{◌≡◌, ℕ, ◌<◌, List, [], Option, Some, None, Ok, true, false, slice_get}
 use Rattle.std.specs.List.{AllByRecursion}
 use Rattle.mk_clean.specs.Clean.{CleanJob, IsAmong}
 use Rattle.mk_clean.specs.Declared.{IsDeclared, IsSource}
