@@ -536,11 +536,16 @@ row shows='a full device as standard output' \
 plainly=''
 [ "$(id -u)" != 0 ] || plainly='setpriv --bounding-set=-dac_override,-dac_read_search'
 if [ -n "$plainly" ] && ! $plainly true 2>/dev/null; then
-    echo 'skipped: an unreadable makefile (root reads everything)'
+    echo 'skipped: an unreadable makefile, and a closed directory (root reads everything)'
 else
     row shows='an unreadable makefile' \
         before='echo A=1 >makefile; chmod 000 makefile' run="$plainly \"\$program\" -v A" \
         status=3 err="bmake: read makefile: Permission denied$nl$outside"
+
+    # The system does not tell whether such a source is there: it counts as there, and as newer than what it makes.
+    row shows='a source in a closed directory, whose time is not known, is there' \
+        before='mkdir d && : >d/s && : >t && chmod 000 d' makefile=$'t: d/s d/other\n\t@echo $(.ALLSRC) >$@\n' \
+        run="$plainly \"\$program\"" after='[ "$(cat t)" = "d/s d/other" ] && chmod 700 d'
 fi
 
 echo "$passed passed, $failed failed"

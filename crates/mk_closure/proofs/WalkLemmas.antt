@@ -18,8 +18,8 @@ use Rattle.mk_closure.specs.declared.fault.CloseFault.TheVariants.{Failed}
 use Rattle.mk_world.specs.Causes.{HasCause}
 use Rattle.mk_graph.specs.Numbers.{AreBelow}
 use Rattle.mk_pool.specs.declared.pool.TheConstants.{MAX_NAMES}
-use Rattle.mk_suffix.proofs.LookLemmas.{OnLooks-map}
-use Rattle.mk_world.specs.Looks.{OnLooks}
+use Rattle.mk_suffix.proofs.LookLemmas.{ByLooks-map}
+use Rattle.mk_dirs.specs.Answered.{ByLooks}
 use Rattle.mk_suffix.specs.Found.{Seeking}
 use Rattle.mk_world.specs.Deeds.{Store}
 use Rattle.mk_world.specs.declared.history.History.{History}
@@ -83,9 +83,9 @@ walk-end enter s nodes none =
 -- a fault of the outside behind looks
 pub outside-refused : {A : Type 0} (a b : Option History) (First : Store → Type 0)
     (defined : Store → Result A CloseFault) (fault : CloseFault) → IsOutside fault
-    → OnLooks a b First → OnLooks a b (λ files. IsRefusedBy fault (defined files))
+    → ByLooks a b First → ByLooks a b (λ files. IsRefusedBy fault (defined files))
 outside-refused a b First defined fault free on =
-    OnLooks-map a b First (λ files. IsRefusedBy fault (defined files)) on (λ files first. inl free)
+    ByLooks-map a b First (λ files. IsRefusedBy fault (defined files)) on (λ files first. inl free)
 
 -- the refusal of a first step is that of all steps
 pub IsRefusedBy-bind : {A B : Type 0} (fault : CloseFault) (first : Result A CloseFault)

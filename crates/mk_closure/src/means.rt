@@ -4,7 +4,7 @@ ghost use Rattle.mk_closure.specs.Faults.{IsOutside};
 ghost use Rattle.mk_closure.specs.Made.{HasChain};
 ghost use Rattle.mk_closure.specs.Means as spec;
 ghost use Rattle.mk_closure.specs.declared.fault.CloseFault.TheVariants.{Failed as failed};
-ghost use Rattle.mk_world.specs.Looks.{OnLooks, OnlyLooked};
+ghost use Rattle.mk_dirs.specs.Answered.{ByLooks, OnlyDated};
 ghost use Rattle.mk_suffix.specs.Made.{IsFor};
 ghost use Rattle.mk_suffix.specs.declared.fault.SuffixFault.TheVariants.{Failed as suffix_failed};
 ghost use Rattle.mk_world.specs.Causes.{HasCause};
@@ -50,10 +50,10 @@ fn chain_for<W: World>(
     world: &mut W,
 ) -> Result<Option<Chain>, SuffixFault>
     requires idle { W.runs world.old [] }
-    ensures told { IfOk result (λ chain. OnLooks (W.history world.old) (W.history world.new)
+    ensures told { IfOk result (λ chain. ByLooks (W.history world.old) (W.history world.new)
         (λ files. spec.chain_for files rules.now.nodes rules.now.seeking name.now n ≡ chain)) }
     ensures made { IfOk result (λ chain. IfSome chain (IsFor rules.now.nodes)) }
-    ensures refused { OnErr result (OnlyLooked (W.history world.old) (W.history world.new)) }
+    ensures refused { OnErr result (OnlyDated (W.history world.old) (W.history world.new)) }
     ensures cause { HasCause suffix_failed (W.faults world.old) (W.faults world.new) result }
     ensures idle { W.runs world.new [] }
 {
@@ -87,10 +87,10 @@ pub fn means_of<W: World>(
     world: &mut W,
 ) -> Result<Means, CloseFault>
     requires idle { W.runs world.old [] }
-    ensures told { IfOk result (λ means. OnLooks (W.history world.old) (W.history world.new)
+    ensures told { IfOk result (λ means. ByLooks (W.history world.old) (W.history world.new)
         (λ files. spec.means_of files rules.now.nodes rules.now.seeking name.now n ≡ means)) }
     ensures made { IfOk result (HasChain rules.now.nodes) }
-    ensures refused { OnErr result (OnlyLooked (W.history world.old) (W.history world.new)) }
+    ensures refused { OnErr result (OnlyDated (W.history world.old) (W.history world.new)) }
     ensures outside { IfErr result IsOutside }
     ensures cause { HasCause failed (W.faults world.old) (W.faults world.new) result }
     ensures idle { W.runs world.new [] }

@@ -9,7 +9,7 @@ ghost use Rattle.mk_closure.specs.Walks as spec;
 ghost use Rattle.mk_closure.specs.declared.fault.CloseFault.TheVariants.{Failed as failed};
 ghost use Rattle.mk_graph.specs.Numbers.{AreBelow};
 ghost use Rattle.mk_suffix.specs.Found.{seeking_in};
-ghost use Rattle.mk_world.specs.Looks.{OnLooks};
+ghost use Rattle.mk_dirs.specs.Answered.{ByLooks};
 ghost use Rattle.mk_world.specs.Causes.{HasCause};
 
 use crate::closure::Closure;
@@ -72,9 +72,9 @@ impl<'g> Closure<'g> {
         requires within { n < length self.old.parts }
         requires new { (part_at self.old n).met ≡ false }
         requires idle { W.runs world.old [] }
-        ensures entered { IfOk result (λ _. OnLooks (W.history world.old) (W.history world.new)
+        ensures entered { IfOk result (λ _. ByLooks (W.history world.old) (W.history world.new)
             (λ files. spec.entered files rules.now.seeking self.old n ≡ Ok self.new)) }
-        ensures refused { IfErr result (λ fault. OnLooks (W.history world.old) (W.history world.new)
+        ensures refused { IfErr result (λ fault. ByLooks (W.history world.old) (W.history world.new)
             (λ files. IsRefusedBy fault (spec.entered files rules.now.seeking self.old n))) }
         ensures met { OnOk result (steps.IsMet self.old self.new) }
         ensures cause { HasCause failed (W.faults world.old) (W.faults world.new) result }
@@ -110,10 +110,10 @@ impl<'g> Closure<'g> {
         requires within { n < length self.old.parts }
         requires below { AreBelow (length self.old.parts) todo.old.items }
         requires idle { W.runs world.old [] }
-        ensures leads { IfOk result (λ _. OnLooks (W.history world.old) (W.history world.new)
+        ensures leads { IfOk result (λ _. ByLooks (W.history world.old) (W.history world.new)
             (λ files. steps.Leads (spec.entered files rules.now.seeking)
             self.old (n ∷ reverse todo.old.items) self.new (reverse todo.new.items))) }
-        ensures refused { IfErr result (λ fault. OnLooks (W.history world.old) (W.history world.new)
+        ensures refused { IfErr result (λ fault. ByLooks (W.history world.old) (W.history world.new)
             (λ files. IsRefusedBy fault (spec.walk (spec.entered files rules.now.seeking)
             self.old (n ∷ reverse todo.old.items)))) }
         ensures nodes { OnOk result (self.new.nodes ≡ self.old.nodes) }
@@ -142,10 +142,10 @@ impl<'g> Closure<'g> {
         requires same { rules.now.nodes ≡ self.old.nodes }
         requires within { from < length self.old.parts }
         requires idle { W.runs world.old [] }
-        ensures walked { IfOk result (λ _. OnLooks (W.history world.old) (W.history world.new)
+        ensures walked { IfOk result (λ _. ByLooks (W.history world.old) (W.history world.new)
             (λ files. spec.walk (spec.entered files rules.now.seeking) self.old (from ∷ [])
             ≡ Ok self.new)) }
-        ensures refused { IfErr result (λ fault. OnLooks (W.history world.old) (W.history world.new)
+        ensures refused { IfErr result (λ fault. ByLooks (W.history world.old) (W.history world.new)
             (λ files. IsRefusedBy fault
             (spec.walk (spec.entered files rules.now.seeking) self.old (from ∷ [])))) }
         ensures nodes { OnOk result (self.new.nodes ≡ self.old.nodes) }
@@ -169,10 +169,10 @@ impl<'g> Closure<'g> {
     ) -> Result<(), CloseFault>
         requires same { rules.now.nodes ≡ self.old.nodes }
         requires idle { W.runs world.old [] }
-        ensures met { IfOk result (λ _. OnLooks (W.history world.old) (W.history world.new)
+        ensures met { IfOk result (λ _. ByLooks (W.history world.old) (W.history world.new)
             (λ files. spec.wanted_met (spec.entered files rules.now.seeking) self.old name.now
             ≡ Ok self.new)) }
-        ensures refused { IfErr result (λ fault. OnLooks (W.history world.old) (W.history world.new)
+        ensures refused { IfErr result (λ fault. ByLooks (W.history world.old) (W.history world.new)
             (λ files. IsRefusedBy fault
             (spec.wanted_met (spec.entered files rules.now.seeking) self.old name.now))) }
         ensures nodes { OnOk result (self.new.nodes ≡ self.old.nodes) }
@@ -196,10 +196,10 @@ impl<'g> Closure<'g> {
     ) -> Result<(), CloseFault>
         requires same { rules.now.nodes ≡ self.old.nodes }
         requires idle { W.runs world.old [] }
-        ensures met { IfOk result (λ _. OnLooks (W.history world.old) (W.history world.new)
+        ensures met { IfOk result (λ _. ByLooks (W.history world.old) (W.history world.new)
             (λ files. spec.all_met (spec.entered files rules.now.seeking) self.old wanted.now
             ≡ Ok self.new)) }
-        ensures refused { IfErr result (λ fault. OnLooks (W.history world.old) (W.history world.new)
+        ensures refused { IfErr result (λ fault. ByLooks (W.history world.old) (W.history world.new)
             (λ files. IsRefusedBy fault
             (spec.all_met (spec.entered files rules.now.seeking) self.old wanted.now))) }
         ensures cause { HasCause failed (W.faults world.old) (W.faults world.new) result }
@@ -225,7 +225,8 @@ impl<'g> Closure<'g> {
 /// has none, it is dropped if it is optional, and else it is refused.
 ///
 /// `NoRule` is the first such name, and `Full` comes exactly where a 1,048,577th name would be added
-/// before. `Failed` comes only where the world's count of faults rose or is at its end.
+/// before. All this is by what the world was asked and answered: the closure, or its refusal, is that of all
+/// files that fit the answers. `Failed` comes only where the world's count of faults rose or is at its end.
 pub fn close<'g, W: World>(
     alloc: Global,
     graph: &'g Graph,
@@ -236,10 +237,10 @@ pub fn close<'g, W: World>(
     world: &mut W,
 ) -> Result<Closure<'g>, CloseFault>
     requires idle { W.runs world.old [] }
-    ensures closed { IfOk result (λ closure. OnLooks (W.history world.old) (W.history world.new)
+    ensures closed { IfOk result (λ closure. ByLooks (W.history world.old) (W.history world.new)
         (λ files. spec.closed files graph.now (seeking_in suffixes.now paths.now cwd.now) wanted.now
         ≡ Ok closure)) }
-    ensures refused { IfErr result (λ fault. OnLooks (W.history world.old) (W.history world.new)
+    ensures refused { IfErr result (λ fault. ByLooks (W.history world.old) (W.history world.new)
         (λ files. IsRefusedBy fault
         (spec.closed files graph.now (seeking_in suffixes.now paths.now cwd.now) wanted.now))) }
     ensures cause { HasCause failed (W.faults world.old) (W.faults world.new) result }

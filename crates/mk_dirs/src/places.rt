@@ -3,7 +3,7 @@ ghost use Rattle.std.specs.Prelude.{◌≡◌, [], true, Some, is_none, IfOk, On
 ghost use Rattle.mk_dirs.specs.Places as spec;
 ghost use Rattle.mk_dirs.specs.declared.fault.DirFault.TheVariants.{Failed as failed};
 ghost use Rattle.mk_world.specs.Causes.{HasCause};
-ghost use Rattle.mk_world.specs.Looks.{OnLooks, OnlyLooked};
+ghost use Rattle.mk_dirs.specs.Answered.{ByLooks, OnlyDated};
 ghost use Rattle.mk_world.specs.declared.fault.WorldFault.TheVariants.{Failed as world_failed};
 
 use crate::fault::DirFault;
@@ -13,9 +13,9 @@ use std::alloc::Global;
 
 fn is_missing<W: World>(alloc: Global, world: &mut W, path: &[u8]) -> Result<bool, WorldFault>
     requires idle { W.runs world.old [] }
-    ensures told { IfOk result (λ missing. OnLooks (W.history world.old) (W.history world.new)
+    ensures told { IfOk result (λ missing. ByLooks (W.history world.old) (W.history world.new)
         (λ files. missing ≡ is_none (files path.now))) }
-    ensures refused { OnErr result (OnlyLooked (W.history world.old) (W.history world.new)) }
+    ensures refused { OnErr result (OnlyDated (W.history world.old) (W.history world.new)) }
     ensures cause { HasCause world_failed (W.faults world.old) (W.faults world.new) result }
     ensures idle { W.runs world.new [] }
 {
@@ -44,9 +44,9 @@ fn found_below<W: World>(
     world: &mut W,
 ) -> Result<Option<Text>, DirFault>
     requires idle { W.runs world.old [] }
-    ensures told { IfOk result (λ found. OnLooks (W.history world.old) (W.history world.new)
+    ensures told { IfOk result (λ found. ByLooks (W.history world.old) (W.history world.new)
         (λ files. found ≡ spec.found_below files cwd.now dir.now name.now)) }
-    ensures refused { OnErr result (OnlyLooked (W.history world.old) (W.history world.new)) }
+    ensures refused { OnErr result (OnlyDated (W.history world.old) (W.history world.new)) }
     ensures cause { HasCause failed (W.faults world.old) (W.faults world.new) result }
     ensures idle { W.runs world.new [] }
 {
@@ -66,9 +66,9 @@ fn first_below<W: World>(
     world: &mut W,
 ) -> Result<Option<Text>, DirFault>
     requires idle { W.runs world.old [] }
-    ensures told { IfOk result (λ found. OnLooks (W.history world.old) (W.history world.new)
+    ensures told { IfOk result (λ found. ByLooks (W.history world.old) (W.history world.new)
         (λ files. found ≡ spec.first_below files cwd.now dirs.now name.now)) }
-    ensures refused { OnErr result (OnlyLooked (W.history world.old) (W.history world.new)) }
+    ensures refused { OnErr result (OnlyDated (W.history world.old) (W.history world.new)) }
     ensures cause { HasCause failed (W.faults world.old) (W.faults world.new) result }
     ensures idle { W.runs world.new [] }
 {
@@ -97,13 +97,13 @@ pub fn place<W: World>(
 ) -> Result<Option<Text>, DirFault>
     requires idle { W.runs world.old [] }
 
-    // Where the world tells, the answer is the place by the files that it tells of.
-    ensures told { IfOk result (λ found. OnLooks (W.history world.old) (W.history world.new)
+    // The answer is the place by what the world was asked and answered: of all files that fit the answers.
+    ensures told { IfOk result (λ found. ByLooks (W.history world.old) (W.history world.new)
         (λ files. found ≡ spec.place files target paths.now cwd.now name.now)) }
 
     // In every world a target stands for itself.
     ensures target { target ≡ true → IfOk result (λ found. found ≡ Some name.now) }
-    ensures refused { OnErr result (OnlyLooked (W.history world.old) (W.history world.new)) }
+    ensures refused { OnErr result (OnlyDated (W.history world.old) (W.history world.new)) }
     ensures cause { HasCause failed (W.faults world.old) (W.faults world.new) result }
     ensures idle { W.runs world.new [] }
 {

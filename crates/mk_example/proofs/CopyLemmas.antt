@@ -30,6 +30,7 @@ use Rattle.mk_meta.specs.Texts.{meta_text}
 use Rattle.mk_meta.specs.TrueHistory.{meta_path}
 use Rattle.mk_meta.specs.declared.meta.Meta.{Meta}
 use Rattle.mk_oodate.specs.Fresh.{GoesByRecords}
+use Rattle.mk_plan.proofs.LookLemmas.{ByLooks-told}
 use Rattle.mk_plan.specs.Oodate.{refers}
 use Rattle.mk_plan.specs.PlanLaws.{plan_names}
 use Rattle.mk_plan.specs.Plans.{node_at, planned}
@@ -379,7 +380,7 @@ leaves-copy bytes old mid new first last went made_then ready was at then_is don
       where
         looked_only : OnlyLooks mid planned_at
             × (planned (files_of mid) made_then [] false ≡ Ok built.nodes)
-        looked_only = told-at _ at here built.planned
+        looked_only = told-at _ at here (ByLooks-told built.planned)
 
         nodes_are : built.nodes ≡ nodes
         nodes_are = sym (same-ok nodes built.nodes
@@ -477,7 +478,7 @@ of-run bytes old new out out_after err report ready run done =
       where
         untold : (planned_at : Option History) → built.planned_at ≡ planned_at → ⊥
         untold None here = told-before _ here refl built.built.true_build.build.told
-        untold (Some planned_at) here = told-before _ refl here built.planned
+        untold (Some planned_at) here = told-before _ refl here (ByLooks-told built.planned)
     from (Some mid) (Ok made_then) reads (inr built) cleans =
         leaves-copy bytes old mid new (point (Some mid) out) (point (Some new) out_after) run.run.went made_then ready
         (was-read bytes old mid err.before run.run.err_at made_then ready reads) refl refl went_done built

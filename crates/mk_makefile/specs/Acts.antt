@@ -4,8 +4,8 @@ use Rattle.std.proofs.Common.{refl, sym, ap, subst, ◌∙◌, append_assoc}
 use Rattle.std.proofs.lemmas.List.{append-nil}
 use Rattle.mk_blocks.specs.Acts.{Act, wrote, looked, dated, listed, ran}
 use Rattle.mk_values.specs.declared.facts.Asked.{Asked}
-use Rattle.mk_world.specs.Sinks.{Gains, GainsPart}
-use Rattle.mk_world.proofs.SinkLemmas.{Gains-nothing, Gains-then, GainsPart-more, GainsPart-then}
+use Rattle.mk_world.specs.Sinks.{Begins, Gains}
+use Rattle.mk_world.proofs.SinkLemmas.{Gains-nothing, Gains-then}
 use Rattle.mk_makefile.specs.Questions.{Question, AreTimes, bytes_of, time_of, names_of, output_of, cut, times_in}
 
 -- The files, times, listings and commands that questions ask for, each an act, in order. A command that was not
@@ -47,16 +47,28 @@ pub record Did (before after : Option (List ℕ)) (asked asked_now acts : List A
   pub gains : Gains before after (written acts)
   pub asks : asked_now ≡ asked ++ asked_in acts
 
--- A first part of the messages was written, and a first part of the files, times, listings and commands
--- asked for. Behind it there may be further times: those that the last evaluation asked for before the
--- outside failed in it, or memory ran out.
+-- A beginning of the first of these acts, where that is a message.
+abbrev pub IsBegun : List ℕ → List Act → Type 0
+IsBegun piece [] = piece ≡ []
+IsBegun piece (wrote message ∷ acts) = Begins piece message
+IsBegun piece (looked path ∷ acts) = piece ≡ []
+IsBegun piece (dated path ∷ acts) = piece ≡ []
+IsBegun piece (listed dir ∷ acts) = piece ≡ []
+IsBegun piece (ran cmd ∷ acts) = piece ≡ []
+
+-- One first part of the acts was done, of messages, files, times, listings and commands alike, and of a message
+-- behind it perhaps a beginning. Behind it there may be further times: those that the last evaluation asked for
+-- before the outside failed in it, or memory ran out. So whatever call of the outside fails, the messages before it
+-- are written, and none behind it.
 pub record DidPart (before after : Option (List ℕ)) (asked asked_now acts : List Act) : Type 0 where
-  pub gains : GainsPart before after (written acts)
   pub part : List Act
   pub rest : List Act
-  pub whole : asked_in acts ≡ part ++ rest
+  pub whole : acts ≡ part ++ rest
+  pub piece : List ℕ
+  pub begun : IsBegun piece rest
+  pub gains : Gains before after (written part ++ piece)
   pub looks : List Asked
-  pub asks : asked_now ≡ asked ++ (part ++ dates looks)
+  pub asks : asked_now ≡ asked ++ (asked_in part ++ dates looks)
 
 pub acts_of-append : (first second : List Question)
     → acts_of (first ++ second) ≡ acts_of first ++ acts_of second
@@ -116,11 +128,22 @@ written-append (dated path ∷ more) second = written-append more second
 written-append (listed dir ∷ more) second = written-append more second
 written-append (ran cmd ∷ more) second = written-append more second
 
-GainsPart-whole : (a b : Option (List ℕ)) (bytes : List ℕ) → Gains a b bytes → GainsPart a b bytes
-GainsPart-whole a None bytes gains = tt
-GainsPart-whole None (Some b) bytes gains = gains
-GainsPart-whole (Some a) (Some b) bytes gains =
-    (bytes, record { rest = []; is = sym (append-nil bytes) }, gains)
+-- nothing is a beginning of any act
+pub begun-nothing : (acts : List Act) → IsBegun [] acts
+begun-nothing [] = refl
+begun-nothing (wrote message ∷ acts) = record { rest = message; is = refl }
+begun-nothing (looked path ∷ acts) = refl
+begun-nothing (dated path ∷ acts) = refl
+begun-nothing (listed dir ∷ acts) = refl
+begun-nothing (ran cmd ∷ acts) = refl
+
+begun-more : (piece : List ℕ) (acts more : List Act) → IsBegun piece acts → IsBegun piece (acts ++ more)
+begun-more piece [] more none = subst (λ l. IsBegun l more) (sym none) (begun-nothing more)
+begun-more piece (wrote message ∷ acts) more begun = begun
+begun-more piece (looked path ∷ acts) more begun = begun
+begun-more piece (dated path ∷ acts) more begun = begun
+begun-more piece (listed dir ∷ acts) more begun = begun
+begun-more piece (ran cmd ∷ acts) more begun = begun
 
 pub Did-nothing : (held : Option (List ℕ)) (asked : List Act) → Did held held asked asked []
 Did-nothing held asked = record { gains = Gains-nothing held; asks = sym (append-nil asked) }
@@ -137,37 +160,44 @@ module _ (a b c : Option (List ℕ)) (k l m first second : List Act) where
 
   pub DidPart-behind : Did a b k l first → DidPart b c l m second → DidPart a c k m (first ++ second)
   DidPart-behind did more = record {
-    gains = subst (GainsPart a c) (sym (written-append first second))
-        (GainsPart-then a b c (written first) (written second) did.gains more.gains);
-    part = asked_in first ++ more.part;
+    part = first ++ more.part;
     rest = more.rest;
-    whole = asked_in-append first second ∙ ap (λ s. asked_in first ++ s) more.whole
-        ∙ sym (append_assoc (asked_in first) more.part more.rest);
+    whole = ap (λ s. first ++ s) more.whole ∙ sym (append_assoc first more.part more.rest);
+    piece = more.piece;
+    begun = more.begun;
+    gains = subst (Gains a c)
+        (sym (append_assoc (written first) (written more.part) more.piece)
+        ∙ ap (λ s. s ++ more.piece) (sym (written-append first more.part)))
+        (Gains-then a b c (written first) (written more.part ++ more.piece) did.gains more.gains);
     looks = more.looks;
-    asks = more.asks ∙ ap (λ s. s ++ (more.part ++ dates more.looks)) did.asks
-        ∙ append_assoc k (asked_in first) (more.part ++ dates more.looks)
-        ∙ ap (λ s. k ++ s) (sym (append_assoc (asked_in first) more.part (dates more.looks)));
+    asks = more.asks ∙ ap (λ s. s ++ (asked_in more.part ++ dates more.looks)) did.asks
+        ∙ append_assoc k (asked_in first) (asked_in more.part ++ dates more.looks)
+        ∙ ap (λ s. k ++ s)
+        (sym (append_assoc (asked_in first) (asked_in more.part) (dates more.looks))
+        ∙ ap (λ s. s ++ dates more.looks) (sym (asked_in-append first more.part)));
   }
 
 module _ (a b : Option (List ℕ)) (k l : List Act) where
   pub DidPart-whole : (acts : List Act) → Did a b k l acts → DidPart a b k l acts
   DidPart-whole acts did = record {
-    gains = GainsPart-whole a b (written acts) did.gains;
-    part = asked_in acts;
+    part = acts;
     rest = [];
-    whole = sym (append-nil (asked_in acts));
+    whole = sym (append-nil acts);
+    piece = [];
+    begun = refl;
+    gains = subst (Gains a b) (sym (append-nil (written acts))) did.gains;
     looks = [];
     asks = did.asks ∙ ap (λ s. k ++ s) (sym (append-nil (asked_in acts)));
   }
 
   pub DidPart-more : (part more : List Act) → DidPart a b k l part → DidPart a b k l (part ++ more)
   DidPart-more part more did = record {
-    gains = subst (GainsPart a b) (sym (written-append part more))
-        (GainsPart-more a b (written part) (written more) did.gains);
     part = did.part;
-    rest = did.rest ++ asked_in more;
-    whole = asked_in-append part more ∙ ap (λ s. s ++ asked_in more) did.whole
-        ∙ append_assoc did.part did.rest (asked_in more);
+    rest = did.rest ++ more;
+    whole = ap (λ s. s ++ more) did.whole ∙ append_assoc did.part did.rest more;
+    piece = did.piece;
+    begun = begun-more did.piece did.rest more did.begun;
+    gains = did.gains;
     looks = did.looks;
     asks = did.asks;
   }

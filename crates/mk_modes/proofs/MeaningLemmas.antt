@@ -12,12 +12,11 @@ use Rattle.mk_plan.specs.Refusals.{IsRefusedBy}
 use Rattle.mk_plan.specs.declared.fault.PlanFault.{PlanFault}
 use Rattle.mk_plan.specs.declared.fault.PlanFault.TheVariants as plan
 use Rattle.mk_world.specs.Causes.{HasCause, Rose, last_count}
-use Rattle.mk_world.specs.Looks.{DatesAll}
 use Rattle.mk_world.specs.Runs.{Same}
 use Rattle.mk_world.specs.Talks.{Meaning}
 use Rattle.mk_world.specs.Told.{Told}
 use Rattle.mk_world.specs.declared.history.History.{History}
-use Rattle.mk_plan.proofs.LookLemmas.{OnLooks-none}
+use Rattle.mk_dirs.proofs.LookLemmas.{ByLooks-none, dates-none}
 use Rattle.mk_world.proofs.SinkLemmas.{Gains-nothing}
 use Rattle.mk_modes.specs.Building.{IsUnplanned, point, unbuilt}
 use Rattle.mk_modes.specs.Causes.{EndCause, LineCause, SinkCause}
@@ -52,10 +51,6 @@ outside_fault : (end : End) → IsOutside end
 outside_fault end (inl failed) = (plan.Failed, failed, inl refl)
 outside_fault end (inr want) = (plan.NoMemory, want, inr refl)
 
-looked-none : (h : Option History) → Told h h (DatesAll [])
-looked-none None = tt
-looked-none (Some h) = refl
-
 unplanned-stopped : (made : Made) (requested : List (List ℕ)) (query : Bool) (end : End)
     (h : Option History) (a : Option (List ℕ)) → IsOutside end
     → IsUnplanned made requested query (point h a) (point h a) (unbuilt end)
@@ -63,7 +58,7 @@ unplanned-stopped made requested query end h a outside =
     let refused = outside_fault end outside in
     record {
       fault = refused.0;
-      refused = OnLooks-none h
+      refused = ByLooks-none h
           (λ files. IsRefusedBy refused.0 (planned files made requested query))
           (λ files. inl refused.2);
       is = ap unbuilt refused.1;
@@ -78,7 +73,7 @@ Goes-stopped meaning (only outcome) end h a outside =
     Goes-only meaning outcome h a a end (Printed-stopped outcome end a outside)
 Goes-stopped meaning (prints variables lists all) end h a outside = record {
   looked = [];
-  told = looked-none h;
+  told = dates-none h;
   printed = Printed-stopped (printed (setting_of variables lists (answers_by [])) [] 0 all) end a
       outside;
   unbuilt = refl;

@@ -19,7 +19,7 @@ use Rattle.mk_modes.specs.Ends.{of_plan, of_build}
 use Rattle.mk_modes.specs.declared.building.Went.{Went}
 use Rattle.mk_modes.specs.declared.report.End.{End}
 use Rattle.mk_modes.specs.declared.report.End.TheVariants.{NoMemory}
-use Rattle.mk_world.specs.Looks.{OnLooks}
+use Rattle.mk_dirs.specs.Answered.{ByLooks}
 use Rattle.mk_world.specs.Sinks.{Gains}
 use Rattle.mk_world.specs.Talks.{Meaning}
 use Rattle.mk_world.specs.declared.history.History.{History}
@@ -60,7 +60,7 @@ pub record IsUnplanned (made : Made) (requested : List (List ℕ)) (query : Bool
     (went : Went) : Type 0
   where
     pub fault : PlanFault
-    pub refused : OnLooks first.history last.history
+    pub refused : ByLooks first.history last.history
         (λ files. IsRefusedBy fault (planned files made requested query))
     pub is : went ≡ unbuilt (of_plan fault)
     pub printed : Gains first.out last.out []
@@ -71,7 +71,7 @@ pub record IsBuilt (meaning : Meaning) (made : Made) (flags : Flags) (first last
   where
     pub planned_at : Option History
     pub nodes : List PlanNode
-    pub planned : OnLooks first.history planned_at
+    pub planned : ByLooks first.history planned_at
         (λ files. planned files made flags.requested flags.query ≡ Ok nodes)
     pub plan : went.plan ≡ names_of nodes
     -- no two nodes of the graph have one name

@@ -14,7 +14,8 @@ use Rattle.mk_modes.specs.Ends.{of_explain}
 use Rattle.mk_modes.specs.declared.building.Went.{Went}
 use Rattle.mk_modes.specs.declared.report.End.{End}
 use Rattle.mk_modes.specs.declared.report.End.TheVariants.{Done, SinkFault, NoMemory}
-use Rattle.mk_world.specs.Looks.{OnLooks, OnlyLooked}
+use Rattle.mk_dirs.specs.Answered.{ByLooks}
+use Rattle.mk_world.specs.Looks.{OnlyLooked}
 use Rattle.mk_world.specs.Sinks.{Gains, GainsPart}
 use Rattle.mk_world.specs.Talks.{Meaning}
 use Rattle.mk_world.specs.declared.history.History.{History}
@@ -46,7 +47,7 @@ pub record IsExplainedRun (meaning : Meaning) (made : Made) (flags : Flags) (fir
   where
     pub planned_at : Option History
     pub nodes : List PlanNode
-    pub planned : OnLooks first.history planned_at
+    pub planned : ByLooks first.history planned_at
         (λ files. planned files made flags.requested false ≡ Ok nodes)
     pub plan : went.plan ≡ names_of nodes
     pub events : went.events ≡ []

@@ -13,7 +13,7 @@ use Rattle.mk_modes.specs.Ends.{of_query}
 use Rattle.mk_modes.specs.declared.building.Went.{Went}
 use Rattle.mk_modes.specs.declared.report.End.{End}
 use Rattle.mk_modes.specs.declared.report.End.TheVariants.{NoMemory}
-use Rattle.mk_world.specs.Looks.{OnLooks}
+use Rattle.mk_dirs.specs.Answered.{ByLooks}
 use Rattle.mk_world.specs.Sinks.{Gains}
 use Rattle.mk_world.specs.declared.history.History.{History}
 
@@ -34,7 +34,7 @@ IsEndOf nodes result end =
 pub record IsQueried (made : Made) (flags : Flags) (first last : Point) (went : Went) : Type 0 where
   pub planned_at : Option History
   pub nodes : List PlanNode
-  pub planned : OnLooks first.history planned_at
+  pub planned : ByLooks first.history planned_at
       (λ files. planned files made flags.requested flags.query ≡ Ok nodes)
   pub plan : went.plan ≡ names_of nodes
   pub result : QueryResult

@@ -10,7 +10,7 @@ use Rattle.mk_modes.specs.Building.{IsEndOf, IsUnplanned, Point, names_of}
 use Rattle.mk_modes.specs.declared.building.Went.{Went}
 use Rattle.mk_trace.specs.Builds.{moment}
 use Rattle.mk_trace.specs.declared.result.BuildResult.{BuildResult}
-use Rattle.mk_world.specs.Looks.{OnLooks}
+use Rattle.mk_dirs.specs.Answered.{ByLooks}
 use Rattle.mk_world.specs.Talks.{Meaning}
 use Rattle.mk_world.specs.declared.history.History.{History}
 
@@ -19,7 +19,7 @@ pub record IsShown (meaning : Meaning) (made : Made) (flags : Flags) (first last
   where
     pub planned_at : Option History
     pub nodes : List PlanNode
-    pub planned : OnLooks first.history planned_at
+    pub planned : ByLooks first.history planned_at
         (λ files. planned files made flags.requested flags.query ≡ Ok nodes)
     pub plan : went.plan ≡ names_of nodes
     pub result : BuildResult

@@ -1,6 +1,6 @@
 //! Builds of the targets that are asked for.
 ghost use Rattle.std.specs.Prelude.{◌≡◌, List, [], Option, Ok, IfOk};
-ghost use Rattle.mk_world.specs.Looks.{OnLooks};
+ghost use Rattle.mk_dirs.specs.Answered.{ByLooks};
 ghost use Rattle.mk_graph.specs.Nodes.{names_of as graph_names};
 ghost use Rattle.mk_plan.specs.Plans.{node_at, planned};
 ghost use Rattle.mk_pool.specs.Pool.{AreDistinct};
@@ -104,7 +104,7 @@ fn build_plan<W: World, S: Sink>(
 ) -> Went
     requires jobs { spec.AreJobs flags.now.jobs }
     requires idle { W.runs world.old [] }
-    ensures builds { (first : Option History) → OnLooks first (W.history world.old)
+    ensures builds { (first : Option History) → ByLooks first (W.history world.old)
         (λ files. planned files made.now flags.now.requested flags.now.query ≡ Ok plan)
         → spec.Builds W.meaning made.now flags.now (spec.point first (S.held out.old))
         (spec.point (W.history world.new) (S.held out.new)) result }

@@ -16,7 +16,8 @@ ghost use Rattle.mk_modes.specs.declared.report.End.TheVariants.{
   NoMemory as no_memory,
 };
 ghost use Rattle.mk_world.specs.Causes.{HasCause};
-ghost use Rattle.mk_world.specs.Looks.{OnLooks, OnlyLooked};
+ghost use Rattle.mk_dirs.specs.Answered.{ByLooks};
+ghost use Rattle.mk_world.specs.Looks.{OnlyLooked};
 ghost use Rattle.mk_world.specs.Sinks.{Gains, GainsPart};
 ghost use Rattle.mk_world.specs.declared.fault.SinkFault.TheVariants.{Failed};
 ghost use Rattle.mk_world.specs.declared.history.History.{History};
@@ -106,7 +107,7 @@ fn explain_plan<W: World, S: Sink>(
     out: &mut S,
 ) -> Went
     requires idle { W.runs world.old [] }
-    ensures explains { (first : Option History) → OnLooks first (W.history world.old)
+    ensures explains { (first : Option History) → ByLooks first (W.history world.old)
         (λ files. planned files made.now flags.now.requested false ≡ Ok plan)
         → spec.Explanation W.meaning made.now flags.now (point first (S.held out.old))
         (point (W.history world.new) (S.held out.new)) result }

@@ -9,7 +9,7 @@ ghost use Rattle.mk_modes.specs.declared.report.End.TheVariants.{
   WorldFault as world_failed,
   SinkFault as sink_failed,
 };
-ghost use Rattle.mk_world.specs.Looks.{OnLooks};
+ghost use Rattle.mk_dirs.specs.Answered.{ByLooks};
 ghost use Rattle.mk_world.specs.declared.history.History.{History};
 
 use crate::building::{Went, name_at, unbuilt};
@@ -55,7 +55,7 @@ fn query_plan<W: World>(
 ) -> Went
     requires idle { W.runs world.old [] }
     ensures queries { (first : Option History) (out : Option (List ℕ))
-        → OnLooks first (W.history world.old)
+        → ByLooks first (W.history world.old)
         (λ files. planned files made.now flags.now.requested flags.now.query ≡ Ok plan)
         → spec.Queries made.now flags.now (point first out) (point (W.history world.new) out) result }
     ensures world_cause { runs.EndCause world_failed (W.faults world.old) (W.faults world.new)

@@ -8,7 +8,7 @@ ghost use Rattle.mk_modes.specs.declared.report.End.TheVariants.{
   WorldFault as world_failed,
   SinkFault as sink_failed,
 };
-ghost use Rattle.mk_world.specs.Looks.{OnLooks};
+ghost use Rattle.mk_dirs.specs.Answered.{ByLooks};
 ghost use Rattle.mk_world.specs.declared.history.History.{History};
 
 use crate::building::{Went, end_by, names_of, unbuilt};
@@ -30,7 +30,7 @@ fn show_plan<W: World, S: Sink>(
     out: &mut S,
 ) -> Went
     requires idle { W.runs world.old [] }
-    ensures shows { (first : Option History) → OnLooks first (W.history world.old)
+    ensures shows { (first : Option History) → ByLooks first (W.history world.old)
         (λ files. planned files made.now flags.now.requested flags.now.query ≡ Ok plan)
         → spec.Shows W.meaning made.now flags.now (point first (S.held out.old))
         (point (W.history world.new) (S.held out.new)) result }

@@ -1,4 +1,4 @@
 -- Calls that only look, one after the other.
 pub use Rattle.mk_suffix.proofs.LookLemmas.{state_of-looks, only_none, only_same, only_then}
-pub use Rattle.mk_suffix.proofs.LookLemmas.{OnLooks-none, OnLooks-then, OnLooks-map, OnLooks-refused}
-pub use Rattle.mk_suffix.proofs.LookLemmas.{OnLooks-timed, OnErr-looked}
+pub use Rattle.mk_suffix.proofs.LookLemmas.{ByLooks-none, ByLooks-then, ByLooks-map, ByLooks-refused, ByLooks-told}
+pub use Rattle.mk_suffix.proofs.LookLemmas.{ByLooks-timed, OnErr-looked}

@@ -1,10 +1,11 @@
 -- Questions of `exists` one after the other: the laws of whoever answers them.
-use Rattle.std.specs.Prelude.{List, [], ◌∷◌, ◌++◌, map, Option, Some, None}
-use Rattle.std.proofs.Common.{refl, sym, ap, ◌∙◌, subst, append_assoc}
+use Rattle.std.specs.Prelude.{List, [], ◌++◌, map, Option}
+use Rattle.std.proofs.Common.{sym, ap, ◌∙◌, subst, append_assoc}
 use Rattle.std.proofs.lemmas.List.{append-nil, map-append}
 use Rattle.std.specs.Option.{option_map}
 use Rattle.mk_values.specs.declared.facts.Asked.{Asked}
-use Rattle.mk_world.specs.Looks.{Dated, DatesAll, LooksAll, answered, dated}
+use Rattle.mk_dirs.proofs.LookLemmas.{dates-none, dates-then}
+use Rattle.mk_world.specs.Looks.{LooksAll, answered, dated}
 use Rattle.mk_world.specs.Talks.{Meaning}
 use Rattle.mk_world.specs.Told.{Told}
 use Rattle.mk_world.specs.declared.history.History.{History}
@@ -13,29 +14,11 @@ use Rattle.mk_plan.specs.Asking.{Asking, AskingBeside, as_asked}
 
 -- no question
 
-dates-none : (told : Option History) → Told told told (DatesAll [])
-dates-none None = tt
-dates-none (Some history) = refl
-
 pub asking_none : (told : Option History) (asked : List Asked) → Asking told told asked asked
 asking_none told asked =
     record { looked = []; added = sym (append-nil asked); told = dates-none told }
 
 -- one question after the other
-
-dates-append : (a b c : History) (first second : List Dated)
-    → DatesAll first a b → DatesAll second b c → DatesAll (first ++ second) a c
-dates-append a b c [] second same more = subst (λ h. DatesAll second h c) same more
-dates-append a b c (one ∷ first) second looks more =
-    (looks.0, looks.1, dates-append looks.0 b c first second looks.2 more)
-
-dates-then : (a b c : Option History) (first second : List Dated)
-    → Told a b (DatesAll first) → Told b c (DatesAll second) → Told a c (DatesAll (first ++ second))
-dates-then a b None first second looks more = tt
-dates-then a None (Some z) first second looks more = absurd more
-dates-then None (Some y) (Some z) first second looks more = absurd looks
-dates-then (Some x) (Some y) (Some z) first second looks more =
-    dates-append x y z first second looks more
 
 pub asking_then : (a b c : Option History) (old mid new : List Asked)
     → Asking a b old mid → Asking b c mid new → Asking a c old new

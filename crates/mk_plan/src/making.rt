@@ -5,7 +5,7 @@ ghost use Rattle.mk_closure.specs.Members.{all_preds, listed, numbers_from, plan
 ghost use Rattle.mk_closure.specs.Names.{name_in};
 ghost use Rattle.mk_graph.specs.Numbers.{AreBelow};
 ghost use Rattle.mk_graph.specs.Orders.{IsOrder};
-ghost use Rattle.mk_world.specs.Looks.{OnLooks};
+ghost use Rattle.mk_dirs.specs.Answered.{ByLooks};
 ghost use Rattle.mk_plan.specs.Plans as spec;
 ghost use Rattle.mk_plan.specs.Refusals.{IsOwnPlan, IsRefusedBy};
 ghost use Rattle.mk_plan.specs.declared.fault.PlanFault.TheVariants.{
@@ -347,7 +347,8 @@ fn plan_of(
 ///
 /// `NoTarget` exactly where no name is requested and there is no main target; then `NoRule` and
 /// `Limit`, as the closure is refused first; then `Cycle` for the first closed walk over
-/// predecessors, its first name repeated at the end. `Failed` comes only where the world's count of
+/// predecessors, its first name repeated at the end. All this is by what the world was asked and answered: the
+/// plan, or its refusal, is that of all files that fit the answers. `Failed` comes only where the world's count of
 /// faults rose or is at its end.
 pub fn make_plan<W: World>(
     alloc: Global,
@@ -357,9 +358,9 @@ pub fn make_plan<W: World>(
     world: &mut W,
 ) -> Result<Plan, PlanFault>
     requires idle { W.runs world.old [] }
-    ensures planned { IfOk result (λ plan. OnLooks (W.history world.old) (W.history world.new)
+    ensures planned { IfOk result (λ plan. ByLooks (W.history world.old) (W.history world.new)
         (λ files. spec.planned files made.now requested.now query ≡ Ok plan)) }
-    ensures refused { IfErr result (λ fault. OnLooks (W.history world.old) (W.history world.new)
+    ensures refused { IfErr result (λ fault. ByLooks (W.history world.old) (W.history world.new)
         (λ files. IsRefusedBy fault (spec.planned files made.now requested.now query))) }
     ensures cause { HasCause failed (W.faults world.old) (W.faults world.new) result }
     ensures idle { W.runs world.new [] }

@@ -12,7 +12,7 @@ use Rattle.mk_values.specs.declared.facts.Asked.{Asked}
 use Rattle.mk_values.specs.declared.fault.ExpandFault.{ExpandFault}
 use Rattle.mk_values.specs.declared.fault.ExpandFault.TheVariants as expand_fault
 use Rattle.mk_makefile.specs.Acts.{Did, Did-nothing, DidPart-more, DidPart-whole, acts_of, acts_of-append, acts_of-times}
-use Rattle.mk_makefile.specs.Acts.{asked_in, asked_in-dates, dates, written, written-dates}
+use Rattle.mk_makefile.specs.Acts.{asked_in, asked_in-dates, begun-nothing, dates, written, written-dates}
 use Rattle.mk_makefile.specs.Leads.{told-none}
 use Rattle.mk_makefile.specs.Messages.{said}
 use Rattle.mk_makefile.specs.Moments.{Doing, Moment, moment_of}
@@ -32,7 +32,7 @@ use Rattle.mk_makefile.proofs.MomentLemmas.{moment-asked, newly_dated-more}
 use Rattle.mk_makefile.proofs.QuestionLemmas.{cuts_in-none, told_nothing, told_one}
 use Rattle.mk_world.specs.Causes.{HasCause}
 use Rattle.mk_world.specs.Runs.{Same}
-use Rattle.mk_world.specs.Sinks.{Gains, GainsPart}
+use Rattle.mk_world.specs.Sinks.{Begins, Gains, GainsPart}
 use Rattle.mk_world.specs.Told.{Told}
 use Rattle.mk_world.specs.declared.fault.SinkFault.{SinkFault}
 use Rattle.mk_world.specs.declared.fault.SinkFault.TheVariants as sink_fault
@@ -62,6 +62,13 @@ own_case : {P : Type 0} (fault : ExpandFault) → IsOwn fault → (expand.IsOuts
 own_case fault own (inl (inl want)) = absurd (own.0 want)
 own_case fault own (inl (inr failed)) = absurd (own.1 failed)
 own_case fault own (inr is) = is
+
+-- what was gained of a line that was cut
+part-begun : (a b : Option (List ℕ)) (line : List ℕ) → GainsPart a b line
+    → (cut : List ℕ) × Begins cut line × Gains a b cut
+part-begun a None line gained = ([], record { rest = line; is = refl }, tt)
+part-begun None (Some b) line gained = absurd gained
+part-begun (Some a) (Some b) line gained = gained
 
 -- the questions behind an answer
 given_questions : {B : Type 0} (found : Answer B) (value : B) (asked : List Asked)
@@ -198,14 +205,13 @@ module _ {W S : Type 0} (o : Outer W S) where
       -- by an evaluation that ended before its own end
       dates_part : (acts : List Act) → did_part o x y acts
       dates_part acts = record {
-        gains =
-            subst (λ s. GainsPart (o.held x.err.now) (o.held s) (written acts)) (sym same)
-            (DidPart-more (o.held x.err.now) (o.held x.err.now) (acts_at o x) (acts_at o x) [] acts
-            (DidPart-whole (o.held x.err.now) (o.held x.err.now) (acts_at o x) (acts_at o x) []
-            (Did-nothing (o.held x.err.now) (acts_at o x)))).gains;
         part = [];
-        rest = asked_in acts;
+        rest = acts;
         whole = refl;
+        piece = [];
+        begun = begun-nothing acts;
+        gains = subst (λ s. Gains (o.held x.err.now) (o.held s) []) (sym same)
+            (Gains-nothing (o.held x.err.now));
         looks = asked_by more;
         asks = dates-noted;
       }
@@ -683,12 +689,13 @@ module _ {W S : Type 0} (o : Outer W S) where
         gives = λ answers by.
             subst (λ (acts : List Act). did_part o x y acts)
             (sym (ap (λ (w : Doing (Unit {0})). w.acts) (is answers)))
-            (record {
-              gains = subst (GainsPart (o.held x.err.now) (o.held y.err.now))
-                  (sym (append-nil line)) part;
+            (let begun = part-begun (o.held x.err.now) (o.held y.err.now) line part in record {
               part = [];
-              rest = [];
+              rest = wrote line ∷ [];
               whole = refl;
+              piece = begun.0;
+              begun = begun.1;
+              gains = begun.2;
               looks = [];
               asks = asked_as_before;
             });

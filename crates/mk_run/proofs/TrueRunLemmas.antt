@@ -23,6 +23,7 @@ use Rattle.mk_world.specs.Told.{Told}
 use Rattle.mk_world.specs.declared.history.Happening.{Happening}
 use Rattle.mk_world.specs.declared.history.Happening.TheVariants.{Look, Ask}
 use Rattle.mk_world.specs.declared.history.History.{History}
+use Rattle.mk_plan.proofs.LookLemmas.{ByLooks-told}
 use Rattle.mk_run.proofs.CleanRunLemmas.{clean-run, done-before, done-build}
 use Rattle.mk_run.proofs.CompletenessLemmas.{completes}
 use Rattle.mk_modes.specs.Building.{Point, point}
@@ -171,19 +172,19 @@ saw-asks meaning seen old new saw = record {
 explained-told : (meaning : Meaning) (made : Made) (flags : Flags) (first last : Point) (went : Went)
     (new : History) → first.history ≡ None → last.history ≡ Some new
     → Explanation meaning made flags first last went → ⊥
-explained-told meaning made flags first last went new at is (inl unplanned) = told-before _ at is unplanned.refused
+explained-told meaning made flags first last went new at is (inl unplanned) = told-before _ at is (ByLooks-told unplanned.refused)
 explained-told meaning made flags first last went new at is (inr explained) = planned explained.planned_at refl
   where
     planned : (planned_at : Option History) → explained.planned_at ≡ planned_at → ⊥
     planned None here = told-before _ here is explained.looked
-    planned (Some then_is) here = told-before _ at here explained.planned
+    planned (Some then_is) here = told-before _ at here (ByLooks-told explained.planned)
 
 -- an explanation only asks
 explained-asks : (meaning : Meaning) (made : Made) (flags : Flags) (first last : Point) (went : Went)
     (read new : History) → first.history ≡ Some read → last.history ≡ Some new
     → Explanation meaning made flags first last went → OnlyAsked meaning read new
 explained-asks meaning made flags first last went read new at is (inl unplanned) =
-    looks-ask meaning read new (told-at _ at is unplanned.refused).0
+    looks-ask meaning read new (told-at _ at is (ByLooks-told unplanned.refused)).0
 explained-asks meaning made flags first last went read new at is (inr explained) =
     planned explained.planned_at refl
   where
@@ -191,25 +192,25 @@ explained-asks meaning made flags first last went read new at is (inr explained)
     planned None here = absurd (told-before _ here is explained.looked)
     planned (Some then_is) here =
         asked-then meaning read then_is new
-        (looks-ask meaning read then_is (told-at _ at here explained.planned).0)
+        (looks-ask meaning read then_is (told-at _ at here (ByLooks-told explained.planned)).0)
         (looks-ask meaning then_is new (told-at _ here is explained.looked).0)
 
 -- what tells behind a query told before it
 queried-told : (made : Made) (flags : Flags) (first last : Point) (went : Went) (new : History)
     → first.history ≡ None → last.history ≡ Some new → Queries made flags first last went → ⊥
-queried-told made flags first last went new at is (inl unplanned) = told-before _ at is unplanned.refused
+queried-told made flags first last went new at is (inl unplanned) = told-before _ at is (ByLooks-told unplanned.refused)
 queried-told made flags first last went new at is (inr queried) = planned queried.planned_at refl
   where
     planned : (planned_at : Option History) → queried.planned_at ≡ planned_at → ⊥
     planned None here = told-before _ here is queried.answered.1
-    planned (Some then_is) here = told-before _ at here queried.planned
+    planned (Some then_is) here = told-before _ at here (ByLooks-told queried.planned)
 
 -- a query only asks
 queried-asks : (meaning : Meaning) (made : Made) (flags : Flags) (first last : Point) (went : Went)
     (read new : History) → first.history ≡ Some read → last.history ≡ Some new
     → Queries made flags first last went → OnlyAsked meaning read new
 queried-asks meaning made flags first last went read new at is (inl unplanned) =
-    looks-ask meaning read new (told-at _ at is unplanned.refused).0
+    looks-ask meaning read new (told-at _ at is (ByLooks-told unplanned.refused)).0
 queried-asks meaning made flags first last went read new at is (inr queried) =
     planned queried.planned_at refl
   where
@@ -217,7 +218,7 @@ queried-asks meaning made flags first last went read new at is (inr queried) =
     planned None here = absurd (told-before _ here is queried.answered.1)
     planned (Some then_is) here =
         asked-then meaning read then_is new
-        (looks-ask meaning read then_is (told-at _ at here queried.planned).0)
+        (looks-ask meaning read then_is (told-at _ at here (ByLooks-told queried.planned)).0)
         (saw-asks meaning _ then_is new (told-at _ here is queried.answered.1))
 
 -- what follows the reading, before which make has only asked
@@ -240,7 +241,7 @@ goes-true meaning (queries made flags) old read first last went new asked at is 
     (asked-then meaning old read new asked (queried-asks meaning made flags first last went read new at is goes))
 goes-true meaning (shows made flags) old read first last went new asked at is (inl unplanned) =
     asking-true meaning None old new
-    (asked-then meaning old read new asked (looks-ask meaning read new (told-at _ at is unplanned.refused).0))
+    (asked-then meaning old read new asked (looks-ask meaning read new (told-at _ at is (ByLooks-told unplanned.refused)).0))
 goes-true meaning (shows made flags) old read first last went new asked at is (inr shown) =
     planned shown.planned_at refl
   where
@@ -252,14 +253,14 @@ goes-true meaning (shows made flags) old read first last went new asked at is (i
         λ lawful idle truth so_far later events leave apart.
         dry-true meaning shown.shown.items old planned_then new
         (asked-then meaning old read planned_then asked
-        (looks-ask meaning read planned_then (told-at _ at here shown.planned).0))
+        (looks-ask meaning read planned_then (told-at _ at here (ByLooks-told shown.planned)).0))
         told (dry-runs-stay-true meaning (work_on shown.nodes made flags) shown.shown.tasks shown.shown.items
         planned_then new shown.shown.makes told)
         lawful idle truth so_far later events leave
         (λ done now_is. apart planned_then done here now_is)
 goes-true meaning (builds made flags) old read first last went new asked at is (inl unplanned) =
     asking-true meaning None old new
-    (asked-then meaning old read new asked (looks-ask meaning read new (told-at _ at is unplanned.refused).0))
+    (asked-then meaning old read new asked (looks-ask meaning read new (told-at _ at is (ByLooks-told unplanned.refused)).0))
 goes-true meaning (builds made flags) old read first last went new asked at is (inr built) =
     planned built.planned_at refl
   where
@@ -273,7 +274,7 @@ goes-true meaning (builds made flags) old read first last went new asked at is (
         built-true meaning (work_on built.nodes made flags) built.built.true_build.build.tasks built.built.true_build.build.items
         old planned_then new
         (asked-then meaning old read planned_then asked
-        (looks-ask meaning read planned_then (told-at _ at here built.planned).0))
+        (looks-ask meaning read planned_then (told-at _ at here (ByLooks-told built.planned)).0))
         (told-at _ here is built.built.true_build.build.told) (told-at _ here is built.built.true_build.meta_files)
         lawful idle truth so_far later events leave
         (λ done rest are now_is. apart planned_then done rest here are now_is)
@@ -300,7 +301,7 @@ goes-clean meaning env order (builds made flags) end old read first last went ne
     planned None here = absurd (told-before _ here is built.built.true_build.build.told)
     planned (Some planned_then) here =
         λ done clean ready.
-        let looked = told-at _ at here built.planned in
+        let looked = told-at _ at here (ByLooks-told built.planned) in
         clean-run meaning env order made flags built.nodes built.built.true_build.build.tasks
         built.built.true_build.build.items built.planned_at old planned_then new clean (files_of read) here
         (asked-then meaning old read planned_then asked (looks-ask meaning read planned_then looked.0))
@@ -318,19 +319,19 @@ goes-told meaning (explains made flags) first last went new at is goes =
 goes-told meaning (queries made flags) first last went new at is goes =
     queried-told made flags first last went new at is goes
 goes-told meaning (shows made flags) first last went new at is (inl unplanned) =
-    told-before _ at is unplanned.refused
+    told-before _ at is (ByLooks-told unplanned.refused)
 goes-told meaning (shows made flags) first last went new at is (inr shown) = planned shown.planned_at refl
   where
     planned : (planned_at : Option History) → shown.planned_at ≡ planned_at → ⊥
     planned None here = told-before _ here is shown.shown.told
-    planned (Some then_is) here = told-before _ at here shown.planned
+    planned (Some then_is) here = told-before _ at here (ByLooks-told shown.planned)
 goes-told meaning (builds made flags) first last went new at is (inl unplanned) =
-    told-before _ at is unplanned.refused
+    told-before _ at is (ByLooks-told unplanned.refused)
 goes-told meaning (builds made flags) first last went new at is (inr built) = planned built.planned_at refl
   where
     planned : (planned_at : Option History) → built.planned_at ≡ planned_at → ⊥
     planned None here = told-before _ here is built.built.true_build.build.told
-    planned (Some then_is) here = told-before _ at here built.planned
+    planned (Some then_is) here = told-before _ at here (ByLooks-told built.planned)
 
 follows-told : (meaning : Meaning) (env : Env) (order : Order) (first last : Point) (err : Held)
     (went : Went) (new : History) → first.history ≡ None → last.history ≡ Some new
@@ -406,7 +407,7 @@ goes-run meaning (explains made flags) old read first last went new before at is
 goes-run meaning (queries made flags) old read first last went new before at is goes =
     run_then before (queried-asks meaning made flags first last went read new at is goes).run
 goes-run meaning (shows made flags) old read first last went new before at is (inl unplanned) =
-    run_then before (looks-ask meaning read new (told-at _ at is unplanned.refused).0).run
+    run_then before (looks-ask meaning read new (told-at _ at is (ByLooks-told unplanned.refused)).0).run
 goes-run meaning (shows made flags) old read first last went new before at is (inr shown) =
     planned shown.planned_at refl
   where
@@ -415,10 +416,10 @@ goes-run meaning (shows made flags) old read first last went new before at is (i
     planned (Some planned_then) here =
         let told = told-at _ here is shown.shown.told in
         run_then before
-        (run_then (looks-ask meaning read planned_then (told-at _ at here shown.planned).0).run
+        (run_then (looks-ask meaning read planned_then (told-at _ at here (ByLooks-told shown.planned)).0).run
         (happened-run meaning _ planned_then new told))
 goes-run meaning (builds made flags) old read first last went new before at is (inl unplanned) =
-    run_then before (looks-ask meaning read new (told-at _ at is unplanned.refused).0).run
+    run_then before (looks-ask meaning read new (told-at _ at is (ByLooks-told unplanned.refused)).0).run
 goes-run meaning (builds made flags) old read first last went new before at is (inr built) =
     planned built.planned_at refl
   where
@@ -427,7 +428,7 @@ goes-run meaning (builds made flags) old read first last went new before at is (
     planned (Some planned_then) here =
         let told = told-at _ here is built.built.true_build.build.told in
         run_then before
-        (run_then (looks-ask meaning read planned_then (told-at _ at here built.planned).0).run
+        (run_then (looks-ask meaning read planned_then (told-at _ at here (ByLooks-told built.planned)).0).run
         (happened-run meaning _ planned_then new told))
 
 follows-run : (meaning : Meaning) (env : Env) (order : Order) (first last : Point) (err : Held)

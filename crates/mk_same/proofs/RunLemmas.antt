@@ -7,6 +7,7 @@ use Rattle.mk_dry.specs.DryRuns.{IsDryRun}
 use Rattle.mk_explain.specs.Turns.{IsExplained, SawFiles, looks_of}
 use Rattle.mk_explain.specs.declared.reason.Reason.{Reason}
 use Rattle.mk_graph.specs.declared.Made.{Made}
+use Rattle.mk_plan.proofs.LookLemmas.{ByLooks-told}
 use Rattle.mk_plan.proofs.PlanLawLemmas.{plans_reached}
 use Rattle.mk_plan.proofs.PlanLemmas.{nodes_of-ordered}
 use Rattle.mk_plan.specs.Facts.{lists_of}
@@ -97,13 +98,13 @@ shown-runs meaning made shows tells first last begin end went other old new agai
 
     on_old : OnlyLooks old planned_then.history
         × (planned (files_of old) made shows.requested shows.query ≡ Ok shown.nodes)
-    on_old = both-told _ first.history shown.planned_at old planned_then.history here.begins planned_then.is shown.planned
+    on_old = both-told _ first.history shown.planned_at old planned_then.history here.begins planned_then.is (ByLooks-told shown.planned)
 
     on_again : OnlyLooks again explained_then.history
         × (planned (files_of again) made tells.requested false ≡ Ok told.nodes)
     on_again =
         both-told _ begin.history told.planned_at again explained_then.history there.begins explained_then.is
-        told.planned
+        (ByLooks-told told.planned)
 
     nodes : told.nodes ≡ shown.nodes
     nodes = same-nodes told.nodes shown.nodes

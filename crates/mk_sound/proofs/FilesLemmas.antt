@@ -26,6 +26,7 @@ use Rattle.mk_modes.specs.Modes.{Followed, Goes, Held}
 use Rattle.mk_modes.specs.declared.building.Went.{Went}
 use Rattle.mk_modes.specs.declared.report.End.TheVariants.{Done}
 use Rattle.mk_modes.specs.declared.report.Report.{Report}
+use Rattle.mk_plan.proofs.LookLemmas.{ByLooks-told}
 use Rattle.mk_plan.specs.Plans.{node_at, planned}
 use Rattle.mk_plan.specs.declared.fault.PlanFault.{PlanFault}
 use Rattle.mk_plan.specs.declared.plan.PlanNode.{PlanNode}
@@ -231,7 +232,7 @@ module _ (meaning : Meaning) (env : Env) (order : Order) (old : History) (start 
           where
             looked : OnlyLooks read_then planned_then
                 × (planned (files_of read_then) made flags.requested flags.query ≡ Ok built.nodes)
-            looked = told-at _ at here built.planned
+            looked = told-at _ at here (ByLooks-told built.planned)
 
             work_is : work_on built.nodes made flags ≡ sound.work
             work_is = ap (λ it. work_on built.nodes made it) its.flags_are

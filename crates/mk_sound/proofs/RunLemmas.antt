@@ -26,6 +26,7 @@ use Rattle.mk_modes.specs.declared.building.Went.{Went}
 use Rattle.mk_modes.specs.declared.report.End.{End}
 use Rattle.mk_modes.specs.declared.report.Report.{Report}
 use Rattle.mk_modes.specs.declared.report.End.TheVariants.{Done}
+use Rattle.mk_plan.proofs.LookLemmas.{ByLooks-told}
 use Rattle.mk_plan.specs.Plans.{node_at, planned}
 use Rattle.mk_plan.specs.Tasks.{task_with}
 use Rattle.mk_plan.specs.declared.plan.PlanNode.{PlanNode}
@@ -246,7 +247,7 @@ goes-sound meaning env order (builds made flags) end old read first last went ne
       where
         looked : OnlyLooks read planned_then
             × (planned (files_of read) made flags.requested flags.query ≡ Ok built.nodes)
-        looked = told-at _ at here built.planned
+        looked = told-at _ at here (ByLooks-told built.planned)
 
         asked_then : OnlyAsked meaning old planned_then
         asked_then = asked-then meaning old read planned_then asked (looks-ask meaning read planned_then looked.0)

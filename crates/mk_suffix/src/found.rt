@@ -3,7 +3,7 @@ ghost use Rattle.std.specs.Prelude.{◌≡◌, [], IfOk, OnErr};
 ghost use Rattle.mk_suffix.specs.Found as spec;
 ghost use Rattle.mk_suffix.specs.declared.fault.SuffixFault.TheVariants.{Failed as failed};
 ghost use Rattle.mk_world.specs.Causes.{HasCause};
-ghost use Rattle.mk_world.specs.Looks.{OnLooks, OnlyLooked};
+ghost use Rattle.mk_dirs.specs.Answered.{ByLooks, OnlyDated};
 
 use crate::fault::SuffixFault;
 use crate::rule::is_marked;
@@ -23,9 +23,9 @@ pub fn place_of<W: World>(
     world: &mut W,
 ) -> Result<Option<Text>, SuffixFault>
     requires idle { W.runs world.old [] }
-    ensures told { IfOk result (λ found. OnLooks (W.history world.old) (W.history world.new)
+    ensures told { IfOk result (λ found. ByLooks (W.history world.old) (W.history world.new)
         (λ files. found ≡ spec.place_of files rules.now.nodes rules.now.seeking name.now)) }
-    ensures refused { OnErr result (OnlyLooked (W.history world.old) (W.history world.new)) }
+    ensures refused { OnErr result (OnlyDated (W.history world.old) (W.history world.new)) }
     ensures cause { HasCause failed (W.faults world.old) (W.faults world.new) result }
     ensures idle { W.runs world.new [] }
 {

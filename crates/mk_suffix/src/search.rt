@@ -7,7 +7,7 @@ ghost use Rattle.mk_suffix.specs.Chains as spec;
 ghost use Rattle.mk_suffix.specs.Extends.{AreWays, GoesOn, Went, Found, step_of};
 ghost use Rattle.mk_suffix.specs.Found.{is_there, place_of};
 ghost use Rattle.mk_suffix.specs.Search.{way_at};
-ghost use Rattle.mk_world.specs.Looks.{OnLooks, OnlyLooked};
+ghost use Rattle.mk_dirs.specs.Answered.{ByLooks, OnlyDated};
 ghost use Rattle.mk_suffix.specs.Made.{IsFor};
 ghost use Rattle.mk_suffix.specs.declared.fault.SuffixFault.TheVariants.{Failed as failed};
 ghost use Rattle.mk_world.specs.Causes.{HasCause};
@@ -42,9 +42,9 @@ fn reach<'s, W: World>(
     requires idle { W.runs world.old [] }
     ensures goes_on { IfOk result (λ hit. GoesOn rules.now.nodes rules.now.seeking.suffixes
         search.old search.new at source.now.suffix.now (step_of hit)) }
-    ensures told { IfOk result (λ hit. OnLooks (W.history world.old) (W.history world.new)
+    ensures told { IfOk result (λ hit. ByLooks (W.history world.old) (W.history world.new)
         (λ files. Found (place_of files rules.now.nodes rules.now.seeking) base.now search.old search.new hit)) }
-    ensures refused { OnErr result (OnlyLooked (W.history world.old) (W.history world.new)) }
+    ensures refused { OnErr result (OnlyDated (W.history world.old) (W.history world.new)) }
     ensures cause { HasCause failed (W.faults world.old) (W.faults world.new) result }
     ensures idle { W.runs world.new [] }
 {
@@ -83,9 +83,9 @@ fn extend<'s, W: World>(
     requires idle { W.runs world.old [] }
     ensures went { IfOk result (λ hit.
         Went rules.now.nodes rules.now.seeking.suffixes search.old search.new at [] (step_of hit)) }
-    ensures told { IfOk result (λ hit. OnLooks (W.history world.old) (W.history world.new)
+    ensures told { IfOk result (λ hit. ByLooks (W.history world.old) (W.history world.new)
         (λ files. Found (place_of files rules.now.nodes rules.now.seeking) base.now search.old search.new hit)) }
-    ensures refused { OnErr result (OnlyLooked (W.history world.old) (W.history world.new)) }
+    ensures refused { OnErr result (OnlyDated (W.history world.old) (W.history world.new)) }
     ensures cause { HasCause failed (W.faults world.old) (W.faults world.new) result }
     ensures idle { W.runs world.new [] }
 {
@@ -118,13 +118,13 @@ fn first_found<'s, W: World>(
     world: &mut W,
 ) -> Result<Option<Chain>, SuffixFault>
     requires idle { W.runs world.old [] }
-    ensures told { IfOk result (λ chain. OnLooks (W.history world.old) (W.history world.new)
+    ensures told { IfOk result (λ chain. ByLooks (W.history world.old) (W.history world.new)
         (λ files. option_map
         (spec.placed_chain (place_of files rules.now.nodes rules.now.seeking) rules.now.nodes base.now)
         (spec.first_found (is_there (place_of files rules.now.nodes rules.now.seeking)) rules.now.nodes
         rules.now.seeking.suffixes base.now own.now) ≡ chain)) }
     ensures made { IfOk result (λ chain. IfSome chain (IsFor rules.now.nodes)) }
-    ensures refused { OnErr result (OnlyLooked (W.history world.old) (W.history world.new)) }
+    ensures refused { OnErr result (OnlyDated (W.history world.old) (W.history world.new)) }
     ensures cause { HasCause failed (W.faults world.old) (W.faults world.new) result }
     ensures idle { W.runs world.new [] }
 {
@@ -160,11 +160,11 @@ pub fn resolve<W: World>(
 ) -> Result<Option<Chain>, SuffixFault>
     requires idle { W.runs world.old [] }
 
-    // Where the world tells, the answer is the chosen chain, by the files that it tells of.
-    ensures told { IfOk result (λ chain. OnLooks (W.history world.old) (W.history world.new)
+    // The answer is the chosen chain by what the world was asked and answered: of all files that fit the answers.
+    ensures told { IfOk result (λ chain. ByLooks (W.history world.old) (W.history world.new)
         (λ files. spec.choice files rules.now.nodes rules.now.seeking name.now ≡ chain)) }
     ensures made { IfOk result (λ chain. IfSome chain (IsFor rules.now.nodes)) }
-    ensures refused { OnErr result (OnlyLooked (W.history world.old) (W.history world.new)) }
+    ensures refused { OnErr result (OnlyDated (W.history world.old) (W.history world.new)) }
     ensures cause { HasCause failed (W.faults world.old) (W.faults world.new) result }
     ensures idle { W.runs world.new [] }
 {

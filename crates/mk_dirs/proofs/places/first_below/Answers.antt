@@ -1,7 +1,7 @@
 use Rattle.std.proofs.Common.{◌≡◌, ◌+◌, ◌∷◌, drop, Some, None, arith}
 use Rattle.std.proofs.lemmas.Grind.{common_steps}
 use Rattle.std.proofs.lemmas.List.{drop_all}
-use Rattle.mk_dirs.proofs.LookLemmas.{OnErr-looked, OnLooks-map, OnLooks-then}
+use Rattle.mk_dirs.proofs.LookLemmas.{OnErr-looked, ByLooks-map, ByLooks-then}
 use Rattle.mk_dirs.proofs.PlaceLemmas.{first_below-next, first_below-hit, first_below-end}
 use Rattle.mk_dirs.specs.Places.{found_below, first_below}
 use Rattle.mk_dirs.proofs.places.first_below.Goals as goal
@@ -9,7 +9,7 @@ use Rattle.mk_dirs.proofs.places.first_below.Goals as goal
 pub returns-in_err-path-clause-refused : goal.returns-in_err-path-clause-refused
 returns-in_err-path-clause-refused g c =
     let all = c.args.dirs.now in
-    OnErr-looked _ _ _ (OnLooks-then _ _ _
+    OnErr-looked _ _ _ (ByLooks-then _ _ _
     (λ files. first_below files c.args.cwd.now all c.args.name.now
     ≡ first_below files c.args.cwd.now (drop c.loop-dir.dir-index all) c.args.name.now)
     (λ files. Unit {0}) (λ files. Unit {0})
@@ -24,7 +24,7 @@ returns-in-Some-clause-told g c =
     let dir = c.bytes.result.now in
     let are : drop i all ≡ dir ∷ drop (i + 1) all = grind (arith, common_steps) in
     let told = rw c.in-Some.is at c.in_ok-path.ensures.told in
-    OnLooks-then _ _ _
+    ByLooks-then _ _ _
     (λ files. first_below files cwd all name ≡ first_below files cwd (drop i all) name)
     (λ files. Some c.in-Some.path ≡ found_below files cwd dir name)
     (λ files. Some c.in-Some.path ≡ first_below files cwd all name)
@@ -43,7 +43,7 @@ loop-dir-preserved g c =
     let told = rw c.in_default.is at c.in_ok-path.ensures.told in
     record {
       idle = c.in_ok-path.ensures.idle;
-      told = OnLooks-then _ _ _
+      told = ByLooks-then _ _ _
           (λ files. first_below files cwd all name ≡ first_below files cwd (drop i all) name)
           (λ files. None ≡ found_below files cwd dir name)
           (λ files. first_below files cwd all name ≡ first_below files cwd (drop (i + 1) all) name)
@@ -59,7 +59,7 @@ returns-clause-told g c =
     let cwd = c.args.cwd.now in
     let name = c.args.name.now in
     let i = c.loop-dir.dir-index in
-    OnLooks-map _ _
+    ByLooks-map _ _
     (λ files. first_below files cwd all name ≡ first_below files cwd (drop i all) name)
     (λ files. None ≡ first_below files cwd all name)
     c.loop-dir.invariant.told

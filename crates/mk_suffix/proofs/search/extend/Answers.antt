@@ -2,7 +2,7 @@ use Rattle.std.proofs.Common.{◌≡◌, ◌∙◌, ◌+◌, ◌∷◌, drop, ge
 use Rattle.std.proofs.lemmas.Grind.{common_steps}
 use Rattle.mk_suffix.proofs.FoundLemmas.{Found-then}
 use Rattle.mk_suffix.proofs.ExtendsLemmas.{Extends-row}
-use Rattle.mk_suffix.proofs.LookLemmas.{OnErr-looked, OnLooks-none, OnLooks-then}
+use Rattle.mk_suffix.proofs.LookLemmas.{OnErr-looked, ByLooks-none, ByLooks-then}
 use Rattle.mk_suffix.proofs.TableLemmas.{froms_item, leads_to, no_source, rule_item}
 use Rattle.mk_suffix.specs.Chains.{first_of, rule_between}
 use Rattle.mk_suffix.specs.Extends.{Extends, NoneFound, Found}
@@ -19,7 +19,7 @@ loop-source-init g c =
       extends = Extends-row nodes c.args.rules.now.seeking.suffixes c.args.search.now c.args.search.now
           c.args.at c.requires.ways c.suffix.result.now c.suffix.ensures
           (seen_row c.row-source-items.result.now) c.row-source-items.ensures;
-      told = OnLooks-none _
+      told = ByLooks-none _
           (λ files. NoneFound (is_there (place_of files nodes c.args.rules.now.seeking)) c.args.base.now c.args.search.now
           c.args.search.now) (λ files own. refl);
       faults = refl;
@@ -53,7 +53,7 @@ reach-requires-clause-within g c =
 
 pub returns-in_err-hit-clause-refused : goal.returns-in_err-hit-clause-refused
 returns-in_err-hit-clause-refused g c =
-    OnErr-looked _ _ _ (OnLooks-then _ _ _
+    OnErr-looked _ _ _ (ByLooks-then _ _ _
     (λ files. NoneFound (is_there (place_of files c.args.rules.now.nodes c.args.rules.now.seeking)) c.args.base.now c.args.search.now
     c.loop-source.search)
     (λ files. Unit {0}) (λ files. Unit {0})
@@ -75,7 +75,7 @@ returns-in-Some-clause-went g c =
 pub returns-in-Some-clause-told : goal.returns-in-Some-clause-told
 returns-in-Some-clause-told g c =
     let told = rw c.in-Some.is at c.in_ok-hit.ensures.told in
-    OnLooks-then _ _ _
+    ByLooks-then _ _ _
     (λ files. NoneFound (is_there (place_of files c.args.rules.now.nodes c.args.rules.now.seeking)) c.args.base.now c.args.search.now
     c.loop-source.search)
     (λ files. Found (place_of files c.args.rules.now.nodes c.args.rules.now.seeking) c.args.base.now c.loop-source.search
@@ -101,7 +101,7 @@ loop-source-preserved g c =
     record {
       idle = c.in_ok-hit.ensures.idle;
       extends = rw c.in_default.is at went;
-      told = OnLooks-then _ _ _
+      told = ByLooks-then _ _ _
           (λ files. NoneFound (is_there (place_of files c.args.rules.now.nodes c.args.rules.now.seeking)) c.args.base.now
           c.args.search.now c.loop-source.search)
           (λ files. Found (place_of files c.args.rules.now.nodes c.args.rules.now.seeking) c.args.base.now

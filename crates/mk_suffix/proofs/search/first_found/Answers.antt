@@ -6,7 +6,7 @@ use Rattle.mk_suffix.proofs.FirstLemmas.{Leads-first, Leads-went}
 use Rattle.mk_suffix.proofs.FoundLemmas.{own_none}
 use Rattle.mk_suffix.proofs.MadeLemmas.{AreWays-first, IsFor-placed}
 use Rattle.mk_suffix.proofs.FirstLemmas.{answer-hit, answer-none}
-use Rattle.mk_suffix.proofs.LookLemmas.{OnErr-looked, OnLooks-map, OnLooks-none, OnLooks-then}
+use Rattle.mk_suffix.proofs.LookLemmas.{OnErr-looked, ByLooks-map, ByLooks-none, ByLooks-then}
 use Rattle.mk_suffix.specs.Chains.{placed_chain, with_source, first_found}
 use Rattle.mk_suffix.specs.Extends.{Found}
 use Rattle.mk_suffix.specs.Found.{is_there, place_of}
@@ -23,16 +23,20 @@ suffixes-init g c =
       ways = AreWays-first c.args.rules.now.nodes own;
       place = omega arith;
       leads = Leads-first c.args.rules.now.nodes c.args.rules.now.seeking.suffixes own;
-      told = OnLooks-none _
+      told = ByLooks-none _
           (λ files. list_any (is_source (is_there (place_of files c.args.rules.now.nodes c.args.rules.now.seeking)) base own)
           (reached (own_way own ∷ [])) ≡ false)
           (λ files. own_none (is_there (place_of files c.args.rules.now.nodes c.args.rules.now.seeking)) base own);
       faults = grind (arith, common_steps);
     })
 
+pub returns-in_err-search-clause-refused : goal.returns-in_err-search-clause-refused
+returns-in_err-search-clause-refused g c =
+    OnErr-looked _ _ _ (ByLooks-none _ (λ files. Unit {0}) (λ files. tt))
+
 pub returns-in_err-hit-clause-refused : goal.returns-in_err-hit-clause-refused
 returns-in_err-hit-clause-refused g c =
-    OnErr-looked _ _ _ (OnLooks-then _ _ _
+    OnErr-looked _ _ _ (ByLooks-then _ _ _
     (λ files. list_any (is_source (is_there (place_of files c.args.rules.now.nodes c.args.rules.now.seeking)) c.args.base.now c.args.own.now)
     (reached c.suffixes.search) ≡ false)
     (λ files. Unit {0}) (λ files. Unit {0})
@@ -40,7 +44,7 @@ returns-in_err-hit-clause-refused g c =
 
 pub returns-in_err-chain-clause-refused : goal.returns-in_err-chain-clause-refused
 returns-in_err-chain-clause-refused g c =
-    OnErr-looked _ _ _ (OnLooks-then _ _ _
+    OnErr-looked _ _ _ (ByLooks-then _ _ _
     (λ files. list_any (is_source (is_there (place_of files c.args.rules.now.nodes c.args.rules.now.seeking)) c.args.base.now c.args.own.now)
     (reached c.suffixes.search) ≡ false)
     (λ files. Found (place_of files c.args.rules.now.nodes c.args.rules.now.seeking) c.args.base.now c.suffixes.search
@@ -56,7 +60,7 @@ returns-in-Some-clause-told g c =
     let own = c.args.own.now in
     let hit = rw c.in-Some.is at c.in_ok-hit.ensures.went in
     let told = rw c.in-Some.is at c.in_ok-hit.ensures.told in
-    OnLooks-then _ _ _
+    ByLooks-then _ _ _
     (λ files. list_any (is_source (is_there (place_of files nodes c.args.rules.now.seeking)) base own) (reached c.suffixes.search)
     ≡ false)
     (λ files. Found (place_of files nodes c.args.rules.now.seeking) base c.suffixes.search c.extend.new.search
@@ -95,7 +99,7 @@ suffixes-preserved g c =
       place = omega (arith, c.suffixes-test.true, c.len.ensures, went.longer);
       leads = Leads-went nodes known own c.suffixes.search c.extend.new.search c.suffixes.at
           (omega (arith, c.suffixes-test.true, c.len.ensures)) c.suffixes.invariant.leads went;
-      told = OnLooks-then _ _ _
+      told = ByLooks-then _ _ _
           (λ files. list_any (is_source (is_there (place_of files nodes c.args.rules.now.seeking)) base own)
           (reached c.suffixes.search) ≡ false)
           (λ files. Found (place_of files nodes c.args.rules.now.seeking) base c.suffixes.search c.extend.new.search None)
@@ -111,7 +115,7 @@ returns-clause-told g c =
     let known = c.args.rules.now.seeking.suffixes in
     let base = c.args.base.now in
     let own = c.args.own.now in
-    OnLooks-map _ _
+    ByLooks-map _ _
     (λ files. list_any (is_source (is_there (place_of files nodes c.args.rules.now.seeking)) base own) (reached c.suffixes.search)
     ≡ false)
     (λ files. option_map (placed_chain (place_of files nodes c.args.rules.now.seeking) nodes base)

@@ -7,7 +7,7 @@ use Rattle.mk_world.proofs.CauseLemmas.{HasCause-passed_on, HasCause-stays}
 use Rattle.mk_suffix.specs.Extends.{Found}
 use Rattle.mk_suffix.specs.Found.{is_there, place_of}
 use Rattle.mk_suffix.specs.declared.fault.SuffixFault.TheVariants.{Failed as failed, NoMemory as no_memory}
-use Rattle.mk_suffix.proofs.LookLemmas.{OnErr-looked, OnLooks-none, OnLooks-map}
+use Rattle.mk_suffix.proofs.LookLemmas.{OnErr-looked, ByLooks-none, ByLooks-map}
 use Rattle.mk_suffix.proofs.ExtendsLemmas.{Extends-skip, Extends-push, IsHit-here}
 use Rattle.mk_suffix.proofs.TableLemmas.{is_new, reached_before, step_by}
 use Rattle.mk_suffix.proofs.search.reach.Goals as goal
@@ -37,7 +37,7 @@ returns-clause-goes_on g c = λ old more extends.
     c.args.source.now.suffix.now more extends (step_by c.args.source.now c.args.at) new c.requires.place c.requires.known)
 
 pub returns-then-has_reached-clause-told : goal.returns-then-has_reached-clause-told
-returns-then-has_reached-clause-told g c = OnLooks-none _
+returns-then-has_reached-clause-told g c = ByLooks-none _
     (λ files. Found (place_of files c.args.rules.now.nodes c.args.rules.now.seeking) c.args.base.now c.args.search.now
     c.args.search.now None) (λ files own. refl)
 
@@ -60,7 +60,7 @@ returns-in_err-name-clause-told g c =
 
 pub returns-in_err-name-clause-refused : goal.returns-in_err-name-clause-refused
 returns-in_err-name-clause-refused g c =
-    OnErr-looked _ _ _ (OnLooks-none _ (λ files. Unit {0}) (λ files. tt))
+    OnErr-looked _ _ _ (ByLooks-none _ (λ files. Unit {0}) (λ files. tt))
 
 pub returns-in_err-name-clause-cause : goal.returns-in_err-name-clause-cause
 returns-in_err-name-clause-cause g c =
@@ -99,7 +99,7 @@ returns-in-Some-clause-told g c =
     let name : c.bytes.result.now ≡ base ++ c.args.source.now.suffix.now =
     c.bytes.ensures.value ∙ c.in_ok-name.ensures in
     let told = rw c.in-Some.is at c.in_ok-place.ensures.told in
-    OnLooks-map _ _
+    ByLooks-map _ _
     (λ files. Some c.in-Some.place ≡ place_of files nodes seeking c.bytes.result.now)
     (λ files. Found (place_of files nodes seeking) base ways ways
     (Some (record { step = step_by c.args.source.now c.args.at; source = c.in-Some.place })))
@@ -126,7 +126,7 @@ returns-in_err-push-clause-told g c =
 
 pub returns-in_err-push-clause-refused : goal.returns-in_err-push-clause-refused
 returns-in_err-push-clause-refused g c =
-    OnErr-looked _ _ _ (OnLooks-map _ _
+    OnErr-looked _ _ _ (ByLooks-map _ _
     (λ files. c.in_ok-place.field-0 ≡ place_of files c.args.rules.now.nodes c.args.rules.now.seeking c.bytes.result.now)
     (λ files. Unit {0}) c.in_ok-place.ensures.told (λ files told. tt))
 
@@ -148,7 +148,7 @@ returns-clause-told g c =
     let name : c.bytes.result.now ≡ base ++ step.suffix.now =
     c.bytes.ensures.value ∙ c.in_ok-name.ensures in
     let told = rw c.in_default.is at c.in_ok-place.ensures.told in
-    rw (c.in_ok-push.ensures.ok) (OnLooks-map _ _
+    rw (c.in_ok-push.ensures.ok) (ByLooks-map _ _
     (λ files. None ≡ place_of files nodes seeking c.bytes.result.now)
     (λ files. Found (place_of files nodes seeking) base ways (ways ++ way_of ways step ∷ []) None)
     told

@@ -1,7 +1,7 @@
 use Rattle.std.proofs.Common.{◌≡◌, Some, sym}
 use Rattle.std.specs.Option.{option_map}
 use Rattle.mk_suffix.proofs.FirstLemmas.{choice-own}
-use Rattle.mk_suffix.proofs.LookLemmas.{OnLooks-map}
+use Rattle.mk_suffix.proofs.LookLemmas.{ByLooks-map}
 use Rattle.mk_suffix.specs.Chains.{choice, first_found, placed_chain}
 use Rattle.mk_suffix.specs.Found.{is_there, place_of}
 use Rattle.mk_suffix.specs.Names.{suffix_of}
@@ -16,7 +16,7 @@ returns-clause-told g c =
     let base = c.without_end.result.now in
     let suffix_is : suffix_of seeking.suffixes name ≡ Some own =
     sym (rw (c.as_slice.ensures.value, c.suffixes.ensures) at c.in-Some.ensures.value) in
-    OnLooks-map _ _
+    ByLooks-map _ _
     (λ files. option_map (placed_chain (place_of files nodes seeking) nodes base)
     (first_found (is_there (place_of files nodes seeking)) nodes seeking.suffixes base own)
     ≡ c.in_ok-chain.chain)

@@ -6,7 +6,7 @@ use Rattle.mk_closure.specs.Faults.{IsRefusedBy}
 use Rattle.mk_closure.specs.Means.{means_of}
 use Rattle.mk_closure.specs.Parts.{is_open}
 use Rattle.mk_closure.specs.Walks as spec
-use Rattle.mk_suffix.proofs.LookLemmas.{OnLooks-map}
+use Rattle.mk_suffix.proofs.LookLemmas.{ByLooks-map}
 use Rattle.mk_closure.proofs.closure.Closure.enter.Goals as goal
 
 pub returns-in_err-meet_by-clause-refused : goal.returns-in_err-meet_by-clause-refused
@@ -17,7 +17,7 @@ returns-in_err-meet_by-clause-refused g c =
     let n = c.args.n in
     let fault = c.in_err-meet_by.field-0.0 in
     let opened : is_open s n ≡ true = grind (arith, common_steps) in
-    rw (p.1, p.2) (OnLooks-map _ _
+    rw (p.1, p.2) (ByLooks-map _ _
     (λ files. means_of files c.args.rules.now.nodes c.args.rules.now.seeking c.name.result.now n
     ≡ c.in_ok-means.means)
     (λ files. IsRefusedBy fault (spec.entered files c.args.rules.now.seeking s n))
@@ -32,7 +32,7 @@ returns-clause-entered g c =
     let s = c.args.self.now in
     let n = c.args.n in
     let opened : is_open s n ≡ true = grind (arith, common_steps) in
-    OnLooks-map _ _
+    ByLooks-map _ _
     (λ files. means_of files c.args.rules.now.nodes c.args.rules.now.seeking c.name.result.now n
     ≡ c.in_ok-means.means)
     (λ files. spec.entered files c.args.rules.now.seeking s n ≡ Ok c.meet_by.new.self)

@@ -8,12 +8,12 @@ use Rattle.mk_closure.specs.Faults.{IsRefusedBy}
 use Rattle.mk_closure.specs.Members.{listed, sources_in}
 use Rattle.mk_closure.specs.Steps as steps
 use Rattle.mk_closure.specs.Walks as spec
-use Rattle.mk_suffix.proofs.LookLemmas.{OnLooks-map, OnLooks-none}
+use Rattle.mk_suffix.proofs.LookLemmas.{ByLooks-map, ByLooks-none}
 use Rattle.mk_closure.proofs.closure.Closure.visit.Goals as goal
 
 pub returns-then-is_over-clause-leads : goal.returns-then-is_over-clause-leads
 returns-then-is_over-clause-leads g c =
-    OnLooks-none _
+    ByLooks-none _
     (λ files. steps.Leads (spec.entered files c.args.rules.now.seeking) c.args.self.now
     (c.args.n ∷ reverse c.args.todo.now.items) c.args.self.now (reverse c.args.todo.now.items))
     (λ files. walk-over (spec.entered files c.args.rules.now.seeking) c.args.self.now c.args.n
@@ -24,7 +24,7 @@ returns-in_err-enter-clause-refused g c =
     let p = err_from_is_err_and c.from_residual.result c.from_residual.ensures.1 in
     let fault = c.in_err-enter.field-0.0 in
     let todo = c.args.todo.now.items in
-    rw (p.1, p.2) (OnLooks-map _ _
+    rw (p.1, p.2) (ByLooks-map _ _
     (λ files. IsRefusedBy fault (spec.entered files c.args.rules.now.seeking c.args.self.now c.args.n))
     (λ files. IsRefusedBy fault (spec.walk (spec.entered files c.args.rules.now.seeking)
     c.args.self.now (c.args.n ∷ reverse todo)))
@@ -40,7 +40,7 @@ returns-clause-leads g c =
     let pushed = c.in_ok-push_sources.ensures
     ∙ ap (λ l. todo ++ reverse l) c.sources.ensures.value in
     let turned = turned-first todo c.push_sources.new.todo.items (sources_in later c.args.n) pushed in
-    OnLooks-map _ _
+    ByLooks-map _ _
     (λ files. spec.entered files c.args.rules.now.seeking c.args.self.now c.args.n ≡ Ok later)
     (λ files. steps.Leads (spec.entered files c.args.rules.now.seeking) c.args.self.now
     (c.args.n ∷ reverse todo) later (reverse c.push_sources.new.todo.items))

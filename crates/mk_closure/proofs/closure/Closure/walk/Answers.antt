@@ -7,7 +7,7 @@ use Rattle.mk_closure.specs.Faults.{IsRefusedBy}
 use Rattle.mk_closure.specs.Steps as steps
 use Rattle.mk_closure.specs.Walks as spec
 use Rattle.mk_graph.specs.Numbers.{AreBelow}
-use Rattle.mk_suffix.proofs.LookLemmas.{OnLooks-map, OnLooks-then}
+use Rattle.mk_suffix.proofs.LookLemmas.{ByLooks-map, ByLooks-then}
 use Rattle.mk_closure.proofs.closure.Closure.walk.Goals as goal
 
 pub visit-requires-clause-within : goal.visit-requires-clause-within
@@ -32,7 +32,7 @@ nodes-preserved g c =
     record {
       idle = c.in_ok-visit.ensures.idle;
       below = c.in_ok-visit.ensures.below;
-      told = OnLooks-then _ _ _
+      told = ByLooks-then _ _ _
           (λ files. steps.Leads (spec.entered files seeking) c.args.self.now (c.args.from ∷ []) s
           (reverse c.nodes.todo.items))
           (λ files. steps.Leads (spec.entered files seeking) s (n ∷ reverse rest)
@@ -56,7 +56,7 @@ returns-in_err-visit-clause-refused g c =
     let n = c.in-Some.n in
     let fault = c.in_err-visit.field-0.0 in
     let turned = ap reverse c.in-Some.ensures.items ∙ reverse-append rest (n ∷ []) in
-    rw (p.1, p.2) (OnLooks-then _ _ _
+    rw (p.1, p.2) (ByLooks-then _ _ _
     (λ files. steps.Leads (spec.entered files seeking) c.args.self.now (c.args.from ∷ []) s
     (reverse c.nodes.todo.items))
     (λ files. IsRefusedBy fault (spec.walk (spec.entered files seeking) s (n ∷ reverse rest)))
@@ -71,7 +71,7 @@ returns-clause-walked g c =
     let seeking = c.args.rules.now.seeking in
     let s = c.nodes.self in
     let none : c.nodes.todo.items ≡ [] = grind (arith, common_steps) in
-    OnLooks-map _ _
+    ByLooks-map _ _
     (λ files. steps.Leads (spec.entered files seeking) c.args.self.now (c.args.from ∷ []) s
     (reverse c.nodes.todo.items))
     (λ files. spec.walk (spec.entered files seeking) c.args.self.now (c.args.from ∷ []) ≡ Ok s)

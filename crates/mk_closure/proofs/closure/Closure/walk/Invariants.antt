@@ -2,7 +2,7 @@ use Rattle.std.proofs.Common.{◌≡◌, [], ◌∷◌, length, reverse}
 use Rattle.mk_closure.specs.Steps as steps
 use Rattle.mk_closure.specs.Walks as spec
 use Rattle.mk_graph.specs.Numbers.{AreBelow}
-use Rattle.mk_world.specs.Looks.{OnLooks}
+use Rattle.mk_dirs.specs.Answered.{ByLooks}
 use Rattle.mk_closure.proofs.closure.Closure.walk.Given as goal
 
 -- the walk over the nodes that are left comes to the same as the whole one
@@ -10,7 +10,7 @@ abbrev pub invariant-nodes : goal.invariant-nodes
 invariant-nodes g l = record {
   idle : g.W.World.runs l.world [];
   below : AreBelow (length l.self.parts) l.todo.items;
-  told : OnLooks (g.W.World.history l.fn.world) (g.W.World.history l.world) (λ files.
+  told : ByLooks (g.W.World.history l.fn.world) (g.W.World.history l.world) (λ files.
       steps.Leads (spec.entered files l.rules.seeking) l.fn.self (l.fn.from ∷ []) l.self
       (reverse l.todo.items));
   nodes : l.self.nodes ≡ l.fn.self.nodes;

@@ -5,7 +5,7 @@ use Rattle.std.proofs.lemmas.Result.{err_from_is_err_and}
 use Rattle.mk_closure.proofs.WalkLemmas.{all_met-next, all_met-refused, all_met-end}
 use Rattle.mk_closure.specs.Faults.{IsRefusedBy}
 use Rattle.mk_closure.specs.Walks as spec
-use Rattle.mk_suffix.proofs.LookLemmas.{OnLooks-map, OnLooks-then}
+use Rattle.mk_suffix.proofs.LookLemmas.{ByLooks-map, ByLooks-then}
 use Rattle.mk_closure.proofs.closure.Closure.want_all.Goals as goal
 
 pub returns-in_err-want-clause-refused : goal.returns-in_err-want-clause-refused
@@ -18,7 +18,7 @@ returns-in_err-want-clause-refused g c =
     let name = c.bytes.result.now in
     let fault = c.in_err-want.field-0.0 in
     let are : drop i all ≡ name ∷ drop (i + 1) all = grind (arith, common_steps) in
-    rw (p.1, p.2) (OnLooks-then _ _ _
+    rw (p.1, p.2) (ByLooks-then _ _ _
     (λ files. spec.all_met (spec.entered files seeking) c.args.self.now all
     ≡ spec.all_met (spec.entered files seeking) s (drop i all))
     (λ files. IsRefusedBy fault (spec.wanted_met (spec.entered files seeking) s name))
@@ -37,7 +37,7 @@ loop-name-preserved g c =
     let are : drop i all ≡ name ∷ drop (i + 1) all = grind (arith, common_steps) in
     record {
       idle = c.in_ok-want.ensures.idle;
-      met = OnLooks-then _ _ _
+      met = ByLooks-then _ _ _
           (λ files. spec.all_met (spec.entered files seeking) c.args.self.now all
           ≡ spec.all_met (spec.entered files seeking) s (drop i all))
           (λ files. spec.wanted_met (spec.entered files seeking) s name ≡ Ok c.want.new.self)
@@ -56,7 +56,7 @@ returns-clause-met g c =
     let s = c.loop-name.self in
     let i = c.loop-name.name-index in
     let all = c.args.wanted.now in
-    OnLooks-map _ _
+    ByLooks-map _ _
     (λ files. spec.all_met (spec.entered files seeking) c.args.self.now all
     ≡ spec.all_met (spec.entered files seeking) s (drop i all))
     (λ files. spec.all_met (spec.entered files seeking) c.args.self.now all ≡ Ok s)
