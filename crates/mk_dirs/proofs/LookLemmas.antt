@@ -189,8 +189,10 @@ told-fit (one ∷ more) old new looks =
     let rest = told-fit more mid new looks.2 in
     let same : files_of mid ≡ files_of old = ap (λ s. contents s.files) (state_of-looks first) in (
       only_then first rest.0,
-      (tells ((state_of old).files one.path) one.when looks.1.told,
-      subst (λ files. FitAnswers files more) same rest.1),
+      (
+        tells ((state_of old).files one.path) one.when looks.1.told,
+        subst (λ files. FitAnswers files more) same rest.1,
+      ),
     )
 
 -- What is so by the answers is so of the files of a world that tells.
