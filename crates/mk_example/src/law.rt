@@ -1,5 +1,6 @@
 //! What runs of the makefile leave.
 ghost use Rattle.mk_example.specs.Copies.{ChangesMayShareATime, CopiesAreRight, CopiesAreRightAgain, EditedWorldsAreReady, NewWorldsAreReady};
+ghost use Rattle.mk_example.specs.Programs.{NewProgramsMayRun, ProgramsAreRight, SourcesAreSound};
 
 /// Each run of the makefile that ends with all made leaves in its target the bytes of its source, and the makefile and the
 /// source as they were: by the contract of `run` and no other.
@@ -25,4 +26,20 @@ pub fn copies_are_right_again()
 /// Files may have one time, and so may changes: only stamps have each a later one.
 pub fn changes_may_share_a_time()
     ensures { ChangesMayShareATime }
+{}
+
+/// All that is asked of makefiles and files holds of the makefile of a program and its sources, whatever else stands.
+pub fn sources_are_sound()
+    ensures { SourcesAreSound }
+{}
+
+/// So each run of it that ends with all made leaves the program of the sources as they stand, whatever was edited and built
+/// before.
+pub fn programs_are_right()
+    ensures { ProgramsAreRight }
+{}
+
+/// A new world in memory that holds them is ready for such a run.
+pub fn new_programs_may_run()
+    ensures { NewProgramsMayRun }
 {}
