@@ -62,11 +62,11 @@ files-stand : (s : Sources) (all : Store) → HasSources s all → files all s �
 files-stand s all has = all-there all (spots s)
     (has.local_is, (has.b_is, (has.a_is, (has.spec_is, (has.makefile_is, tt)))))
 
-each-job : {P : CleanJob → Type 0} (all : List CleanJob) (one : CleanJob) → AllByRecursion P all → IsAmong one all
+each-job : (P : CleanJob → Type 0) (all : List CleanJob) (one : CleanJob) → AllByRecursion P all → IsAmong one all
     → P one
-each-job [] one holds among = absurd among
-each-job {P} (first ∷ more) one holds (inl is) = subst P (sym is) holds.0
-each-job (first ∷ more) one holds (inr among) = each-job more one holds.1 among
+each-job P [] one holds among = absurd among
+each-job P (first ∷ more) one holds (inl is) = subst P (sym is) holds.0
+each-job P (first ∷ more) one holds (inr among) = each-job P more one holds.1 among
 
 -- all that is asked of the makefile and the files
 module _ (s : Sources) (all : Store) (has : HasSources s all) where
@@ -85,7 +85,7 @@ module _ (s : Sources) (all : Store) (has : HasSources s all) where
   tasks : (one : CleanJob) → IsAmong one (clean_jobs_of language work (bare nodes all))
       → HasItsTask work lines (clean_jobs_of language work (bare nodes all)) one
   tasks one among =
-      let its = each-job {P = λ one. HasTheTask all s one × LooksForNone one} (jobs all s) one (tasks-are all s)
+      let its = each-job (λ one. HasTheTask all s one × LooksForNone one) (jobs all s) one (tasks-are all s)
       (subst (λ l. IsAmong one l) (sym its-jobs) among) in record {
         asked = [];
         task = its.0;
@@ -133,6 +133,7 @@ of-run : (s : Sources) (old new : History) (out out_after : Option (List ℕ)) (
     → MayRun s old
     → IsTrueOrderRun language words env order (point (Some old) out) (point (Some new) out_after) err report
     → report.end ≡ Done → files_of new (codes "prog") ≡ Some (program s)
+unfolding sources-sound
 of-run s old new out out_after err report may run done =
     runs_leave_files language words env order (point (Some old) out) (point (Some new) out_after) err report run old new
     refl refl (done-built language words env order (point (Some old) out) (point (Some new) out_after) err report run

@@ -60,11 +60,10 @@ use Rattle.mk_plan.specs.Plans.{node_at}
 use Rattle.mk_headline.specs.Plans.{clean_plan, has_job, is_meta_path, makes_file}
 use Rattle.mk_headline.specs.Premises.{GoesByMetaMode}
 use Rattle.mk_looks.specs.Looks.{looks_for_newer}
-use Rattle.mk_plan.specs.Newer.{task_names}
+use Rattle.mk_plan.specs.Newer.{names_from, task_names}
 use Rattle.mk_run.specs.CleanRuns.{bare, by_files, clean_files_of, clean_jobs_of, task_on}
 use Rattle.mk_example.specs.Copies.{env}
 use Rattle.mk_example.specs.Programs.{Sources, makefile, order, program}
-
 
 -- the makefile and the sources, and no `local.h`, whatever else stands
 
@@ -264,7 +263,7 @@ LooksForNone one =
 
 pub tasks-are : (others : Store) (s : Sources)
     → AllByRecursion (λ one. HasTheTask others s one × LooksForNone one) (jobs others s)
-unfolding lines_from text_at parts.joined refers
+unfolding lines_from names_from text_at parts.joined refers
 tasks-are others s = ((refl, refl), ((refl, refl), ((refl, refl), ((refl, refl), tt))))
 
 -- the build goes by meta mode
