@@ -8,4 +8,5 @@ pub mod LookLemmas
 pub mod NewestLemmas
 pub mod PieceLemmas
 pub mod ReasonLemmas
+pub mod RisingLemmas
 pub mod SightLemmas

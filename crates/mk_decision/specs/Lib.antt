@@ -1,6 +1,5 @@
 pub mod Ages
 pub mod Asks
-pub mod Behind
 pub mod Dates
 pub mod Decisions
 pub mod Judgements
@@ -10,6 +9,7 @@ pub mod Makers
 pub mod Metas
 pub mod Newest
 pub mod Reasons
+pub mod Rising
 pub mod Sights
 pub mod Tests
 pub mod Wants

@@ -9,7 +9,7 @@ ghost use Rattle.mk_world.specs.Causes.{HasCause};
 ghost use Rattle.mk_world.specs.declared.fault.WorldFault.TheVariants.{Failed as failed};
 ghost use Rattle.mk_world.specs.declared.history.History.{History};
 
-use crate::wanted::Wanted;
+use crate::wanted::{Wanted, rise_below};
 use mk_bytes::{Items, NoMemory};
 use mk_graph::Attr;
 use mk_plan::Plan;
@@ -104,16 +104,27 @@ fn want_counted(wanted: &mut Wanted, plan: &Plan, place: u32, when: When) -> Res
     Ok(())
 }
 
-// The sources of a node that is to be decided, or none where its file is missing.
-fn decisive(alloc: Global, plan: &Plan, node: u32, target: When) -> Result<Wanted, NoMemory>
+// The sources of a node that is to be decided, or none where its file is missing. Those that rise, as
+// sources do that are new to a plan, are lent.
+fn decisive<'p>(
+    alloc: Global,
+    plan: &'p Plan,
+    node: u32,
+    target: When,
+) -> Result<Wanted<'p>, NoMemory>
     requires { node < length plan.now }
     ensures { IfOk result (λ wanted. AreWanted node (has wanted)
         (spec.decisive (node_at plan.now node) target)) }
 {
-    let mut wanted = Wanted::none(alloc);
-    if !target.is_missing() {
-        want(&mut wanted, node, plan.sources(node).as_slice())?;
+    if target.is_missing() {
+        return Ok(Wanted::none(alloc));
     }
+    let sources = plan.sources(node).as_slice();
+    if rise_below(sources, node) {
+        return Ok(Wanted::of_rising(alloc, sources));
+    }
+    let mut wanted = Wanted::none(alloc);
+    want(&mut wanted, node, sources)?;
     Ok(wanted)
 }
 

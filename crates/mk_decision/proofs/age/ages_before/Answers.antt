@@ -11,6 +11,10 @@ age_of-age-requires c =
     let within = c.requires.node in
     omega arith
 
+pub add_age-requires : goal.add_age-requires
+add_age-requires c = c.loop-left.invariant.room c.get-one.result.now.place
+    (before-at c.args.node c.args.seen.now _ c.get-one.result.now c.requires.seen c.get-one.ensures)
+
 pub loop-left-preserved : goal.loop-left-preserved
 loop-left-preserved c =
     let l = c.loop-left in
@@ -27,4 +31,5 @@ loop-left-preserved c =
       are = age-more c.args.plan.now (drop i seen) (drop l.left seen) one (known l.ages)
           (known c.add_age.new.ages) c.age_of-age.result are l.invariant.are
           c.age_of-age.ensures c.in_ok-add_age.ensures.here c.in_ok-add_age.ensures.others;
+      room = λ place less. c.in_ok-add_age.ensures.room place (l.invariant.room place less);
     }
