@@ -12,13 +12,13 @@ ghost use Rattle.mk_world.specs.Sinks.{Gains, GainsPart};
 ghost use Rattle.mk_world.specs.declared.fault.SinkFault.TheVariants.{Failed as sink_failed};
 ghost use Rattle.mk_world.specs.declared.fault.WorldFault.TheVariants.{Failed as world_failed};
 
+use crate::joined::write_joined;
 use mk_bytes::{NoMemory, Text};
 use mk_export::Exported;
 use mk_plan::Plan;
 use mk_trace::{Event, put};
 use mk_world::{
     Cmd, Ended, Kids, Progress, Sink, SinkFault, TaskLine, Ticket, Time, World, WorldFault,
-    write_all,
 };
 use std::alloc::Global;
 
@@ -157,7 +157,7 @@ fn print_marker<S: Sink>(
     if !many || is_last(node, last) {
         return Ok(());
     }
-    write_all(out, &[b"--- ", plan.name(node), b" ---\n"])
+    write_joined(out, &[b"--- ", plan.name(node), b" ---\n"])
 }
 
 // Writes the text of a line unless it is silent, and its child's output.
@@ -169,9 +169,9 @@ fn print_piece<S: Sink>(out: &mut S, line: &TaskLine, output: &[u8]) -> Result<(
     ensures cause { HasCause sink_failed (S.faults out.old) (S.faults out.new) result }
 {
     if line.silent {
-        return write_all(out, &[output]);
+        return write_joined(out, &[output]);
     }
-    write_all(out, &[line.text.bytes(), b"\n", output])
+    write_joined(out, &[line.text.bytes(), b"\n", output])
 }
 
 // Whether the end of a line prints nothing.

@@ -4,6 +4,7 @@
 
 mod child;
 mod halt;
+mod joined;
 
 pub use child::{Place, command, line_fails, print_end, start_child, wait_child};
 pub use halt::{Halt, note_failure};
