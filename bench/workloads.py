@@ -234,15 +234,16 @@ def null_traced(n):
     return Workload("null-traced", n, "null", files, words_of(files), named(n, "t"), sources, prepare, records)
 
 
-# Those in which nothing is made can be large; the sizes of the others have a bound.
+# The greatest size of each, where it has one: those in which all is made take long, and so does what comes before the
+# runs of those with meta files.
 WORKLOADS = [
     (start, 1),
     *[(it, None) for it in (parse, assign_now, append, cond, for_if)],
     *[(expand(kind), None) for kind in EXPANSIONS],
-    *[(it, None) for it in (null, null_exports, null_meta, null_traced, one_changed, suffix_rule, second_directory, chain,
-        fan_in)],
+    *[(it, None) for it in (null, one_changed, suffix_rule, second_directory, chain, fan_in)],
+    *[(it, 50_000) for it in (null_exports, null_meta, null_traced)],
     (full("full-j1", 1), 5_000),
-    (full("full-j4", 4), 5_000),
-    (full("full-echo-j4", 4, echo=True), 5_000),
-    (full("full-meta-j4", 4, meta=True), 5_000),
+    (full("full-j4", 4), 1_000),
+    (full("full-echo-j4", 4, echo=True), 1_000),
+    (full("full-meta-j4", 4, meta=True), 1_000),
 ]
