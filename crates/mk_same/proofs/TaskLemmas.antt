@@ -10,6 +10,7 @@ use Rattle.mk_values.specs.Value.{of_tree, questions_of, value, with_asked}
 use Rattle.mk_values.specs.declared.facts.Asked.{Asked}
 use Rattle.mk_values.specs.declared.fault.ExpandFault.{ExpandFault}
 use Rattle.mk_values.specs.declared.local.Locals.{Locals}
+use Rattle.mk_plan.specs.Newer.{line_names, names_behind, names_from, tree_names}
 use Rattle.mk_plan.specs.Oodate.{refers}
 use Rattle.mk_plan.specs.Plans.{node_at}
 use Rattle.mk_plan.specs.Tasks.{Setting, at_line, line_as, line_of, line_of_tree, lines_from, locals_of, manner_of, task_with}
@@ -19,7 +20,7 @@ use Rattle.mk_world.specs.declared.command.TaskLine.{TaskLine}
 use Rattle.mk_answers.proofs.AnswerLemmas.{tree-same}
 use Rattle.mk_answers.proofs.SameLemmas.{asks-same, asks-then, part-longer}
 use Rattle.mk_answers.specs.Evaluations.{PartAtQuestion}
-use Rattle.mk_same.specs.Answered.{TasksAreByAnswers, TasksPartAtQuestions, with_answers}
+use Rattle.mk_same.specs.Answered.{TaskNamesAreByAnswers, TasksAreByAnswers, TasksPartAtQuestions, with_answers}
 
 same-ok : {A E : Type 0} (one other : A) → ◌≡◌ {A = Result A E} (Ok one) (Ok other) → one ≡ other
 same-ok one other is = cc
@@ -111,6 +112,75 @@ tasks_are_by_answers k other suffixes nodes n newer mode flags asked task is ans
     ap (λ (it : Result (List TaskLine × List Asked) TaskFault). it
     >>= λ (lines : List TaskLine × List Asked). Ok (task_with k.variables mode.exports (node_at nodes n).name lines.0, lines.1))
     same.0 ∙ made.2
+
+-- The names that are looked up
+
+at-line-is : (number : ℕ) (line : Result (TaskLine × List Asked) ExpandFault) (found : TaskLine × List Asked)
+    → at_line number line ≡ Ok found → line ≡ Ok found
+at-line-is number (Ok got) found is = ap Ok (same-ok got found is)
+at-line-is number (Err fault) found is = absurd cc
+
+tree-names : (k : Setting) (other : Answers) (locals : Locals) (manner : Manner) (asked : List Asked) (tree : Tree)
+    (line : TaskLine × List Asked) → line_of_tree k locals manner asked tree ≡ Ok line → AnsweredBy other line.1
+    → tree_names (with_answers other k) locals asked (Ok tree) ≡ tree_names k locals asked (Ok tree)
+tree-names k other locals manner asked tree line is answered =
+    let found = bound (value k.variables locals k.lists k.answers false asked tree)
+    (λ (v : List ℕ × List Asked). Ok (line_as manner (not (refers tree)) v.0, v.1)) line is in
+    let last : found.0.1 ≡ line.1 =
+    ap (λ (it : TaskLine × List Asked). it.1) (same-ok _ line found.2) in
+    let questions = asked-behind (of_tree k.variables locals k.lists k.answers false asked tree).answer found.0
+    found.1 in
+    ap (λ counted. counted.names [])
+    ((tree-same k.variables locals k.lists k.answers other false asked tree).same
+    (subst (AnsweredBy other) (sym (questions ∙ last)) answered))
+
+line-names : (k : Setting) (other : Answers) (locals : Locals) (manner : Manner) (asked : List Asked) (raw : List ℕ)
+    (line : TaskLine × List Asked) → line_of k locals manner asked raw ≡ Ok line → AnsweredBy other line.1
+    → line_names (with_answers other k) locals asked raw ≡ line_names k locals asked raw
+line-names k other locals manner asked raw line is answered = by (parsed raw) is
+  where
+    by : (tree : Result Tree ExpandFault) → (tree >>= line_of_tree k locals manner asked) ≡ Ok line
+        → tree_names (with_answers other k) locals asked tree ≡ tree_names k locals asked tree
+    by (Ok tree) here = tree-names k other locals manner asked tree line here answered
+    by (Err fault) here = refl
+
+names-same : (k : Setting) (other : Answers) (locals : Locals) (manner : Manner) (lines : List TaskLine) (number : ℕ)
+    (asked : List Asked) (raws : List (List ℕ)) (all : List TaskLine × List Asked)
+    → lines_from k locals manner lines number asked raws ≡ Ok all → AnsweredBy other all.1
+    → (names_from (with_answers other k) locals manner asked raws ≡ names_from k locals manner asked raws)
+    × AnsweredBy other asked
+unfolding lines_from names_from
+names-same k other locals manner lines number asked [] all is answered = (
+  refl,
+  subst (AnsweredBy other) (ap (λ (it : List TaskLine × List Asked). it.1) (sym (same-ok (lines, asked) all is)))
+      answered,
+)
+names-same k other locals manner lines number asked (raw ∷ raws) all is answered =
+    let first = bound (at_line number (line_of k locals manner asked raw))
+    (λ line. lines_from k locals manner (lines ++ line.0 ∷ []) (number + 1) line.1 raws) all is in
+    let line_is = at-line-is number (line_of k locals manner asked raw) first.0 first.1 in
+    let rest = names-same k other locals manner (lines ++ first.0.0 ∷ []) (number + 1) first.0.1 raws all first.2
+    answered in
+    let again = text-line k other locals manner asked raw first.0 line_is rest.1 in (
+      ap (λ l. l ++ names_behind (line_of (with_answers other k) locals manner asked raw)
+          (λ now. names_from (with_answers other k) locals manner now raws))
+          (line-names k other locals manner asked raw first.0 line_is rest.1)
+          ∙ ap (λ l. line_names k locals asked raw ++ l)
+          (ap (λ it. names_behind it (λ now. names_from (with_answers other k) locals manner now raws)) again.0
+          ∙ (rest.0 ∙ ap (λ it. names_behind it (λ now. names_from k locals manner now raws)) (sym line_is))),
+      again.1,
+    )
+
+pub task_names_are_by_answers : TaskNamesAreByAnswers
+task_names_are_by_answers k other suffixes nodes n newer mode flags asked task is answered =
+    let locals = locals_of suffixes nodes n newer in
+    let manner = manner_of mode flags (node_at nodes n).marks in
+    let made = bound (lines_from k locals manner [] 1 asked (node_at nodes n).commands)
+    (λ (lines : List TaskLine × List Asked). Ok (task_with k.variables mode.exports (node_at nodes n).name lines.0, lines.1)) task
+    is in
+    let last : made.0.1 ≡ task.1 = ap (λ it. it.1) (same-ok _ task made.2) in
+    (names-same k other locals manner [] 1 asked (node_at nodes n).commands made.0 made.1
+    (subst (AnsweredBy other) (sym last) answered)).0
 
 -- Parts of tasks by any answers: both ask more than before, and they are the same, or part at a question.
 

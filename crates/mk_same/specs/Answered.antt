@@ -3,6 +3,7 @@ use Rattle.std.specs.Prelude.{◌≡◌, ◌⊎◌, ℕ, List, Ok}
 use Rattle.mk_answers.specs.Evaluations.{PartAtQuestion}
 use Rattle.mk_flags.specs.declared.Flags.{Flags}
 use Rattle.mk_graph.specs.declared.mode.Mode.{Mode}
+use Rattle.mk_plan.specs.Newer.{task_names}
 use Rattle.mk_plan.specs.Tasks.{Setting, setting_of, task_of}
 use Rattle.mk_plan.specs.declared.plan.PlanNode.{PlanNode}
 use Rattle.mk_values.specs.Facts.{AnsweredBy, Answers}
@@ -20,6 +21,15 @@ TasksAreByAnswers =
     (newer : List (List ℕ)) (mode : Mode) (flags : Flags) (asked : List Asked) (task : Task × List Asked)
     → task_of k suffixes nodes n newer mode flags asked ≡ Ok task → AnsweredBy other task.1
     → task_of (with_answers other k) suffixes nodes n newer mode flags asked ≡ Ok task
+
+-- And the same names are looked up in it.
+abbrev pub TaskNamesAreByAnswers : Type 0
+TaskNamesAreByAnswers =
+    (k : Setting) (other : Answers) (suffixes : List (List ℕ)) (nodes : List PlanNode) (n : ℕ)
+    (newer : List (List ℕ)) (mode : Mode) (flags : Flags) (asked : List Asked) (task : Task × List Asked)
+    → task_of k suffixes nodes n newer mode flags asked ≡ Ok task → AnsweredBy other task.1
+    → task_names (with_answers other k) suffixes nodes n newer mode flags asked
+    ≡ task_names k suffixes nodes n newer mode flags asked
 
 -- Two tasks of a node by any answers are the same, with the same questions, or they part at a question.
 abbrev pub TasksPartAtQuestions : Type 0

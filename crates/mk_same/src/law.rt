@@ -1,5 +1,5 @@
 //! What tasks, judgements and explanations are by.
-ghost use Rattle.mk_same.specs.Answered.{TasksAreByAnswers, TasksPartAtQuestions};
+ghost use Rattle.mk_same.specs.Answered.{TaskNamesAreByAnswers, TasksAreByAnswers, TasksPartAtQuestions};
 ghost use Rattle.mk_same.specs.Judged.{ExplanationsAreByFiles, JudgementsAreByFiles};
 ghost use Rattle.mk_same.specs.Shown.{ShownAreExplained};
 ghost use Rattle.mk_same.specs.ShownRuns.{ShownRunsAreExplained};
@@ -7,6 +7,11 @@ ghost use Rattle.mk_same.specs.ShownRuns.{ShownRunsAreExplained};
 /// The task of a node is by the answers to the paths that its commands ask `exists` of, and by no others.
 pub fn tasks_are_by_their_answers()
     ensures { TasksAreByAnswers }
+{}
+
+/// And so are the names that are looked up in it.
+pub fn task_names_are_by_their_answers()
+    ensures { TaskNamesAreByAnswers }
 {}
 
 /// And where the answers are any, two tasks of a node are the same up to a question that is answered differently.

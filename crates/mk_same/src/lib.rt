@@ -7,5 +7,6 @@ mod law;
 
 pub use law::{
     explanations_are_by_files, judgements_are_by_files, shown_nodes_are_explained,
-    shown_runs_are_explained, tasks_are_by_their_answers, tasks_part_at_questions,
+    shown_runs_are_explained, task_names_are_by_their_answers, tasks_are_by_their_answers,
+    tasks_part_at_questions,
 };
