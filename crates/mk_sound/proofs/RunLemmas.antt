@@ -111,8 +111,8 @@ module _ (meaning : Meaning) (env : Env) (order : Order) (made : Made) (flags : 
     (is : planned files made flags.requested flags.query ≡ Ok nodes) (differ : AreDistinct (graph.names_of made.graph))
     (ready : IsSoundRun meaning env order planned_at (work_on nodes made flags) lines old)
   where
-    work : Work
-    work = work_on nodes made flags
+    abbrev run_work : Work
+    run_work = work_on nodes made flags
 
     leave : AllByRecursion LeavesFiles asked.run.events
     leave = ready.asks asked.run.events (here ∙ ap (λ h. Some h) (sym (asked-history meaning old planned_then asked)))
@@ -131,23 +131,24 @@ module _ (meaning : Meaning) (env : Env) (order : Order) (made : Made) (flags : 
     truth = subst (IsTrueHistory meaning.next) (asked-history meaning old planned_then asked)
         (questions-keep-truth meaning old asked.run.events asked.questions leave ready.truth)
 
-    well : IsWellMade work
-    well = well-made files made flags nodes is differ
+    well_then : IsWellMade run_work
+    well_then = well-made files made flags nodes is differ
 
-    sound : IsSound meaning work lines (files_of planned_then)
-    sound = subst (IsSound meaning work lines) (sym start) ready.sound
+    sound : IsSound meaning run_work lines (files_of planned_then)
+    sound = subst (IsSound meaning run_work lines) (sym start) ready.sound
 
     -- meta files stay true, whatever the end
-    stays-true : (tasks : run.Tasks) (items : List Item) (new : History) → Makes work tasks (first_build work) items
-        → Happened meaning items planned_then new → GivesUpLast items → IsTrueHistory meaning.next new
+    stays-true : (tasks : run.Tasks) (items : List Item) (new : History)
+        → Makes run_work tasks (first_build run_work) items → Happened meaning items planned_then new → GivesUpLast items → IsTrueHistory meaning.next new
     stays-true tasks items new makes happens last =
-        truth-behind meaning work lines tasks planned_then lawful idle truth well sound items new makes happens last
+        truth-behind meaning run_work lines tasks planned_then lawful idle truth well_then sound items new makes happens
+        last
 
     -- where all is made, the run is ready
-    sound-ready : (tasks : run.Tasks) (items : List Item) (new : History) → Makes work tasks (first_build work) items
-        → Happened meaning items planned_then new → GivesUpLast items
-        → IsOver work None (build_after_all work tasks (first_build work) items)
-        → IsReadyRun meaning env order planned_at work tasks old work
+    sound-ready : (tasks : run.Tasks) (items : List Item) (new : History)
+        → Makes run_work tasks (first_build run_work) items → Happened meaning items planned_then new → GivesUpLast items
+        → IsOver run_work None (build_after_all run_work tasks (first_build run_work) items)
+        → IsReadyRun meaning env order planned_at run_work tasks old run_work
     sound-ready tasks items new makes happens last over = record {
       lawful = ready.lawful;
       idle = ready.idle;
@@ -157,7 +158,7 @@ module _ (meaning : Meaning) (env : Env) (order : Order) (made : Made) (flags : 
         by_records = ready.sound.mode.by_records;
         compared = λ node is_made.
             subst (AllByRecursion (λ (line : TaskLine). line.compared ≡ true))
-            (sym (same node (makes-job (node_at work.plan node) is_made))) (ready.sound.mode.compared node is_made);
+            (sym (same node (makes-job (node_at run_work.plan node) is_made))) (ready.sound.mode.compared node is_made);
         none_ignored = ready.sound.mode.none_ignored;
         no_meta_names = ready.sound.mode.no_meta_names;
       };
@@ -167,29 +168,32 @@ module _ (meaning : Meaning) (env : Env) (order : Order) (made : Made) (flags : 
         same_tasks = λ one among.
             let its = ready.sound.tasks_are one among in (
               its.asked,
-              subst (λ (l : List TaskLine). task_on work one.node one.before
-                  ≡ Ok (task_with work.variables work.mode.exports (node_at work.plan one.node).name l, its.asked))
+              subst (λ (l : List TaskLine). task_on run_work one.node one.before
+                  ≡ Ok (
+                    task_with run_work.variables run_work.mode.exports (node_at run_work.plan one.node).name l,
+                    its.asked,
+                  ))
                   (sym (same-job one among)) its.task,
             );
       };
-      declared = declared-too work lines tasks (clean_jobs_of meaning work (bare work.plan (files_of old))) same-job
-          ready.sound.declared;
+      declared = declared-too run_work lines tasks
+          (clean_jobs_of meaning run_work (bare run_work.plan (files_of old))) same-job ready.sound.declared;
     }
       where
         -- the nodes with jobs have the lines of the clean build
-        same : (node : ℕ) → has_job (node_at work.plan node) ≡ true → tasks node ≡ lines node
+        same : (node : ℕ) → has_job (node_at run_work.plan node) ≡ true → tasks node ≡ lines node
         same node has =
-            have_clean_tasks meaning work lines tasks items planned_then new lawful idle truth well sound makes happens
-            last node has
-            (all-settled work tasks items well makes ready.room over node
-            (job-has work node (job-among work node has)).0)
+            have_clean_tasks meaning run_work lines tasks items planned_then new lawful idle truth well_then sound makes
+            happens last node has
+            (all-settled run_work tasks items well_then makes ready.room over node
+            (job-has run_work node (job-among run_work node has)).0)
 
-        same-job : (one : CleanJob) → IsAmong one (clean_jobs_of meaning work (bare work.plan (files_of old)))
+        same-job : (one : CleanJob) → IsAmong one (clean_jobs_of meaning run_work (bare run_work.plan (files_of old)))
             → tasks one.node ≡ lines one.node
         same-job one among =
-            same one.node (job-has work one.node
-            (node_of_job meaning (command_of work) (lines_on work) (jobs_from 0 work.plan)
-            (bare work.plan (files_of old)) one among)).1
+            same one.node (job-has run_work one.node
+            (node_of_job meaning (command_of run_work) (lines_on run_work) (jobs_from 0 run_work.plan)
+            (bare run_work.plan (files_of old)) one among)).1
 
 -- what follows the reading
 

@@ -348,9 +348,9 @@ module _ (meaning : Meaning) (work : Work) (lines tasks : run.Tasks) (old : Hist
     step build (leaves ticket owner) known right steady may follow make none = absurd none
 
     -- the items to come are those of the build with these lines, and what is known behind them
-    record Walked (build : Build) (todo : List Item) : Type 0 where
-      makes : Makes work lines build todo
-      known : Known work lines tasks (build_after_all work tasks build todo)
+    pub record Walked (build : Build) (todo : List Item) : Type 0 where
+      pub makes : Makes work lines build todo
+      pub known : Known work lines tasks (build_after_all work tasks build todo)
 
     walk : (tail done todo : List Item) (build : Build) (stand : Stand) → IsPast done build stand
         → Known work lines tasks build → SeenRight build → Steady build.run.nodes build.run.due
@@ -360,15 +360,24 @@ module _ (meaning : Meaning) (work : Work) (lines tasks : run.Tasks) (old : Hist
       makes = late-makes work lines build tail late;
       known = subst (Known work lines tasks) (sym (late-all-same work tasks build tail late)) known;
     }
-    walk tail done (item ∷ todo) build stand past known right steady makes may fits none late = record {
-      makes = (
-        one_makes.0,
-        one_makes.1,
-        one_makes.2,
-        subst (λ b. Makes work lines b (todo ++ tail)) (sym same) rest.makes,
-      );
-      known = rest.known;
-    }
+    walk tail done (item ∷ todo) build stand past known right steady makes may fits none late =
+        let rest = walk tail (done ++ item ∷ []) todo (build_after work tasks build item)
+        (stand_after stand (happened item))
+        (subst (λ b. IsPast (done ++ item ∷ []) b (stand_after stand (happened item))) same
+        (past-more meaning work lines entry idle done build stand item past one_makes parts.0 fits.0 apart.0))
+        here.known
+        (seen-next done build stand item past fits.0 right)
+        (steady-all (rules_of work) tasks build.run (reported item) steady makes.0) makes.3 parts.1 fits.1 apart.1
+        late in
+        record {
+          makes = (
+            one_makes.0,
+            one_makes.1,
+            one_makes.2,
+            subst (λ b. Makes work lines b (todo ++ tail)) (sym same) rest.makes,
+          );
+          known = rest.known;
+        }
       where
         apart : NoneLeft (item ∷ []) × NoneLeft todo
         apart = none-first item todo none
@@ -390,16 +399,6 @@ module _ (meaning : Meaning) (work : Work) (lines tasks : run.Tasks) (old : Hist
           make-agrees work tasks lines build item here.agree here.kept makes.2,
           tt,
         )
-
-        rest : Walked (build_after work tasks build item) (todo ++ tail)
-        rest =
-            walk tail (done ++ item ∷ []) todo (build_after work tasks build item) (stand_after stand (happened item))
-            (subst (λ b. IsPast (done ++ item ∷ []) b (stand_after stand (happened item))) same
-            (past-more meaning work lines entry idle done build stand item past one_makes parts.0 fits.0 apart.0))
-            here.known
-            (seen-next done build stand item past fits.0 right)
-            (steady-all (rules_of work) tasks build.run (reported item) steady makes.0) makes.3 parts.1 fits.1 apart.1
-            late
 
     pub walked : (items : List Item) (new : History) → Makes work tasks (first_build work) items
         → Happened meaning items old new → GivesUpLast items → Walked (first_build work) items
