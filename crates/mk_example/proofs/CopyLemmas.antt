@@ -92,7 +92,7 @@ doing bytes = record {
 abbrev job : Store → List ℕ → CleanJob
 job others bytes = record { node = 1; before = start others bytes; doings = doing bytes ∷ [] }
 
-jobs-are : (others : Store) (bytes : List ℕ)
+pub jobs-are : (others : Store) (bytes : List ℕ)
     → clean_jobs_of language work (start others bytes) ≡ job others bytes ∷ []
 unfolding lines_from text_at parts.joined
 jobs-are others bytes = refl
@@ -117,7 +117,7 @@ or-false true is = refl
 or-false false is = is
 
 -- what its job reads and changes is declared
-declared : (others : Store) (bytes : List ℕ) (tasks : Tasks)
+pub declared : (others : Store) (bytes : List ℕ) (tasks : Tasks)
     → IsDeclared (clean_plan work tasks) (job others bytes ∷ [])
 declared others bytes tasks = record {
   reads = λ one among. subst
@@ -165,7 +165,7 @@ declared others bytes tasks = record {
         by false same = refl
 
 -- the build goes by meta mode
-by-meta-mode : (tasks : Tasks) → tasks 1 ≡ lines → GoesByMetaMode work tasks
+pub by-meta-mode : (tasks : Tasks) → tasks 1 ≡ lines → GoesByMetaMode work tasks
 by-meta-mode tasks is = record {
   by_records = records;
   compared = compared;

@@ -2,6 +2,7 @@ pub mod AgainLemmas
 pub mod ChainLemmas
 pub mod CopyLemmas
 pub mod DoneLemmas
+pub mod PlainLemmas
 pub mod ProgramLemmas
 pub mod ProgramRows
 pub mod ReadingLemmas

@@ -1,5 +1,6 @@
 -- A makefile of one target, and what its runs leave.
 use Rattle.std.specs.Prelude.{◌≡◌, ℕ, ◌≤◌, List, [], ◌∷◌, Option, Some, None, codes}
+use Rattle.mk_cli.specs.Orders.{no_order}
 use Rattle.mk_commands.specs.Meaning.{language}
 use Rattle.mk_meta.specs.TrueHistory.{IsTrueHistory}
 use Rattle.mk_modes.specs.Building.{point}
@@ -7,8 +8,10 @@ use Rattle.mk_modes.specs.Modes.{Held}
 use Rattle.mk_modes.specs.declared.report.End.TheVariants.{Done}
 use Rattle.mk_modes.specs.declared.report.Report.{Report}
 use Rattle.mk_scopes.specs.declared.scopes.Env.{Env}
+use Rattle.mk_sound.specs.Files.{AreSound}
 use Rattle.mk_top.specs.Runs.{IsRun}
 use Rattle.mk_trace.specs.TrueBuilds.{longer}
+use Rattle.mk_world.specs.Deeds.{Store}
 use Rattle.mk_world.specs.History.{files_of, state_of}
 use Rattle.mk_world.specs.Lawful.{IsLawful}
 use Rattle.mk_world.specs.declared.history.Happening.TheVariants.{Edit, Stamp, Put}
@@ -93,3 +96,9 @@ one_time bytes = record {
 -- It may have come about so.
 abbrev pub ChangesMayShareATime : Type 0
 ChangesMayShareATime = (bytes : List ℕ) → IsLawful language (one_time bytes)
+
+-- Where the makefile and its source stand, the files are plain, and so they are sound, whatever else stands there.
+abbrev pub CopiedFilesAreSound : Type 0
+CopiedFilesAreSound =
+    (bytes : List ℕ) (files : Store) → files (codes "makefile") ≡ Some makefile → files (codes "a") ≡ Some bytes
+    → AreSound language env no_order files

@@ -1,5 +1,5 @@
 //! What runs of the makefile leave.
-ghost use Rattle.mk_example.specs.Copies.{ChangesMayShareATime, CopiesAreRight, CopiesAreRightAgain, EditedWorldsAreReady, NewWorldsAreReady};
+ghost use Rattle.mk_example.specs.Copies.{ChangesMayShareATime, CopiedFilesAreSound, CopiesAreRight, CopiesAreRightAgain, EditedWorldsAreReady, NewWorldsAreReady};
 ghost use Rattle.mk_example.specs.Programs.{NewProgramsMayRun, ProgramsAreRight, SourcesAreSound};
 
 /// Each run of the makefile that ends with all made leaves in its target the bytes of its source, and the makefile and the
@@ -26,6 +26,11 @@ pub fn copies_are_right_again()
 /// Files may have one time, and so may changes: only stamps have each a later one.
 pub fn changes_may_share_a_time()
     ensures { ChangesMayShareATime }
+{}
+
+/// The premises of the theorem that are on the makefiles and the files are met where the makefile and its source stand.
+pub fn copied_files_are_sound()
+    ensures { CopiedFilesAreSound }
 {}
 
 /// All that is asked of makefiles and files holds of the makefile of a program and its sources, whatever else stands.

@@ -7,6 +7,7 @@
 mod law;
 
 pub use law::{
-    changes_may_share_a_time, copies_are_right, copies_are_right_again, edited_worlds_are_ready,
-    new_programs_may_run, new_worlds_are_ready, programs_are_right, sources_are_sound,
+    changes_may_share_a_time, copied_files_are_sound, copies_are_right, copies_are_right_again,
+    edited_worlds_are_ready, new_programs_may_run, new_worlds_are_ready, programs_are_right,
+    sources_are_sound,
 };
