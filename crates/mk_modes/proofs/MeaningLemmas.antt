@@ -12,11 +12,13 @@ use Rattle.mk_plan.specs.Refusals.{IsRefusedBy}
 use Rattle.mk_plan.specs.declared.fault.PlanFault.{PlanFault}
 use Rattle.mk_plan.specs.declared.fault.PlanFault.TheVariants as plan
 use Rattle.mk_world.specs.Causes.{HasCause, Rose, last_count}
+use Rattle.mk_world.specs.Deeds.{Store}
 use Rattle.mk_world.specs.Runs.{Same}
 use Rattle.mk_world.specs.Talks.{Meaning}
 use Rattle.mk_world.specs.Told.{Told}
 use Rattle.mk_world.specs.declared.history.History.{History}
-use Rattle.mk_dirs.proofs.LookLemmas.{ByLooks-none, dates-none}
+use Rattle.mk_dirs.proofs.LookLemmas.{ByLooks-map, ByLooks-none, dates-none}
+use Rattle.mk_dirs.specs.Answered.{ByLooks}
 use Rattle.mk_world.proofs.SinkLemmas.{Gains-nothing}
 use Rattle.mk_modes.specs.Building.{IsUnplanned, point, unbuilt}
 use Rattle.mk_modes.specs.Causes.{EndCause, LineCause, SinkCause}
@@ -24,7 +26,7 @@ use Rattle.mk_modes.specs.Ends.{IsOutside, of_plan}
 use Rattle.mk_modes.specs.Meaning.{Outcome, Meant, only, prints, explains, queries, shows, builds, printed, ended}
 use Rattle.mk_modes.specs.Modes.{Printed, Goes}
 use Rattle.mk_modes.specs.declared.report.End.{End}
-use Rattle.mk_modes.specs.declared.report.End.TheVariants.{SinkFault}
+use Rattle.mk_modes.specs.declared.report.End.TheVariants.{NoMemory, SinkFault}
 use Rattle.mk_modes.proofs.PrintLemmas.{held, Printed-ended, Printed-stopped}
 
 -- nothing happened in between
@@ -64,6 +66,18 @@ unplanned-stopped made requested query end h a outside =
       is = ap unbuilt refused.1;
       printed = Gains-nothing a;
     }
+
+-- there was no memory for the names of a plan
+pub unplanned-behind : (made : Made) (requested : List (List ℕ)) (query : Bool) (first last : Option History)
+    (a : Option (List ℕ)) (Planned : Store → Type 0) → ByLooks first last Planned
+    → IsUnplanned made requested query (point first a) (point last a) (unbuilt NoMemory)
+unplanned-behind made requested query first last a Planned by = record {
+  fault = plan.NoMemory;
+  refused = ByLooks-map first last Planned (λ files. IsRefusedBy plan.NoMemory (planned files made requested query)) by
+      (λ files is. inl (inr refl));
+  is = refl;
+  printed = Gains-nothing a;
+}
 
 -- the outside or want of memory may end a run before it does what is meant
 pub Goes-stopped : (meaning : Meaning) (meant : Meant) (end : End) (h : Option History)

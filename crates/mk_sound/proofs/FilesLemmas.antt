@@ -36,8 +36,8 @@ use Rattle.mk_run.proofs.TrueRunLemmas.{goes-told, told-at, told-before}
 use Rattle.mk_run.specs.CleanRuns.{bare, clean_files_of}
 use Rattle.mk_run.specs.TrueRuns.{Built, IsTrueOrderRun, build, build_of, built_in, dry}
 use Rattle.mk_scopes.specs.declared.scopes.Env.{Env}
-use Rattle.mk_sound.proofs.RunLemmas.{runs_leave_clean}
-use Rattle.mk_sound.specs.Files.{AreSound, HasBuilt, IsTrueStart, RunsLeaveCleanFiles, SoundFilesMakeSoundRuns}
+use Rattle.mk_sound.proofs.RunLemmas.{runs_leave_clean, runs_stay_true}
+use Rattle.mk_sound.specs.Files.{AreSound, HasBuilt, IsTrueStart, RunsLeaveCleanFiles, RunsMayFollow, SoundFilesMakeSoundRuns}
 use Rattle.mk_sound.specs.Sound.{IsSoundRun, LeavesWhatIsSound}
 use Rattle.mk_trace.proofs.AlongLemmas.{all-append}
 use Rattle.mk_trace.specs.Builds.{command_of}
@@ -334,3 +334,23 @@ runs_leave_files meaning words env order first last err report run old new at is
         sound-files meaning words env order first last err report run old new planned_at sound.work sound.lines tasks
         items at is (subst (λ it. build_of run.run ≡ Some (build planned_at it tasks items)) its.0 here) done
         (subst (λ it. IsSoundRun meaning env order planned_at it sound.lines old) its.0 its.1) node makes
+
+pub runs_may_follow : RunsMayFollow
+runs_may_follow meaning words env order first last err report run old new at is has start sound idle =
+    by (build_of run.run) refl has
+  where
+    Follows : Work → Type 0
+    Follows work = IsTrueStart meaning new
+        × ((path : List ℕ)
+        → IsSource (clean_plan work sound.lines) (clean_jobs_of meaning work (bare work.plan (files_of old))) path
+        → files_of new path ≡ files_of old path)
+
+    by : (b : Option Built) → build_of run.run ≡ b → HasBuilt b → Follows sound.work
+    by None here built = absurd built
+    by (Some (dry planned_at)) here built = absurd built
+    by (Some (build planned_at work tasks items)) here built =
+        let its = sound_files_make_sound_runs meaning words env order first last err report run old new planned_at
+        work tasks items at is here start sound in
+        let stays = runs_stay_true meaning words env order first last err report run old new planned_at work sound.lines
+        tasks items at is here its.1 in
+        subst Follows its.0 (record { lawful = stays.0; idle = idle; truth = stays.1 }, stays.2)

@@ -36,7 +36,7 @@ use Rattle.mk_run.proofs.TrueRunLemmas.{asked-then, goes-told, looks-ask, questi
 use Rattle.mk_run.specs.CleanRuns.{IsReadyRun, bare, clean_files_of, clean_jobs_of, lines_on, task_on}
 use Rattle.mk_run.specs.TrueRuns.{Built, IsTrueOrderRun, LeavesClean, build, build_of, built_in, dry}
 use Rattle.mk_scopes.specs.declared.scopes.Env.{Env}
-use Rattle.mk_sound.proofs.WalkLemmas.{have_clean_tasks, truth-behind}
+use Rattle.mk_sound.proofs.WalkLemmas.{have_clean_tasks, source-behind, truth-behind}
 use Rattle.mk_sound.specs.Sound.{IsSound, IsSoundRun, LeavesWhatIsSound, SoundRunsLeaveClean, SoundRunsStayTrue}
 use Rattle.mk_trace.proofs.AlongLemmas.{OnlyAsked, questions-children}
 use Rattle.mk_trace.proofs.QuestionLemmas.{questions-keep-truth}
@@ -144,6 +144,19 @@ module _ (meaning : Meaning) (env : Env) (order : Order) (made : Made) (flags : 
         truth-behind meaning run_work lines tasks planned_then lawful idle truth well_then sound items new makes happens
         last
 
+    -- and sources stand as they did
+    sources-stand : (tasks : run.Tasks) (items : List Item) (new : History) → Makes work tasks (first_build work) items
+        → Happened meaning items planned_then new → GivesUpLast items
+        → (path : List ℕ)
+        → IsSource (clean_plan work lines) (clean_jobs_of meaning work (bare work.plan (files_of old))) path
+        → files_of new path ≡ files_of old path
+    sources-stand tasks items new makes happens last path source =
+        source-behind meaning work lines tasks planned_then lawful idle truth well sound items new makes happens last
+        path
+        (subst (λ (files : Store). IsSource (clean_plan work lines) (clean_jobs_of meaning work (bare work.plan files)) path)
+        (sym start) source)
+        ∙ ap (λ (files : Store). files path) start
+
     -- where all is made, the run is ready
     sound-ready : (tasks : run.Tasks) (items : List Item) (new : History)
         → Makes run_work tasks (first_build run_work) items → Happened meaning items planned_then new → GivesUpLast items
@@ -202,7 +215,11 @@ abbrev KeepsTruth : Meaning → Env → Order → Option Built → History → H
 KeepsTruth meaning env order None old new = Unit {0}
 KeepsTruth meaning env order (Some (dry planned_at)) old new = Unit {0}
 KeepsTruth meaning env order (Some (build planned_at work tasks items)) old new =
-    (lines : run.Tasks) → IsSoundRun meaning env order planned_at work lines old → IsTrueHistory meaning.next new
+    (lines : run.Tasks) → IsSoundRun meaning env order planned_at work lines old
+    → IsTrueHistory meaning.next new
+    × ((path : List ℕ)
+    → IsSource (clean_plan work lines) (clean_jobs_of meaning work (bare work.plan (files_of old))) path
+    → files_of new path ≡ files_of old path)
 
 abbrev IsSoundly : Meaning → Env → Order → Option Built → End → History → History → Type 0
 IsSoundly meaning env order built end old new =
@@ -244,9 +261,12 @@ goes-sound meaning env order (builds made flags) end old read first last went ne
           one.gives_up
           (subst (λ r. StandsBy work r (build_after_all work one.tasks (first_build work) one.items))
           (done-build built.nodes built.result went.end (well done) built.end) one.stands))),
-      (λ lines ready.
-          stays-true meaning env order made flags built.nodes lines built.planned_at old planned_then (files_of read)
-          here asked_then looked.1 built.names_differ ready one.tasks one.items new one.makes told one.gives_up),
+      (λ lines ready. (
+        stays-true meaning env order made flags built.nodes lines built.planned_at old planned_then (files_of read)
+            here asked_then looked.1 built.names_differ ready one.tasks one.items new one.makes told one.gives_up,
+        sources-stand meaning env order made flags built.nodes lines built.planned_at old planned_then (files_of read)
+            here asked_then looked.1 built.names_differ ready one.tasks one.items new one.makes told one.gives_up,
+      )),
     )
       where
         looked : OnlyLooks read planned_then
@@ -313,4 +333,5 @@ runs_stay_true meaning words env order first last err report run old new planned
     let left = subst (λ b. IsSoundly meaning env order b report.end old new) built
     (told-at (IsSoundly meaning env order (build_of run.run) report.end) at is
     (runs-sound meaning words env order first last err report run)) in
-    (runs_stay_lawful meaning old new (told-at (Run meaning) at is run.happened) ready.lawful, left.1 lines ready)
+    let stays = left.1 lines ready in
+    (runs_stay_lawful meaning old new (told-at (Run meaning) at is run.happened) ready.lawful, stays.0, stays.1)

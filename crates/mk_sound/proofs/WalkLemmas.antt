@@ -427,6 +427,20 @@ module _ (meaning : Meaning) (work : Work) (lines tasks : run.Tasks) (old : Hist
           declared = declared;
         }) makes_lines happens last)
 
+    -- and sources stand as they did
+    pub source-behind : (items : List Item) (new : History) → Makes work tasks (first_build work) items
+        → Happened meaning items old new → GivesUpLast items
+        → (path : List ℕ) → IsStill meaning work lines store sound path → files_of new path ≡ store path
+    source-behind items new makes happens last path still =
+        let built = full_turns meaning work lines items old new lawful idle truth well sound.mode declared
+        (walked items new makes happens last).makes happens last in
+        let beside = turns_keep meaning plan store declared (are-well-made meaning work lines store well)
+        (turn.first_build store) built.turns
+        (at_first meaning plan store declared (are-well-made meaning work lines store well)) built.may in
+        ap (λ (files : Store). files path) (sym built.files)
+        ∙ beside.sources path
+        (λ one among. still.alone one (subst (IsAmong one) (sym jobs-are) among)) still.no_made still.no_meta
+
 pub have_clean_tasks : BuildsHaveCleanTasks
 have_clean_tasks meaning work lines tasks items old new lawful idle truth well sound makes happens last =
     (walked meaning work lines tasks old lawful idle truth well sound items new makes happens last).known.done

@@ -5,7 +5,7 @@ use Rattle.std.specs.Prelude.{◌≡◌, ℕ, ◌<◌, List, [], Option, Some, N
 use Rattle.std.specs.List.{AllByRecursion}
 use Rattle.mk_answers.specs.OnFiles.{ChangesNone}
 use Rattle.mk_clean.specs.Clean.{CleanJob, IsAmong}
-use Rattle.mk_clean.specs.Declared.{IsDeclared}
+use Rattle.mk_clean.specs.Declared.{IsDeclared, IsSource}
 use Rattle.mk_cli.specs.declared.order.Order.{Order}
 use Rattle.mk_decision.specs.Decisions.{Work}
 use Rattle.mk_decision.specs.Makers.{work_on}
@@ -95,3 +95,17 @@ RunsLeaveCleanFiles =
     → (node : ℕ) → makes_file (node_at sound.work.plan node) ≡ true
     → files_of new (node_at sound.work.plan node).name
     ≡ clean_files_of meaning sound.work (bare sound.work.plan (files_of old)) (node_at sound.work.plan node).name
+
+-- Behind a run from sound files that has come to a build, whatever failed in it and however it ended, the next run begins as
+-- it did, once no child runs; and each source, which no job changes and no build leaves, stands as it did.
+abbrev pub RunsMayFollow : Type 0
+RunsMayFollow =
+    (meaning : Meaning) (words : List (List ℕ)) (env : Env) (order : Order) (first last : Point) (err : Held)
+    (report : Report) (run : IsTrueOrderRun meaning words env order first last err report) (old new : History)
+    → first.history ≡ Some old → last.history ≡ Some new → HasBuilt (build_of run.run) → IsTrueStart meaning old
+    → (sound : AreSound meaning env order (files_of old)) → (state_of new).children ≡ []
+    → IsTrueStart meaning new
+    × ((path : List ℕ)
+    → IsSource (clean_plan sound.work sound.lines)
+    (clean_jobs_of meaning sound.work (bare sound.work.plan (files_of old))) path
+    → files_of new path ≡ files_of old path)

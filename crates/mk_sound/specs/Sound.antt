@@ -101,9 +101,9 @@ SoundRunsLeaveClean =
     (report : Report) (run : IsTrueOrderRun meaning words env order first last err report)
     → Told first.history last.history (LeavesWhatIsSound meaning env order (build_of run.run) report.end)
 
--- When a run has built, and its clean build is sound, the history behind it may have come about, and each meta file that
--- stands tells what happened: whatever failed, whoever was given up, and however the run ended. So the next run begins as
--- this one did.
+-- When a run has built, and its clean build is sound, the history behind it may have come about, each meta file that stands
+-- tells what happened, and each source, which no job changes and no build leaves, stands as it did: whatever failed, whoever
+-- was given up, and however the run ended. So the next run begins as this one did.
 abbrev pub SoundRunsStayTrue : Type 0
 SoundRunsStayTrue =
     (meaning : Meaning) (words : List (List ℕ)) (env : Env) (order : Order) (first last : Point) (err : Held)
@@ -113,3 +113,6 @@ SoundRunsStayTrue =
     → build_of run.run ≡ Some (build planned_at work tasks items)
     → IsSoundRun meaning env order planned_at work lines old
     → IsLawful meaning new × IsTrueHistory meaning.next new
+    × ((path : List ℕ)
+    → IsSource (clean_plan work lines) (clean_jobs_of meaning work (bare work.plan (files_of old))) path
+    → files_of new path ≡ files_of old path)

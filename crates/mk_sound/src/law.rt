@@ -1,5 +1,5 @@
 //! What follows from the clean build.
-ghost use Rattle.mk_sound.specs.Files.{RunsLeaveCleanFiles, SoundFilesMakeSoundRuns};
+ghost use Rattle.mk_sound.specs.Files.{RunsLeaveCleanFiles, RunsMayFollow, SoundFilesMakeSoundRuns};
 ghost use Rattle.mk_sound.specs.Sound.{BuildsHaveCleanTasks, SoundRunsLeaveClean, SoundRunsStayTrue};
 
 /// A build has the tasks of the clean build, in whatever order its jobs run, whatever it keeps, and whatever has
@@ -26,8 +26,13 @@ pub fn runs_leave_clean_files()
     ensures { RunsLeaveCleanFiles }
 {}
 
+/// Behind a run from files that are sound, whatever failed in it and however it ended, the next run begins as it did.
+pub fn runs_may_follow()
+    ensures { RunsMayFollow }
+{}
+
 /// So runs chain behind failures: behind a run whose clean build is sound each meta file that stands tells what happened,
-/// whatever failed, whoever was given up, and however the run ended.
+/// whatever failed, whoever was given up, and however the run ended, and each source as it did before.
 pub fn sound_runs_stay_true()
     ensures { SoundRunsStayTrue }
 {}

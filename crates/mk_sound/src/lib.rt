@@ -6,6 +6,6 @@
 mod law;
 
 pub use law::{
-    builds_have_clean_tasks, runs_leave_clean_files, sound_files_make_sound_runs,
+    builds_have_clean_tasks, runs_leave_clean_files, runs_may_follow, sound_files_make_sound_runs,
     sound_runs_leave_clean, sound_runs_stay_true,
 };
