@@ -9,7 +9,7 @@ use Rattle.mk_answers.specs.Readings.{AnswerAlike, AreAnsweredAlike, Counts, beh
 use Rattle.mk_blocks.specs.Acts.{Act, dated}
 use Rattle.mk_blocks.specs.Outcomes.{Outcome, ◌>>=◌, behind, done, followed, refused, silent}
 use Rattle.mk_makefile.specs.Acts.{dates}
-use Rattle.mk_makefile.specs.Moments.{Doing, Moment, given, stands}
+use Rattle.mk_makefile.specs.Moments.{Doing, Moment, given}
 use Rattle.mk_makefile.specs.Questions.{Answers}
 use Rattle.mk_makefile.specs.ReadFaults.{fault_as, outcome_as}
 use Rattle.mk_makefile.specs.Values.{asking, expanded}
