@@ -310,7 +310,8 @@ module _ (meaning : Meaning) (plan : Plan) (store : Store)
       where
         by : IsSource plan all path ⊎ IsMadeBefore plan all one path → one.before path ≡ build.files path
         by (inl is) =
-            (untouched meaning plan.command (lines_in plan) path plan.order (cleared plan store) is.alone).1 one among
+            (untouched meaning plan.command (lines_in plan) path plan.order (cleared plan store) is.alone).1 one
+            among
             ∙ (cleared_at path is.no_made is.no_meta
             ∙ sym (beside.sources path is.alone is.no_made is.no_meta))
         by (inr is) =
@@ -320,8 +321,8 @@ module _ (meaning : Meaning) (plan : Plan) (store : Store)
             let now : build.files (plan.node is.maker.node).name ≡ Some file.bytes =
             made_it.1 is.made (Some file.bytes) file.is in
             let before : one.before (plan.node is.maker.node).name ≡ Some file.bytes =
-            left_by meaning plan.command (lines_in plan) (plan.node is.maker.node).name (Some file.bytes) is.maker file.is plan.order
-            (cleared plan store)
+            left_by meaning plan.command (lines_in plan) (plan.node is.maker.node).name (Some file.bytes) is.maker
+            file.is plan.order (cleared plan store)
             (λ later stands. later_leaves is.maker later stands (plan.node is.maker.node).name
             (over_changed (plan.node is.maker.node).name (Some file.bytes) (deeds_of is.maker) file.is))
             one (well_made.ordered one is.maker among is.among is.depends) in
@@ -815,7 +816,8 @@ module _ (meaning : Meaning) (plan : Plan) (store : Store)
           (beside.jobs one among))
           (bool_two (node == one.node));
       sources = λ at leave no_made no_meta.
-          away at (λ same. false≢true (sym no_made ∙ (ap plan.is_made (sym same) ∙ made))) (bool_two (bytes_eq name at))
+          away at (λ same. false≢true (sym no_made ∙ (ap plan.is_made (sym same) ∙ made)))
+          (bool_two (bytes_eq name at))
           ∙ beside.sources at leave no_made no_meta;
       planned = beside.planned;
       looked = beside.looked;
@@ -904,8 +906,8 @@ module _ (meaning : Meaning) (plan : Plan) (store : Store)
     made_at_end one among well made files has =
         let file = declared.leaves one among well made in
         has made (Some file.bytes) file.is
-        ∙ sym (left_at_end meaning plan.command (lines_in plan) (plan.node one.node).name (Some file.bytes) one file.is plan.order
-        (cleared plan store)
+        ∙ sym (left_at_end meaning plan.command (lines_in plan) (plan.node one.node).name (Some file.bytes) one
+        file.is plan.order (cleared plan store)
         (λ later stands. later_leaves one later stands (plan.node one.node).name
         (over_changed (plan.node one.node).name (Some file.bytes) (deeds_of one) file.is)) among)
 

@@ -39,8 +39,8 @@ pub fn settled_builds_have_the_clean_files()
 
 /// Where what the jobs of a plan read and change is declared, each step of a build is a step of the same
 /// node in the clean build: at every moment a node's job has done nothing, or the first steps that it does
-/// there; where the node is settled, nothing or all of them; and where it has failed, all of them, and its job
-/// fails there, too.
+/// there; where the node is settled, nothing or all of them; and where it has failed, all of them, and its
+/// job fails there, too.
 pub fn steps_are_those_of_the_clean_build()
     ensures { StepsAreClean }
 {}

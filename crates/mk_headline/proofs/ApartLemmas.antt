@@ -392,29 +392,29 @@ module _ (meaning : Meaning) (work : Work) (tasks : run.Tasks) (old : History)
     own-touches : (build : Build) (items : List Item) (path : List ℕ) → AllOwned last build items
         → is_changed (deeds_in stamp items) path ≡ true → Touches node path
     own-touches build [] path each is = absurd (false≢true is)
-    own-touches build (looks n seen ∷ items) path each is = own-touches (build_after work tasks build (looks n seen)) items path each.1 is
-    own-touches build (keeps n ∷ items) path each is = own-touches (build_after work tasks build (keeps n)) items path each.1 is
-    own-touches build (refuses n number what ∷ items) path each is = own-touches (build_after work tasks build (refuses n number what)) items path each.1 is
+    own-touches build (looks n seen ∷ items) path each is = own-touches _ items path each.1 is
+    own-touches build (keeps n ∷ items) path each is = own-touches _ items path each.1 is
+    own-touches build (refuses n number what ∷ items) path each is = own-touches _ items path each.1 is
     own-touches build (starts n number ticket owner cmd ∷ items) path each is =
         own-event (owner == stamp) (begun_event cmd) (job_events stamp (happened_all items)) path is
-        (λ own none. absurd (false≢true none)) (own-touches (build_after work tasks build (starts n number ticket owner cmd)) items path each.1)
-    own-touches build (passes n number ∷ items) path each is = own-touches (build_after work tasks build (passes n number)) items path each.1 is
-    own-touches build (waits ∷ items) path each is = own-touches (build_after work tasks build waits) items path each.1 is
+        (λ own none. absurd (false≢true none)) (own-touches _ items path each.1)
+    own-touches build (passes n number ∷ items) path each is = own-touches _ items path each.1 is
+    own-touches build (waits ∷ items) path each is = own-touches _ items path each.1 is
     own-touches build (steps ticket owner deed time ∷ items) path each is =
         own-event (owner == stamp) (did deed) (job_events stamp (happened_all items)) path is
         (λ own here.
         subst (λ k. Touches k path)
         (same-node each.0.node (sym each.0.owned ∙ eqb-true owner stamp own)) (each.0.touches path here))
-        (own-touches (build_after work tasks build (steps ticket owner deed time)) items path each.1)
+        (own-touches _ items path each.1)
     own-touches build (ends n number owner ended ∷ items) path each is =
         own-event (owner == stamp) ended_event (job_events stamp (happened_all items)) path is
-        (λ own none. absurd (false≢true none)) (own-touches (build_after work tasks build (ends n number owner ended)) items path each.1)
-    own-touches build (changes n (gone given time) ∷ items) path each is = own-touches (build_after work tasks build (changes n (gone given time))) items path each.1 is
-    own-touches build (changes n (head given bytes time) ∷ items) path each is = own-touches (build_after work tasks build (changes n (head given bytes time))) items path each.1 is
-    own-touches build (changes n (whole given bytes time) ∷ items) path each is = own-touches (build_after work tasks build (changes n (whole given bytes time))) items path each.1 is
-    own-touches build (changes n (cut_head given part time) ∷ items) path each is = own-touches (build_after work tasks build (changes n (cut_head given part time))) items path each.1 is
-    own-touches build (changes n (cut_whole given part time) ∷ items) path each is = own-touches (build_after work tasks build (changes n (cut_whole given part time))) items path each.1 is
-    own-touches build (leaves ticket owner ∷ items) path each is = own-touches (build_after work tasks build (leaves ticket owner)) items path each.1 is
+        (λ own none. absurd (false≢true none)) (own-touches _ items path each.1)
+    own-touches build (changes n (gone given time) ∷ items) path each is = own-touches _ items path each.1 is
+    own-touches build (changes n (head given bytes time) ∷ items) path each is = own-touches _ items path each.1 is
+    own-touches build (changes n (whole given bytes time) ∷ items) path each is = own-touches _ items path each.1 is
+    own-touches build (changes n (cut_head given part time) ∷ items) path each is = own-touches _ items path each.1 is
+    own-touches build (changes n (cut_whole given part time) ∷ items) path each is = own-touches _ items path each.1 is
+    own-touches build (leaves ticket owner ∷ items) path each is = own-touches _ items path each.1 is
 
     -- the node's target, or what its own children change
     abbrev IsMine : List ℕ → Type 0
@@ -521,30 +521,30 @@ module _ (meaning : Meaning) (work : Work) (tasks : run.Tasks) (old : History)
           → AllByRecursion IsAlone (happened_all items)
       alone-all build [] each along may = tt
       alone-all build (looks n seen ∷ items) each along may =
-          (inr (λ path among. tt), alone-all (build_after work tasks build (looks n seen)) items each.1 along.1 (rest-may (looks n seen) items may))
-      alone-all build (keeps n ∷ items) each along may = alone-all (build_after work tasks build (keeps n)) items each.1 along.1 (rest-may (keeps n) items may)
+          (inr (λ path among. tt), alone-all _ items each.1 along.1 (rest-may (looks n seen) items may))
+      alone-all build (keeps n ∷ items) each along may = alone-all _ items each.1 along.1 (rest-may (keeps n) items may)
       alone-all build (refuses n number what ∷ items) each along may =
-          alone-all (build_after work tasks build (refuses n number what)) items each.1 along.1 (rest-may (refuses n number what) items may)
+          alone-all _ items each.1 along.1 (rest-may (refuses n number what) items may)
       alone-all build (starts n number ticket owner cmd ∷ items) each along may = (
         inr (λ path among. tt),
-        alone-all (build_after work tasks build (starts n number ticket owner cmd)) items each.1 along.1 (rest-may (starts n number ticket owner cmd) items may),
+        alone-all _ items each.1 along.1 (rest-may (starts n number ticket owner cmd) items may),
       )
       alone-all build (passes n number ∷ items) each along may =
-          alone-all (build_after work tasks build (passes n number)) items each.1 along.1 (rest-may (passes n number) items may)
-      alone-all build (waits ∷ items) each along may = alone-all (build_after work tasks build waits) items each.1 along.1 (rest-may waits items may)
+          alone-all _ items each.1 along.1 (rest-may (passes n number) items may)
+      alone-all build (waits ∷ items) each along may = alone-all _ items each.1 along.1 (rest-may waits items may)
       alone-all build (steps ticket owner deed time ∷ items) each along may = (
         alone-step ticket owner time deed each.0,
-        alone-all (build_after work tasks build (steps ticket owner deed time)) items each.1 along.1 (rest-may (steps ticket owner deed time) items may),
+        alone-all _ items each.1 along.1 (rest-may (steps ticket owner deed time) items may),
       )
       alone-all build (ends n number owner ended ∷ items) each along may = (
         inr (λ path among. tt),
-        alone-all (build_after work tasks build (ends n number owner ended)) items each.1 along.1 (rest-may (ends n number owner ended) items may),
+        alone-all _ items each.1 along.1 (rest-may (ends n number owner ended) items may),
       )
       alone-all build (changes n change ∷ items) each along (inl has) =
-          (alone-change build n change along.0 has each.0, alone-all (build_after work tasks build (changes n change)) items each.1 along.1 (inl has))
+          (alone-change build n change along.0 has each.0, alone-all _ items each.1 along.1 (inl has))
       alone-all build (changes n change ∷ items) each along (inr none) = absurd none.0
       alone-all build (leaves ticket owner ∷ items) each along may =
-          (inr (λ path among. tt), alone-all (build_after work tasks build (leaves ticket owner)) items each.1 along.1 (rest-may (leaves ticket owner) items may))
+          (inr (λ path among. tt), alone-all _ items each.1 along.1 (rest-may (leaves ticket owner) items may))
 
   -- the whole build
 

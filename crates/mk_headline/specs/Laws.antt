@@ -39,8 +39,8 @@ pub record IsBuildOfTurns (meaning : Meaning) (work : Work) (tasks : Tasks) (ite
         ≡ files_of new
     -- a node that is settled in the build is so in the turns, unless a failure has stopped the run, behind
     -- which a job ends with its next line
-    pub settled_are : is_stopped (rules_of work) (build_after_all work tasks (first_build work) items).run.nodes
-        ≡ false → (node : ℕ)
+    pub settled_are : is_stopped (rules_of work)
+        (build_after_all work tasks (first_build work) items).run.nodes ≡ false → (node : ℕ)
         → slice_get (build_after_all work tasks (first_build work) items).run.nodes node ≡ Some Settled
         → (turn.after_turns (clean_plan work tasks) (turn.first_build (files_of old)) turns).stage node
         ≡ turn.settled
@@ -97,8 +97,8 @@ BuildsKeepApart =
     → IsReadyBuild meaning work tasks old → Makes work tasks (first_build work) items
     → Happened meaning items old new → GivesUpLast items → IsApart work tasks items
 
--- So meta files tell what happened behind the items of a build, at whatever moment, whatever has failed, and however
--- it ends.
+-- So meta files tell what happened behind the items of a build, at whatever moment, whatever has failed, and
+-- however it ends.
 abbrev pub BuildsStayTrue : Type 0
 BuildsStayTrue =
     (meaning : Meaning) (work : Work) (tasks : Tasks) (items : List Item) (old new : History)
@@ -113,7 +113,8 @@ pub record IsClean (meaning : Meaning) (work : Work) (tasks : Tasks) (items : Li
   where
     pub files : HasCleanFiles meaning (clean_plan work tasks) (files_of old) (files_of new)
     pub built : IsBuildOfTurns meaning work tasks items old new
-    pub steps_are : DoesCleanSteps (clean_plan work tasks) (clean_build meaning (clean_plan work tasks) (files_of old)) built.turns
+    pub steps_are : DoesCleanSteps (clean_plan work tasks)
+        (clean_build meaning (clean_plan work tasks) (files_of old)) built.turns
         (turn.after_turns (clean_plan work tasks) (turn.first_build (files_of old)) built.turns)
     pub apart : IsApart work tasks items
     pub truth : IsTrueHistory meaning.next new

@@ -30,7 +30,8 @@ put_by node (whole path bytes time) = turn.puts_meta path (Some bytes) ∷ []
 put_by node (cut_head path part time) = turn.puts_meta path (Some part) ∷ []
 put_by node (cut_whole path part time) = turn.puts_meta path (Some part) ∷ []
 
--- The turns of an item. A look for a decision may count; a step is that of the node whose child does it.
+-- The turns of an item. A look for a decision may count; a step is that of the node whose child does it. A node
+-- that is refused and a child that is given up have none.
 abbrev pub IsTurned : Tasks → Build → Item → List Turn → Type 0
 IsTurned tasks build (looks node seen) turns =
     (turns ≡ []) ⊎ (turns ≡ turn.looks_at node (path_of seen) ∷ [])

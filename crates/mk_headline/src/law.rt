@@ -7,15 +7,15 @@ pub fn first_builds_are_turns()
 {}
 
 /// A build in meta mode is one of turns, whatever nodes it kept, whatever has failed so far, and whichever
-/// children were given up: each item is one or a few turns that may follow those before them, and the files are
-/// those that the turns leave.
+/// children were given up: each item is one or a few turns that may follow those before them, or none, and
+/// the files are those that the turns leave.
 pub fn builds_are_turns()
     ensures { BuildsAreTurns }
 {}
 
-/// In a build in meta mode jobs have kept apart, whatever has failed so far, and whichever children were given
-/// up: no child changed a meta file, and while a job was open, nothing but its own children changed its target,
-/// or what these changed.
+/// In a build in meta mode jobs have kept apart, whatever has failed so far, and whichever children were
+/// given up: no child changed a meta file, and while a job was open, nothing but its own children changed its
+/// target, or what these changed.
 pub fn builds_keep_apart()
     ensures { BuildsKeepApart }
 {}
