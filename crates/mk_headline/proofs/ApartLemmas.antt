@@ -389,32 +389,32 @@ module _ (meaning : Meaning) (work : Work) (tasks : run.Tasks) (old : History)
         (λ none. let zero_is : stamp ≡ 0 = sym is ∙ none in absurd (omega (arith, later, zero_is)))
 
     -- what the job's own children change, its job in the clean build does
-    own-touches : (build : Build) (items : List Item) (path : List ℕ) → AllOwned last build items
+    own-touches : (items : List Item) (build : Build) (path : List ℕ) → AllOwned last build items
         → is_changed (deeds_in stamp items) path ≡ true → Touches node path
-    own-touches build [] path each is = absurd (false≢true is)
-    own-touches build (looks n seen ∷ items) path each is = own-touches _ items path each.1 is
-    own-touches build (keeps n ∷ items) path each is = own-touches _ items path each.1 is
-    own-touches build (refuses n number what ∷ items) path each is = own-touches _ items path each.1 is
-    own-touches build (starts n number ticket owner cmd ∷ items) path each is =
+    own-touches [] build path each is = absurd (false≢true is)
+    own-touches (looks n seen ∷ items) build path each is = own-touches items _ path each.1 is
+    own-touches (keeps n ∷ items) build path each is = own-touches items _ path each.1 is
+    own-touches (refuses n number what ∷ items) build path each is = own-touches items _ path each.1 is
+    own-touches (starts n number ticket owner cmd ∷ items) build path each is =
         own-event (owner == stamp) (begun_event cmd) (job_events stamp (happened_all items)) path is
-        (λ own none. absurd (false≢true none)) (own-touches _ items path each.1)
-    own-touches build (passes n number ∷ items) path each is = own-touches _ items path each.1 is
-    own-touches build (waits ∷ items) path each is = own-touches _ items path each.1 is
-    own-touches build (steps ticket owner deed time ∷ items) path each is =
+        (λ own none. absurd (false≢true none)) (own-touches items _ path each.1)
+    own-touches (passes n number ∷ items) build path each is = own-touches items _ path each.1 is
+    own-touches (waits ∷ items) build path each is = own-touches items _ path each.1 is
+    own-touches (steps ticket owner deed time ∷ items) build path each is =
         own-event (owner == stamp) (did deed) (job_events stamp (happened_all items)) path is
         (λ own here.
         subst (λ k. Touches k path)
         (same-node each.0.node (sym each.0.owned ∙ eqb-true owner stamp own)) (each.0.touches path here))
-        (own-touches _ items path each.1)
-    own-touches build (ends n number owner ended ∷ items) path each is =
+        (own-touches items _ path each.1)
+    own-touches (ends n number owner ended ∷ items) build path each is =
         own-event (owner == stamp) ended_event (job_events stamp (happened_all items)) path is
-        (λ own none. absurd (false≢true none)) (own-touches _ items path each.1)
-    own-touches build (changes n (gone given time) ∷ items) path each is = own-touches _ items path each.1 is
-    own-touches build (changes n (head given bytes time) ∷ items) path each is = own-touches _ items path each.1 is
-    own-touches build (changes n (whole given bytes time) ∷ items) path each is = own-touches _ items path each.1 is
-    own-touches build (changes n (cut_head given part time) ∷ items) path each is = own-touches _ items path each.1 is
-    own-touches build (changes n (cut_whole given part time) ∷ items) path each is = own-touches _ items path each.1 is
-    own-touches build (leaves ticket owner ∷ items) path each is = own-touches _ items path each.1 is
+        (λ own none. absurd (false≢true none)) (own-touches items _ path each.1)
+    own-touches (changes n (gone given time) ∷ items) build path each is = own-touches items _ path each.1 is
+    own-touches (changes n (head given bytes time) ∷ items) build path each is = own-touches items _ path each.1 is
+    own-touches (changes n (whole given bytes time) ∷ items) build path each is = own-touches items _ path each.1 is
+    own-touches (changes n (cut_head given part time) ∷ items) build path each is = own-touches items _ path each.1 is
+    own-touches (changes n (cut_whole given part time) ∷ items) build path each is = own-touches items _ path each.1 is
+    own-touches (leaves ticket owner ∷ items) build path each is = own-touches items _ path each.1 is
 
     -- the node's target, or what its own children change
     abbrev IsMine : List ℕ → Type 0
@@ -424,7 +424,7 @@ module _ (meaning : Meaning) (work : Work) (tasks : run.Tasks) (old : History)
         → Contains (name node ∷ changed_paths (deeds_in stamp items)) path → IsMine path
     mine-of build items each path (zero, less, is) = inl (sym is)
     mine-of build items each path (suc place, less, is) =
-        inr (own-touches build items path each
+        inr (own-touches items build path each
         (contains-any (changed_paths (deeds_in stamp items)) path (place, omega (arith, less), is)))
 
     module _ (within : node < length work.plan) (paths : List (List ℕ))
@@ -516,35 +516,35 @@ module _ (meaning : Meaning) (work : Work) (tasks : run.Tasks) (old : History)
       rest-may item items (inl has) = inl has
       rest-may item items (inr none) = inr none.1
 
-      alone-all : (build : Build) (items : List Item) → AllOwned last build items
+      alone-all : (items : List Item) (build : Build) → AllOwned last build items
           → IsOpenAlong work tasks build node items → MayChangeMeta items
           → AllByRecursion IsAlone (happened_all items)
-      alone-all build [] each along may = tt
-      alone-all build (looks n seen ∷ items) each along may =
-          (inr (λ path among. tt), alone-all _ items each.1 along.1 (rest-may (looks n seen) items may))
-      alone-all build (keeps n ∷ items) each along may = alone-all _ items each.1 along.1 (rest-may (keeps n) items may)
-      alone-all build (refuses n number what ∷ items) each along may =
-          alone-all _ items each.1 along.1 (rest-may (refuses n number what) items may)
-      alone-all build (starts n number ticket owner cmd ∷ items) each along may = (
+      alone-all [] build each along may = tt
+      alone-all (looks n seen ∷ items) build each along may =
+          (inr (λ path among. tt), alone-all items _ each.1 along.1 (rest-may (looks n seen) items may))
+      alone-all (keeps n ∷ items) build each along may = alone-all items _ each.1 along.1 (rest-may (keeps n) items may)
+      alone-all (refuses n number what ∷ items) build each along may =
+          alone-all items _ each.1 along.1 (rest-may (refuses n number what) items may)
+      alone-all (starts n number ticket owner cmd ∷ items) build each along may = (
         inr (λ path among. tt),
-        alone-all _ items each.1 along.1 (rest-may (starts n number ticket owner cmd) items may),
+        alone-all items _ each.1 along.1 (rest-may (starts n number ticket owner cmd) items may),
       )
-      alone-all build (passes n number ∷ items) each along may =
-          alone-all _ items each.1 along.1 (rest-may (passes n number) items may)
-      alone-all build (waits ∷ items) each along may = alone-all _ items each.1 along.1 (rest-may waits items may)
-      alone-all build (steps ticket owner deed time ∷ items) each along may = (
+      alone-all (passes n number ∷ items) build each along may =
+          alone-all items _ each.1 along.1 (rest-may (passes n number) items may)
+      alone-all (waits ∷ items) build each along may = alone-all items _ each.1 along.1 (rest-may waits items may)
+      alone-all (steps ticket owner deed time ∷ items) build each along may = (
         alone-step ticket owner time deed each.0,
-        alone-all _ items each.1 along.1 (rest-may (steps ticket owner deed time) items may),
+        alone-all items _ each.1 along.1 (rest-may (steps ticket owner deed time) items may),
       )
-      alone-all build (ends n number owner ended ∷ items) each along may = (
+      alone-all (ends n number owner ended ∷ items) build each along may = (
         inr (λ path among. tt),
-        alone-all _ items each.1 along.1 (rest-may (ends n number owner ended) items may),
+        alone-all items _ each.1 along.1 (rest-may (ends n number owner ended) items may),
       )
-      alone-all build (changes n change ∷ items) each along (inl has) =
-          (alone-change build n change along.0 has each.0, alone-all _ items each.1 along.1 (inl has))
-      alone-all build (changes n change ∷ items) each along (inr none) = absurd none.0
-      alone-all build (leaves ticket owner ∷ items) each along may =
-          (inr (λ path among. tt), alone-all _ items each.1 along.1 (rest-may (leaves ticket owner) items may))
+      alone-all (changes n change ∷ items) build each along (inl has) =
+          (alone-change build n change along.0 has each.0, alone-all items _ each.1 along.1 (inl has))
+      alone-all (changes n change ∷ items) build each along (inr none) = absurd none.0
+      alone-all (leaves ticket owner ∷ items) build each along may =
+          (inr (λ path among. tt), alone-all items _ each.1 along.1 (rest-may (leaves ticket owner) items may))
 
   -- the whole build
 
@@ -558,7 +558,7 @@ module _ (meaning : Meaning) (work : Work) (tasks : run.Tasks) (old : History)
   job-alone before during after node stamp path bytes last makes each along =
       alone-all last each.differ node stamp opened.owned opened.later opened.within
       (name node ∷ changed_paths (deeds_in stamp during))
-      (mine-of last each.differ node stamp opened.owned opened.later opened_build during owned) opened_build during
+      (mine-of last each.differ node stamp opened.owned opened.later opened_build during owned) during opened_build
       owned (subst (λ b. IsOpenAlong work tasks b node during)
       (build_after_all-append work tasks (first_build work) before (opens ∷ [])) along) may
     where
