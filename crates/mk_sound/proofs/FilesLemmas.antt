@@ -6,6 +6,7 @@ use Rattle.std.specs.List.{AllByRecursion}
 use Rattle.mk_answers.proofs.FileLemmas.{looked-files, unchanged, worlds_are_read_as_files}
 use Rattle.mk_answers.specs.OnFiles.{ChangesNone}
 use Rattle.mk_clean.proofs.CleanLemmas.{job_of_node}
+use Rattle.mk_clean.specs.Declared.{IsSource}
 use Rattle.mk_cli.specs.declared.order.Order.{Order}
 use Rattle.mk_cli.specs.declared.order.Print.{Print}
 use Rattle.mk_decision.specs.Decisions.{Work}
@@ -14,7 +15,7 @@ use Rattle.mk_flags.specs.declared.Flags.{Flags}
 use Rattle.mk_graph.specs.declared.Made.{Made}
 use Rattle.mk_headline.proofs.DecideLemmas.{makes-job}
 use Rattle.mk_headline.proofs.PlanLemmas.{job-among}
-use Rattle.mk_headline.specs.Plans.{jobs_from, makes_file}
+use Rattle.mk_headline.specs.Plans.{clean_plan, jobs_from, makes_file}
 use Rattle.mk_makefile.specs.Acts.{acts_of}
 use Rattle.mk_makefile.specs.Questions.{AreAsked, Question, bytes_of, cut, cuts_in, names_of, output_of, time_of}
 use Rattle.mk_makefile.specs.Reading.{reading}
@@ -33,7 +34,7 @@ use Rattle.mk_plan.specs.declared.plan.PlanNode.{PlanNode}
 use Rattle.mk_reader.specs.OnMaps.{Listings}
 use Rattle.mk_reader.specs.Results.{ReadBy}
 use Rattle.mk_run.proofs.TrueRunLemmas.{goes-told, told-at, told-before}
-use Rattle.mk_run.specs.CleanRuns.{bare, clean_files_of}
+use Rattle.mk_run.specs.CleanRuns.{bare, clean_files_of, clean_jobs_of, lines_on}
 use Rattle.mk_run.specs.TrueRuns.{Built, IsTrueOrderRun, build, build_of, built_in, dry}
 use Rattle.mk_scopes.specs.declared.scopes.Env.{Env}
 use Rattle.mk_sound.proofs.RunLemmas.{runs_leave_clean, runs_stay_true}
@@ -45,7 +46,7 @@ use Rattle.mk_trace.specs.Items.{Item}
 use Rattle.mk_trace.specs.Runs.{Tasks}
 use Rattle.mk_trace.specs.TrueBuilds.{LeavesFiles, longer}
 use Rattle.mk_world.specs.Deeds.{Store, changes}
-use Rattle.mk_world.specs.History.{Effect, at_time, files_of, timed_effects}
+use Rattle.mk_world.specs.History.{Effect, at_time, files_of, state_of, timed_effects}
 use Rattle.mk_world.specs.Looks.{OnlyLooks}
 use Rattle.mk_world.specs.Talks.{Meaning, after_doing, does}
 use Rattle.mk_world.specs.declared.history.Happening.{Happening}

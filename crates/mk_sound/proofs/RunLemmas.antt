@@ -145,16 +145,16 @@ module _ (meaning : Meaning) (env : Env) (order : Order) (made : Made) (flags : 
         last
 
     -- and sources stand as they did
-    sources-stand : (tasks : run.Tasks) (items : List Item) (new : History) → Makes work tasks (first_build work) items
-        → Happened meaning items planned_then new → GivesUpLast items
-        → (path : List ℕ)
-        → IsSource (clean_plan work lines) (clean_jobs_of meaning work (bare work.plan (files_of old))) path
+    sources-stand : (tasks : run.Tasks) (items : List Item) (new : History)
+        → Makes run_work tasks (first_build run_work) items → Happened meaning items planned_then new
+        → GivesUpLast items → (path : List ℕ)
+        → IsSource (clean_plan run_work lines) (clean_jobs_of meaning run_work (bare run_work.plan (files_of old))) path
         → files_of new path ≡ files_of old path
     sources-stand tasks items new makes happens last path source =
-        source-behind meaning work lines tasks planned_then lawful idle truth well sound items new makes happens last
-        path
-        (subst (λ (files : Store). IsSource (clean_plan work lines) (clean_jobs_of meaning work (bare work.plan files)) path)
-        (sym start) source)
+        source-behind meaning run_work lines tasks planned_then lawful idle truth well_then sound items new makes happens
+        last path
+        (subst (λ (files : Store). IsSource (clean_plan run_work lines)
+        (clean_jobs_of meaning run_work (bare run_work.plan files)) path) (sym start) source)
         ∙ ap (λ (files : Store). files path) start
 
     -- where all is made, the run is ready
