@@ -1,7 +1,14 @@
 //! What the test tells.
+ghost use Rattle.mk_declared.specs.Present.{PresentJobsAreClean};
 ghost use Rattle.mk_declared.specs.Testing.{TestedJobsAreDeclared};
 
 /// Where the test passes, what the jobs read and change is declared.
 pub fn tested_jobs_are_declared()
     ensures { TestedJobsAreDeclared }
+{}
+
+/// Where each made file stands as its job would leave it on the files that stand, and what these jobs read and change is
+/// declared, the clean build does what they do, and leaves what stands.
+pub fn present_jobs_are_clean()
+    ensures { PresentJobsAreClean }
 {}
