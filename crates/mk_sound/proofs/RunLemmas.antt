@@ -150,11 +150,11 @@ module _ (meaning : Meaning) (env : Env) (order : Order) (made : Made) (flags : 
         → GivesUpLast items → (path : List ℕ)
         → IsSource (clean_plan run_work lines) (clean_jobs_of meaning run_work (bare run_work.plan (files_of old))) path
         → files_of new path ≡ files_of old path
-    sources-stand tasks items new makes happens last path source =
+    sources-stand tasks items new makes happens last path still =
         source-behind meaning run_work lines tasks planned_then lawful idle truth well_then sound items new makes happens
         last path
         (subst (λ (files : Store). IsSource (clean_plan run_work lines)
-        (clean_jobs_of meaning run_work (bare run_work.plan files)) path) (sym start) source)
+        (clean_jobs_of meaning run_work (bare run_work.plan files)) path) (sym start) still)
         ∙ ap (λ (files : Store). files path) start
 
     -- where all is made, the run is ready
