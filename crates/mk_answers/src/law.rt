@@ -13,7 +13,8 @@ pub fn readings_part_at_questions()
     ensures { ReadingsPartAtQuestions }
 {}
 
-/// Where the commands of a reading change no file, the world is read as the files that stand at the beginning.
+/// Where the commands of a reading change no file, the world is read as the files that stand at the beginning, as far as
+/// the reading came.
 pub fn worlds_are_read_as_files()
     ensures { WorldsAreReadAsFiles }
 {}
