@@ -83,7 +83,7 @@ dates-change meaning store listings [] (one ∷ looks) are = (tt, dates-change m
 dates-change meaning store listings (act ∷ acts) looks are =
     (are.0, dates-change meaning store listings acts looks are.1)
 
-same-files : (old new : History) → Same old new → files_of new ≡ files_of old
+pub same-files : (old new : History) → Same old new → files_of new ≡ files_of old
 same-files old new same =
     ap (λ base. contents (after_all (first_state base) new.events).files) same.base
     ∙ ap (λ events. contents (after_all (first_state old.base) events).files) same.events

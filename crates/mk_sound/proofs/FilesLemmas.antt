@@ -3,8 +3,7 @@ use Rattle.std.proofs.Common.{◌≡◌, ◌∙◌, ℕ, ◌<◌, Bool, true, fa
 use Rattle.std.proofs.Common.{inl, inr, refl, sym, ap, subst, append_assoc, arith}
 use Rattle.std.proofs.lemmas.List.{append-nil, append_cancel_left}
 use Rattle.std.specs.List.{AllByRecursion}
-use Rattle.mk_answers.proofs.FileLemmas.{looked-files, unchanged, worlds_are_read_as_files}
-use Rattle.mk_answers.specs.OnFiles.{ChangesNone}
+use Rattle.mk_answers.proofs.FileLemmas.{worlds_are_read_as_files}
 use Rattle.mk_clean.proofs.CleanLemmas.{job_of_node}
 use Rattle.mk_clean.specs.Declared.{IsSource}
 use Rattle.mk_cli.specs.declared.order.Order.{Order}
@@ -16,11 +15,9 @@ use Rattle.mk_graph.specs.declared.Made.{Made}
 use Rattle.mk_headline.proofs.DecideLemmas.{makes-job}
 use Rattle.mk_headline.proofs.PlanLemmas.{job-among}
 use Rattle.mk_headline.specs.Plans.{clean_plan, jobs_from, makes_file}
-use Rattle.mk_makefile.specs.Acts.{acts_of}
-use Rattle.mk_makefile.specs.Questions.{AreAsked, Question, bytes_of, cut, cuts_in, names_of, output_of, time_of}
 use Rattle.mk_makefile.specs.Reading.{reading}
 use Rattle.mk_makefile.specs.declared.fault.ReadFault.{ReadFault}
-use Rattle.mk_meta.specs.TrueHistory.{changed_paths}
+use Rattle.mk_meta.specs.TrueHistory.{IsTrueHistory}
 use Rattle.mk_modes.specs.Building.{Point, point}
 use Rattle.mk_modes.specs.Meaning.{Meant, only, prints, explains, queries, shows, builds, by_mode, by_reading}
 use Rattle.mk_modes.specs.Modes.{Followed, Goes, Held}
@@ -31,102 +28,33 @@ use Rattle.mk_plan.proofs.LookLemmas.{ByLooks-told}
 use Rattle.mk_plan.specs.Plans.{node_at, planned}
 use Rattle.mk_plan.specs.declared.fault.PlanFault.{PlanFault}
 use Rattle.mk_plan.specs.declared.plan.PlanNode.{PlanNode}
-use Rattle.mk_reader.specs.OnMaps.{Listings}
 use Rattle.mk_reader.specs.Results.{ReadBy}
 use Rattle.mk_run.proofs.TrueRunLemmas.{goes-told, told-at, told-before}
 use Rattle.mk_run.specs.CleanRuns.{bare, clean_files_of, clean_jobs_of, lines_on}
-use Rattle.mk_run.specs.TrueRuns.{Built, IsTrueOrderRun, build, build_of, built_in, dry}
+use Rattle.mk_run.specs.TrueRuns.{Built, IsTrueOrderRun, KeptApart, StaysTrue, build, build_of, built_in, dry}
 use Rattle.mk_scopes.specs.declared.scopes.Env.{Env}
+use Rattle.mk_sound.proofs.LeftLemmas.{Left, LeavesUnbuilt, goes-left, looks-leave, questions-left, shows-none}
 use Rattle.mk_sound.proofs.RunLemmas.{runs_leave_clean, runs_stay_true}
 use Rattle.mk_sound.specs.Files.{AreSound, HasBuilt, IsTrueStart, RunsLeaveCleanFiles, RunsMayFollow, SoundFilesMakeSoundRuns}
 use Rattle.mk_sound.specs.Sound.{IsSoundRun, LeavesWhatIsSound}
-use Rattle.mk_trace.proofs.AlongLemmas.{all-append}
+use Rattle.mk_trace.proofs.AlongLemmas.{all-append, same-history}
 use Rattle.mk_trace.specs.Builds.{command_of}
 use Rattle.mk_trace.specs.Items.{Item}
 use Rattle.mk_trace.specs.Runs.{Tasks}
 use Rattle.mk_trace.specs.TrueBuilds.{LeavesFiles, longer}
-use Rattle.mk_world.specs.Deeds.{Store, changes}
-use Rattle.mk_world.specs.History.{Effect, at_time, files_of, state_of, timed_effects}
+use Rattle.mk_world.proofs.LawLemmas.{runs_stay_lawful}
+use Rattle.mk_world.specs.Deeds.{Store}
+use Rattle.mk_world.specs.History.{files_of}
+use Rattle.mk_world.specs.Lawful.{IsLawful}
 use Rattle.mk_world.specs.Looks.{OnlyLooks}
-use Rattle.mk_world.specs.Talks.{Meaning, after_doing, does}
+use Rattle.mk_world.specs.Runs.{Run}
+use Rattle.mk_world.specs.Talks.{Meaning}
 use Rattle.mk_world.specs.declared.history.Happening.{Happening}
-use Rattle.mk_world.specs.declared.history.Happening.TheVariants.{Look, Ask}
+use Rattle.mk_world.specs.declared.history.Happening.TheVariants.{Look}
 use Rattle.mk_world.specs.declared.history.History.{History}
-use Rattle.mk_world.specs.declared.history.Timed.{Timed}
-use Rattle.mk_world.specs.declared.step.Deed.{Deed}
-use Rattle.mk_world.specs.declared.step.Deed.TheVariants as deed
 
 same-ok : {A E : Type 0} (one other : A) → ◌≡◌ {A = Result A E} (Ok one) (Ok other) → one ≡ other
 same-ok one other is = cc
-
--- What changes no path has no effect.
-
-no-change : (time : ℕ) (one : Deed) (deeds : List Deed) → changed_paths (one ∷ deeds) ≡ []
-    → (at_time time (changes one) ≡ []) × (changed_paths deeds ≡ [])
-no-change time (deed.Read path bytes) deeds none = (refl, none)
-no-change time (deed.Miss path) deeds none = (refl, none)
-no-change time (deed.Write path bytes) deeds none = absurd cc
-no-change time (deed.Delete path) deeds none = absurd cc
-no-change time (deed.Move from to bytes) deeds none = absurd cc
-
-no-effect : (steps : List Timed) → changed_paths (map (λ step. step.deed) steps) ≡ [] → timed_effects steps ≡ []
-no-effect [] none = refl
-no-effect (step ∷ steps) none =
-    let parts = no-change step.time step.deed (map (λ it. it.deed) steps) none in
-    ap (λ (l : List Effect). l ++ timed_effects steps) parts.0 ∙ no-effect steps parts.1
-
--- the events of questions of which none changes a file
-record Left (meaning : Meaning) (store : Store) (old new : History) : Type 0 where
-  events : List Happening
-  longer_is : new.events ≡ old.events ++ events
-  leave : AllByRecursion LeavesFiles events
-  files : files_of new ≡ store
-
-left-then : (meaning : Meaning) (store : Store) (old mid new : History) (event : Happening)
-    → mid.events ≡ old.events ++ event ∷ [] → LeavesFiles event → Left meaning store mid new
-    → Left meaning store old new
-left-then meaning store old mid new event is leaves rest = record {
-  events = event ∷ rest.events;
-  longer_is = rest.longer_is
-      ∙ (ap (λ (l : List Happening). l ++ rest.events) is ∙ append_assoc old.events (event ∷ []) rest.events);
-  leave = (leaves, rest.leave);
-  files = rest.files;
-}
-
-questions-left : (meaning : Meaning) (store : Store) (listings : Listings) (questions : List Question)
-    (old new : History) → files_of old ≡ store → AreAsked meaning questions old new → cuts_in questions ≡ []
-    → AllByRecursion (ChangesNone meaning store listings) (acts_of questions) → Left meaning store old new
-questions-left meaning store listings [] old new is asked none change = record {
-  events = [];
-  longer_is = ap (λ (h : History). h.events) asked ∙ sym (append-nil old.events);
-  leave = tt;
-  files = ap files_of asked ∙ is;
-}
-questions-left meaning store listings (bytes_of path found ∷ more) old new is asked none change =
-    left-then meaning store old asked.0 new (Look path) asked.1.event tt
-    (questions-left meaning store listings more asked.0 new
-    (looked-files old asked.0 path asked.1.base asked.1.event ∙ is) asked.2 none change.1)
-questions-left meaning store listings (time_of path when ∷ more) old new is asked none change =
-    left-then meaning store old asked.0 new (Look path) asked.1.event tt
-    (questions-left meaning store listings more asked.0 new
-    (looked-files old asked.0 path asked.1.base asked.1.event ∙ is) asked.2 none change.1)
-questions-left meaning store listings (names_of dir names ∷ more) old new is asked none change =
-    left-then meaning store old asked.0 new (Look dir) asked.1.event tt
-    (questions-left meaning store listings more asked.0 new
-    (looked-files old asked.0 dir asked.1.base asked.1.event ∙ is) asked.2 none change.1)
-questions-left meaning store listings (output_of cmd ended ∷ more) old new is asked none change =
-    left-then meaning store old asked.0 new (Ask cmd asked.1.ran.steps) asked.1.ran.event
-    (no-effect asked.1.ran.steps
-    (ap changed_paths asked.1.ran.lawful.1
-    ∙ (ap (λ files. changed_paths (does meaning cmd files).deeds) is ∙ change.0)))
-    (questions-left meaning store listings more asked.0 new
-    (asked.1.ran.files ∙ (ap (after_doing meaning cmd) is ∙ unchanged store (does meaning cmd store).deeds change.0))
-    asked.2 none change.1)
-questions-left meaning store listings (cut cmd ∷ more) old new is asked none change = absurd cc
-
-looks-leave : (paths : List (List ℕ)) → AllByRecursion LeavesFiles (map (λ path. Look path) paths)
-looks-leave [] = tt
-looks-leave (path ∷ paths) = (tt, looks-leave paths)
 
 -- what is meant by a build
 
@@ -256,16 +184,24 @@ module _ (meaning : Meaning) (env : Env) (order : Order) (old : History) (start 
                 (all-append LeavesFiles known.1.events (map (λ path. Look path) looked.0.looks) known.1.leave
                 (looks-leave looked.0.looks))
 
+    -- a reading changes no file, whatever it gave
+    reads-left : (read_then : History) (held held_after : Option (List ℕ)) (read : Result Made ReadFault)
+        → ReadBy meaning (Some old) (Some read_then) held held_after read (λ answers. reading answers env order)
+        → Left meaning (files_of old) old read_then
+    reads-left read_then held held_after read reads =
+        questions-left meaning (files_of old) sound.listings reads.questions old read_then refl reads.asked
+        (worlds_are_read_as_files meaning old read_then held held_after read env order sound.listings sound.asks
+        reads).1
+
     -- the reading of a run is that of these files
     reads-sound : (read_then : History) (held held_after : Option (List ℕ)) (made : Made)
         → ReadBy meaning (Some old) (Some read_then) held held_after (Ok made) (λ answers. reading answers env order)
         → (made ≡ sound.made) × Left meaning (files_of old) old read_then
     reads-sound read_then held held_after made reads =
-        let known = worlds_are_read_as_files meaning old read_then held held_after made env order sound.listings
+        let known = worlds_are_read_as_files meaning old read_then held held_after (Ok made) env order sound.listings
         sound.asks reads in (
-          same-ok {E = ReadFault} made sound.made (sym known.0 ∙ sound.read),
-          questions-left meaning (files_of old) sound.listings reads.questions old read_then refl reads.asked
-              reads.whole known.1,
+          same-ok {E = ReadFault} made sound.made (sym known.0.0 ∙ sound.read),
+          reads-left read_then held held_after (Ok made) reads,
         )
 
     follows-sound : (first last : Point) (err : Held) (went : Went) (new : History) → first.history ≡ Some old
@@ -290,6 +226,31 @@ module _ (meaning : Meaning) (env : Env) (order : Order) (old : History) (start 
             (subst (λ before. ReadBy meaning before follows.read_at err.before err.after follows.read
             (λ answers. reading answers env order)) at follows.reads))))
             (by_reading order follows.read) refl (point follows.read_at first.out) last went new here is follows.goes
+
+    -- a run that comes to no build changes no file
+    follows-left : (first last : Point) (err : Held) (went : Went) (new : History) → first.history ≡ Some old
+        → last.history ≡ Some new → order.flags.dry ≡ false
+        → (follows : Followed meaning env order first last err went)
+        → LeavesUnbuilt meaning (files_of old) old new
+        (built_in meaning (by_reading order follows.read) (point follows.read_at first.out) last went follows.goes)
+    follows-left first last err went new at is none follows = read_from follows.read_at refl
+      where
+        read_from : (read_at : Option History) → follows.read_at ≡ read_at
+            → LeavesUnbuilt meaning (files_of old) old new
+            (built_in meaning (by_reading order follows.read) (point follows.read_at first.out) last went
+            follows.goes)
+        read_from None here =
+            absurd (goes-told meaning (by_reading order follows.read) (point follows.read_at first.out) last went new
+            here is follows.goes)
+        read_from (Some read_then) here =
+            goes-left meaning (files_of old) old (by_reading order follows.read) (point follows.read_at first.out) last
+            went read_then new
+            (reads-left read_then err.before err.after follows.read
+            (subst (λ read_at. ReadBy meaning (Some old) read_at err.before err.after follows.read
+            (λ answers. reading answers env order)) here
+            (subst (λ before. ReadBy meaning before follows.read_at err.before err.after follows.read
+            (λ answers. reading answers env order)) at follows.reads)))
+            here is (λ made flags. shows-none order follows.read made flags none) follows.goes
 
 pub sound_files_make_sound_runs : SoundFilesMakeSoundRuns
 sound_files_make_sound_runs meaning words env order first last err report run old new planned_at work tasks items at is
@@ -337,8 +298,8 @@ runs_leave_files meaning words env order first last err report run old new at is
         (subst (λ it. IsSoundRun meaning env order planned_at it sound.lines old) its.0 its.1) node makes
 
 pub runs_may_follow : RunsMayFollow
-runs_may_follow meaning words env order first last err report run old new at is has start sound idle =
-    by (build_of run.run) refl has
+runs_may_follow meaning words env order first last err report run old new at is none start sound idle =
+    by (build_of run.run) refl
   where
     Follows : Work → Type 0
     Follows work = IsTrueStart meaning new
@@ -346,12 +307,42 @@ runs_may_follow meaning words env order first last err report run old new at is 
         → IsSource (clean_plan work sound.lines) (clean_jobs_of meaning work (bare work.plan (files_of old))) path
         → files_of new path ≡ files_of old path)
 
-    by : (b : Option Built) → build_of run.run ≡ b → HasBuilt b → Follows sound.work
-    by None here built = absurd built
-    by (Some (dry planned_at)) here built = absurd built
-    by (Some (build planned_at work tasks items)) here built =
+    happened : Run meaning old new
+    happened = told-at (Run meaning) at is run.happened
+
+    lawful : IsLawful meaning new
+    lawful = runs_stay_lawful meaning old new happened start.lawful
+
+    unbuilt : LeavesUnbuilt meaning (files_of old) old new (build_of run.run)
+    unbuilt = follows-left meaning env order old start sound first last
+        (record { before = err.before; after = run.run.err_at }) run.run.went new at is none run.run.followed
+
+    -- where there is no build, no file was changed
+    left : Left meaning (files_of old) old new → KeptApart (build_of run.run) new → Follows sound.work
+    left files apart = (
+      record {
+        lawful = lawful;
+        idle = idle;
+        truth = subst (IsTrueHistory meaning.next) same
+            (told-at (StaysTrue meaning (build_of run.run)) at is run.meta_files start.lawful start.idle start.truth
+            files.events []
+            (files.longer_is ∙ ap (λ (l : List Happening). old.events ++ l) (sym (append-nil files.events)))
+            files.leave (subst (KeptApart (build_of run.run)) (sym same) apart));
+      },
+      λ path source. ap (λ (files : Store). files path) files.files,
+    )
+      where
+        same : longer old files.events ≡ new
+        same = same-history (longer old files.events) new (sym happened.base) (sym files.longer_is)
+
+    by : (b : Option Built) → build_of run.run ≡ b → Follows sound.work
+    by None here =
+        left (subst (LeavesUnbuilt meaning (files_of old) old new) here unbuilt)
+        (subst (λ b. KeptApart b new) (sym here) tt)
+    by (Some (dry planned_at)) here = absurd (subst (LeavesUnbuilt meaning (files_of old) old new) here unbuilt)
+    by (Some (build planned_at work tasks items)) here =
         let its = sound_files_make_sound_runs meaning words env order first last err report run old new planned_at
         work tasks items at is here start sound in
         let stays = runs_stay_true meaning words env order first last err report run old new planned_at work sound.lines
         tasks items at is here its.1 in
-        subst Follows its.0 (record { lawful = stays.0; idle = idle; truth = stays.1 }, stays.2)
+        subst Follows its.0 (record { lawful = lawful; idle = idle; truth = stays.1 }, stays.2)

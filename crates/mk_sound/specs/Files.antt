@@ -1,7 +1,7 @@
 -- What is asked before a run so that it leaves what the clean build leaves: of the history, that it may have come about
 -- and that meta files tell what happened; and the rest of the makefiles and of the files that stand there, one premise
 -- after the other. Nothing here speaks of what the run will do.
-use Rattle.std.specs.Prelude.{◌≡◌, ℕ, ◌<◌, List, [], Option, Some, None, Ok, true}
+use Rattle.std.specs.Prelude.{◌≡◌, ℕ, ◌<◌, List, [], Option, Some, None, Ok, true, false}
 use Rattle.std.specs.List.{AllByRecursion}
 use Rattle.mk_answers.specs.OnFiles.{ChangesNone}
 use Rattle.mk_clean.specs.Clean.{CleanJob, IsAmong}
@@ -96,13 +96,15 @@ RunsLeaveCleanFiles =
     → files_of new (node_at sound.work.plan node).name
     ≡ clean_files_of meaning sound.work (bare sound.work.plan (files_of old)) (node_at sound.work.plan node).name
 
--- Behind a run from sound files that has come to a build, whatever failed in it and however it ended, the next run begins as
--- it did, once no child runs; and each source, which no job changes and no build leaves, stands as it did.
+-- Behind each run from sound files that is asked for no dry run, whatever failed in it and however it ended, the next run
+-- begins as it did, once no child runs; and each source, which no job changes and no build leaves, stands as it did. It is
+-- the same whether the run has built, printed, explained or asked, whether its plan was refused, and how far its makefiles
+-- were read.
 abbrev pub RunsMayFollow : Type 0
 RunsMayFollow =
     (meaning : Meaning) (words : List (List ℕ)) (env : Env) (order : Order) (first last : Point) (err : Held)
     (report : Report) (run : IsTrueOrderRun meaning words env order first last err report) (old new : History)
-    → first.history ≡ Some old → last.history ≡ Some new → HasBuilt (build_of run.run) → IsTrueStart meaning old
+    → first.history ≡ Some old → last.history ≡ Some new → order.flags.dry ≡ false → IsTrueStart meaning old
     → (sound : AreSound meaning env order (files_of old)) → (state_of new).children ≡ []
     → IsTrueStart meaning new
     × ((path : List ℕ)
