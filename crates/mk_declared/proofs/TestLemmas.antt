@@ -92,7 +92,8 @@ depends-on plan (suc most) node other is =
     depends-by plan most node other (λ source. depends-on plan most source other) found
     (either (other == found.one) (depends plan most found.one other) found.passes)
 
-source-of : (plan : Plan) (all : List CleanJob) (path : List ℕ) → is_source plan all path ≡ true
+-- and a path that passes is a source
+pub source-of : (plan : Plan) (all : List CleanJob) (path : List ℕ) → is_source plan all path ≡ true
     → IsSource plan all path
 source-of plan all path is =
     let parts = both _ (not (plan.is_made path) && not (plan.is_meta path)) is in

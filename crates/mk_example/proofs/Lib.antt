@@ -3,6 +3,7 @@ pub mod ChainLemmas
 pub mod CopyLemmas
 pub mod DoneLemmas
 pub mod PlainLemmas
+pub mod ProgramAgain
 pub mod ProgramLemmas
 pub mod ProgramRows
 pub mod ReadingLemmas

@@ -7,7 +7,7 @@ use Rattle.std.specs.Str.{bytes_eq}
 use Rattle.mk_answers.specs.OnFiles.{ChangesNone}
 use Rattle.mk_bytes.specs.Agrees.{Agrees}
 use Rattle.mk_clean.specs.Clean.{CleanJob, IsAmong}
-use Rattle.mk_clean.specs.Declared.{IsDeclared}
+use Rattle.mk_clean.specs.Declared.{IsDeclared, IsSource}
 use Rattle.mk_cli.specs.declared.order.Order.{Order}
 use Rattle.mk_commands.specs.Meaning.{language}
 use Rattle.mk_declared.proofs.TestLemmas.{tested-declared}
@@ -30,12 +30,12 @@ use Rattle.mk_reader.specs.OnMaps.{reading_on}
 use Rattle.mk_run.proofs.CleanRunLemmas.{done-before}
 use Rattle.mk_run.specs.CleanRuns.{IsPlannedOn, LeavesThem, bare, clean_files_of, clean_jobs_of, task_on}
 use Rattle.mk_run.specs.TrueRuns.{IsTrueOrderRun}
-use Rattle.mk_sound.proofs.FilesLemmas.{runs_leave_files}
+use Rattle.mk_sound.proofs.FilesLemmas.{runs_leave_files, runs_may_follow}
 use Rattle.mk_sound.specs.Files.{AreSound, IsTrueStart}
 use Rattle.mk_sound.specs.Sound.{HasItsTask}
 use Rattle.mk_top.specs.Runs.{Does, Follows}
 use Rattle.mk_world.specs.Deeds.{Spot, Store, put, put_all}
-use Rattle.mk_world.specs.History.{files_of}
+use Rattle.mk_world.specs.History.{files_of, state_of}
 use Rattle.mk_world.specs.declared.history.History.{History}
 use Rattle.mk_example.proofs.DoneLemmas.{done-built, same-ok}
 use Rattle.mk_example.proofs.ProgramRows.{HasTheTask, LooksForNone, by-meta-mode, clean-planned-is, clean-reading-is, files, jobs, jobs-declared, lines, made, nodes, planned-is, prog-is, reading-is, spots, start, tasks-are, work}
@@ -76,7 +76,7 @@ module _ (s : Sources) (all : Store) (has : HasSources s all) where
   starts : start all s ≡ bare nodes all
   starts = ap (bare nodes) stand
 
-  its-jobs : jobs all s ≡ clean_jobs_of language work (bare nodes all)
+  pub its-jobs : jobs all s ≡ clean_jobs_of language work (bare nodes all)
   its-jobs = ap (clean_jobs_of language work) starts
 
   read : reading_on language all (λ dir. None) env order ≡ reading_on language (files all s) (λ dir. None) env order
@@ -140,6 +140,21 @@ of-run s old new out out_after err report may run done =
     (λ given. refl) done) done may.start (sources-sound s (files_of old) may.files) 6 refl
     ∙ subst (λ (f : Store). clean_files_of language work f (codes "prog") ≡ Some (program s))
     (starts s (files_of old) may.files) (prog-is (files_of old) s)
+
+-- the start of the next run, and that each source stands as it did
+abbrev pub Follow : Sources → History → History → Type 0
+Follow s old new = IsTrueStart language new
+    × ((path : List ℕ) → IsSource (clean_plan work lines) (clean_jobs_of language work (bare nodes (files_of old))) path
+    → files_of new path ≡ files_of old path)
+
+pub behind : (s : Sources) (old new : History) (out out_after : Option (List ℕ)) (err : Held) (report : Report)
+    → MayRun s old
+    → IsTrueOrderRun language words env order (point (Some old) out) (point (Some new) out_after) err report
+    → (state_of new).children ≡ [] → Follow s old new
+unfolding sources-sound
+behind s old new out out_after err report may run idle =
+    runs_may_follow language words env order (point (Some old) out) (point (Some new) out_after) err report run old new
+    refl refl refl may.start (sources-sound s (files_of old) may.files) idle
 
 no-memory : (end : End) → end ≡ Done → end ≡ NoMemory → ⊥
 no-memory end is want = cc

@@ -52,7 +52,7 @@ use Rattle.mk_suffix.specs.Chains.{all_extended}
 use Rattle.mk_world.specs.Deeds.{Spot, Store, put_all}
 use Rattle.mk_world.specs.declared.command.TaskLine.{TaskLine}
 use Rattle.mk_clean.specs.Clean.{CleanJob}
-use Rattle.mk_declared.specs.Testing.{is_declared}
+use Rattle.mk_declared.specs.Testing.{is_declared, is_source}
 use Rattle.std.specs.List.{AllByRecursion}
 use Rattle.mk_decision.specs.Decisions.{mode_at}
 use Rattle.mk_oodate.specs.Fresh.{GoesByRecords}
@@ -243,6 +243,12 @@ pub jobs-declared : (others : Store) (s : Sources)
     → is_declared (clean_plan work lines) 8 (jobs others s) ≡ true
 unfolding lines_from text_at parts.joined
 jobs-declared others s = refl
+
+-- no job changes the makefile, a source or `local.h`, and no build leaves them
+pub sources-are : (others : Store) (s : Sources)
+    → AllByRecursion (λ spot. is_source (clean_plan work lines) (jobs others s) spot.path ≡ true) (spots s)
+unfolding lines_from text_at parts.joined
+sources-are others s = (refl, (refl, (refl, (refl, (refl, tt)))))
 
 pub prog-is : (others : Store) (s : Sources)
     → clean_files_of language work (start others s) (codes "prog") ≡ Some (program s)

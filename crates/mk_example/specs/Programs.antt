@@ -78,9 +78,9 @@ new_program s = record {
 abbrev pub NewProgramsMayRun : Type 0
 NewProgramsMayRun = (s : Sources) → MayRun s (new_program s)
 
--- Behind each run, however it ended, another may follow.
-abbrev pub RunsMayFollow : Type 0
-RunsMayFollow =
+-- Behind each run, however it ended, another may follow, once no child runs.
+abbrev pub ProgramRunsMayFollow : Type 0
+ProgramRunsMayFollow =
     (s : Sources) (old new : History) (out out_after : Option (List ℕ)) (err : Held) (report : Report) → MayRun s old
     → IsRun language words env (point (Some old) out) (point (Some new) out_after) err report
     → (state_of new).children ≡ [] → MayRun s new
@@ -106,8 +106,8 @@ abbrev pub with_edit : History → Source → List ℕ → ℕ → History
 with_edit old which bytes time = longer old (Edit (path_of which) (Some bytes) time ∷ [])
 
 -- Where a source is changed, and not earlier than all else was, a run may follow.
-abbrev pub EditsMayFollow : Type 0
-EditsMayFollow =
+abbrev pub ProgramEditsMayFollow : Type 0
+ProgramEditsMayFollow =
     (s : Sources) (which : Source) (bytes : List ℕ) (old : History) (time : ℕ) → MayRun s old
     → (state_of old).clock ≤ time → MayRun (with_source which bytes s) (with_edit old which bytes time)
 

@@ -1,6 +1,6 @@
 //! What runs of the makefile leave.
 ghost use Rattle.mk_example.specs.Copies.{ChangesMayShareATime, CopiedFilesAreSound, CopiesAreRight, CopiesAreRightAgain, EditedWorldsAreReady, NewWorldsAreReady};
-ghost use Rattle.mk_example.specs.Programs.{NewProgramsMayRun, ProgramsAreRight, SourcesAreSound};
+ghost use Rattle.mk_example.specs.Programs.{NewProgramsMayRun, ProgramEditsMayFollow, ProgramRunsMayFollow, ProgramsAreRight, ProgramsAreRightAgain, SourcesAreSound};
 
 /// Each run of the makefile that ends with all made leaves in its target the bytes of its source, and the makefile and the
 /// source as they were: by the contract of `run` and no other.
@@ -47,4 +47,20 @@ pub fn programs_are_right()
 /// A new world in memory that holds them is ready for such a run.
 pub fn new_programs_may_run()
     ensures { NewProgramsMayRun }
+{}
+
+/// Behind each run of it, however it ended, another may follow.
+pub fn program_runs_may_follow()
+    ensures { ProgramRunsMayFollow }
+{}
+
+/// And so it may behind an edit of a source, not earlier than all else was.
+pub fn program_edits_may_follow()
+    ensures { ProgramEditsMayFollow }
+{}
+
+/// A run with whatever end, an edit of a source and a run that ends with all made leave the program of the sources as they
+/// were edited.
+pub fn programs_are_right_again()
+    ensures { ProgramsAreRightAgain }
 {}

@@ -8,6 +8,6 @@ mod law;
 
 pub use law::{
     changes_may_share_a_time, copied_files_are_sound, copies_are_right, copies_are_right_again,
-    edited_worlds_are_ready, new_programs_may_run, new_worlds_are_ready, programs_are_right,
-    sources_are_sound,
+    edited_worlds_are_ready, new_programs_may_run, new_worlds_are_ready, program_edits_may_follow,
+    program_runs_may_follow, programs_are_right, programs_are_right_again, sources_are_sound,
 };
