@@ -1,18 +1,17 @@
 -- What the test of declared jobs tells.
-use Rattle.std.proofs.Common.{◌≡◌, ◌≢◌, ◌⊎◌, inl, inr, ℕ, zero, suc, ◌==◌, ◌&&◌, ◌||◌, Bool, true, false, not, List, [], ◌∷◌, Option, Some, None, refl, sym, ◌∙◌, ap, subst, eqb-true}
-use Rattle.std.proofs.lemmas.Bool.{eqb-false, false≢true}
+use Rattle.std.proofs.Common.{◌≡◌, ◌≢◌, ◌⊎◌, inl, inr, ℕ, zero, suc, ◌==◌, ◌&&◌, ◌||◌, Bool, true, false, not, List, [], ◌∷◌, Option, Some, None, refl, sym, ◌∙◌, subst, eqb-true}
+use Rattle.std.proofs.lemmas.Bool.{false≢true}
 use Rattle.std.specs.List.{list_all, list_any}
 use Rattle.std.specs.Str.{bytes_eq}
 use Rattle.mk_filemon.proofs.PathLemmas.{same_bytes}
 use Rattle.mk_clean.specs.Clean.{AllWell, Changes, CleanJob, DependsOn, IsAmong, IsWell, LeavesIt, Plan, deeds_of, is_changed}
 use Rattle.mk_clean.specs.Clean.DependsOn.{source, through}
-use Rattle.mk_clean.specs.Declared.{IsDeclared, IsMadeBefore, IsOwn, IsPrivate, IsSource, LeavesFile}
-use Rattle.mk_clean.specs.Jobs.{goes_on}
+use Rattle.mk_clean.specs.Declared.{IsMadeBefore, IsOwn, IsPrivate, IsSource, LeavesFile}
 use Rattle.mk_meta.specs.TrueHistory.{changed_paths}
 use Rattle.mk_world.specs.Outer.{nothing_over, outer, over_deeds}
 use Rattle.mk_world.specs.Talks.{Doing}
 use Rattle.mk_world.specs.declared.command.TaskLine.{TaskLine}
-use Rattle.mk_declared.specs.Testing.{TestedJobsAreDeclared, all_well, depends, is_declared, is_declared_job, is_left, is_made_before, is_own, is_private, is_source, leaves_its_file}
+use Rattle.mk_declared.specs.Testing.{TestedJobsAreDeclared, all_well, depends, is_declared_job, is_left, is_made_before, is_own, is_private, is_source, leaves_its_file}
 
 both : (first second : Bool) → (first && second) ≡ true → (first ≡ true) × (second ≡ true)
 both true second is = (refl, is)

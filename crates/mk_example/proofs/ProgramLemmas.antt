@@ -1,5 +1,5 @@
 -- The makefile of a program: that it is sound, and what its runs leave.
-use Rattle.std.proofs.Common.{◌≡◌, ◌∙◌, ℕ, ◌≤◌, List, [], ◌∷◌, Bool, true, false, Option, Some, None, Result, Ok, Err, if◌then◌else◌}
+use Rattle.std.proofs.Common.{◌≡◌, ◌∙◌, ℕ, List, [], ◌∷◌, Bool, true, false, Option, Some, None, Result, Ok, Err, if◌then◌else◌}
 use Rattle.std.proofs.Common.{inl, inr, refl, sym, ap, subst, codes, arith}
 use Rattle.std.proofs.lemmas.Bool.{false≢true}
 use Rattle.std.specs.List.{AllByRecursion}
@@ -25,10 +25,10 @@ use Rattle.mk_modes.specs.Modes.{Held}
 use Rattle.mk_modes.specs.declared.report.End.TheVariants.{Done, NoMemory}
 use Rattle.mk_modes.specs.declared.report.End.{End}
 use Rattle.mk_modes.specs.declared.report.Report.{Report}
-use Rattle.mk_plan.specs.Plans.{node_at, planned}
+use Rattle.mk_plan.specs.Plans.{planned}
 use Rattle.mk_reader.specs.OnMaps.{reading_on}
 use Rattle.mk_run.proofs.CleanRunLemmas.{done-before}
-use Rattle.mk_run.specs.CleanRuns.{IsPlannedOn, LeavesThem, bare, clean_files_of, clean_jobs_of, task_on}
+use Rattle.mk_run.specs.CleanRuns.{LeavesThem, bare, clean_files_of, clean_jobs_of}
 use Rattle.mk_run.specs.TrueRuns.{IsTrueOrderRun}
 use Rattle.mk_sound.proofs.FilesLemmas.{runs_leave_files, runs_may_follow}
 use Rattle.mk_sound.specs.Files.{AreSound, IsTrueStart}

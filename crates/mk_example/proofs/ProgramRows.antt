@@ -1,9 +1,8 @@
 -- The makefile of a program by the definitions: what it says, its plan, its tasks, and its clean build.
 use Rattle.std.specs.Fmt.{digits}
-use Rattle.std.proofs.Common.{◌≡◌, ◌∙◌, ◌==◌, ℕ, zero, suc, List, [], ◌∷◌, ◌++◌, Bool, true, false, Option, Some, None, Result, Ok, Err, if◌then◌else◌}
-use Rattle.std.proofs.Common.{refl, sym, ap, codes, arith}
+use Rattle.std.proofs.Common.{◌≡◌, ◌==◌, ℕ, zero, suc, List, [], ◌∷◌, true, false, Some, None, Ok, if◌then◌else◌}
+use Rattle.std.proofs.Common.{refl, codes}
 use Rattle.std.proofs.lemmas.Bool.{false≢true}
-use Rattle.std.specs.Str.{bytes_eq}
 use Rattle.mk_ast.specs.References.{mods_at, ref_at}
 use Rattle.mk_ast.specs.Rows as rows
 use Rattle.mk_ast.specs.Rows.{is_word, is_left_out_word}
@@ -12,11 +11,9 @@ use Rattle.mk_blocks.specs.Acts.{looked}
 use Rattle.mk_blocks.specs.Blocks.{parse, closed, branches}
 use Rattle.mk_blocks.specs.Meaning.{file_at, meaning, chosen}
 use Rattle.mk_blocks.specs.OpenBlocks.{blocks_checked}
-use Rattle.mk_blocks.specs.Outcomes.{Outcome, followed, ◌>>=◌}
-use Rattle.mk_blocks.specs.Runs.{all_turns, run_at}
+use Rattle.mk_blocks.specs.Runs.{all_turns}
 use Rattle.mk_turns.specs.Turns.{turns_from}
 use Rattle.mk_bytes.specs.Bytes.{newline}
-use Rattle.mk_cli.specs.Orders.{no_order}
 use Rattle.mk_closure.specs.Deciding.{linked}
 use Rattle.mk_closure.specs.Walks.{walked, all_met}
 use Rattle.mk_cond.specs.Conditions.{more_at, inner_at}
@@ -40,8 +37,6 @@ use Rattle.mk_lines.specs.Comment.{before_comment, unescaped}
 use Rattle.mk_lines.specs.Lines.{physical_lines, line_groups, joined}
 use Rattle.mk_makefile.specs.Assignments.{equals_at}
 use Rattle.mk_makefile.specs.Dependencies.{semicolon_from}
-use Rattle.mk_makefile.specs.Orders.{first_moment}
-use Rattle.mk_makefile.specs.Reading.{all_read, run_read, reading}
 use Rattle.mk_commands.specs.Meaning.{language}
 use Rattle.mk_plan.specs.Oodate.{refers}
 use Rattle.mk_plan.specs.Plans.{planned}

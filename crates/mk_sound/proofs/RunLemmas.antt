@@ -2,7 +2,7 @@
 use Rattle.std.proofs.Common.{◌≡◌, ◌⊎◌, ◌∙◌, ℕ, true, List, [], Option, Some, None, Ok, if◌then◌else◌}
 use Rattle.std.proofs.Common.{inl, inr, refl, sym, ap, subst}
 use Rattle.std.specs.List.{AllByRecursion}
-use Rattle.mk_clean.proofs.CleanLemmas.{job_of_node, node_of_job}
+use Rattle.mk_clean.proofs.CleanLemmas.{node_of_job}
 use Rattle.mk_clean.specs.Clean.{CleanJob, DependsOn, source, through, IsAmong, AllWell}
 use Rattle.mk_clean.specs.Declared.{IsDeclared, IsMadeBefore, IsOwn, IsPrivate, IsSource}
 use Rattle.mk_cli.specs.declared.order.Order.{Order}
@@ -14,7 +14,7 @@ use Rattle.mk_graph.specs.declared.Made.{Made}
 use Rattle.mk_headline.proofs.DecideLemmas.{makes-job}
 use Rattle.mk_headline.proofs.EndLemmas.{all-settled}
 use Rattle.mk_headline.proofs.PlanLemmas.{job-among, job-has}
-use Rattle.mk_headline.specs.Plans.{clean_plan, has_job, jobs_from, lines_of, makes_file}
+use Rattle.mk_headline.specs.Plans.{clean_plan, has_job, jobs_from, lines_of}
 use Rattle.mk_headline.specs.Premises.{IsWellMade}
 use Rattle.mk_makefile.specs.Questions.{AreAsked}
 use Rattle.mk_meta.specs.Jobs.{working}
@@ -33,7 +33,7 @@ use Rattle.mk_plan.specs.declared.plan.PlanNode.{PlanNode}
 use Rattle.mk_pool.specs.Pool.{AreDistinct}
 use Rattle.mk_run.proofs.CleanRunLemmas.{asked-files, asked-history, asked-state, done-before, done-build, well-made}
 use Rattle.mk_run.proofs.TrueRunLemmas.{asked-then, goes-told, looks-ask, questions-ask, told-at, told-before}
-use Rattle.mk_run.specs.CleanRuns.{IsReadyRun, bare, clean_files_of, clean_jobs_of, lines_on, task_on}
+use Rattle.mk_run.specs.CleanRuns.{IsReadyRun, bare, clean_jobs_of, lines_on, task_on}
 use Rattle.mk_run.specs.TrueRuns.{Built, IsTrueOrderRun, LeavesClean, build, build_of, built_in, dry}
 use Rattle.mk_scopes.specs.declared.scopes.Env.{Env}
 use Rattle.mk_sound.proofs.WalkLemmas.{have_clean_tasks, source-behind, truth-behind}
