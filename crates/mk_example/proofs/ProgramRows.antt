@@ -58,7 +58,7 @@ use Rattle.mk_looks.specs.Looks.{looks_for_newer}
 use Rattle.mk_plan.specs.Newer.{names_from, task_names}
 use Rattle.mk_run.specs.CleanRuns.{bare, by_files, clean_files_of, clean_jobs_of, task_on}
 use Rattle.mk_example.specs.Copies.{env}
-use Rattle.mk_example.specs.Programs.{Sources, makefile, order, program}
+use Rattle.mk_example.specs.Programs.{Sources, b_command, gen_command, makefile, order, program}
 
 -- the makefile and the sources, and no `local.h`, whatever else stands
 
@@ -115,7 +115,7 @@ made = record {
         name = codes "b.o";
         sources = 6 ∷ [];
         ordered = [];
-        commands = codes "probe opt local.h ; cat b.o b.c opt" ∷ [];
+        commands = b_command ∷ [];
         marks = marked no_marks Target;
       }
       ∷ record { name = codes "a.c"; sources = []; ordered = []; commands = []; marks = no_marks }
@@ -123,7 +123,7 @@ made = record {
         name = codes "gen.h";
         sources = 7 ∷ [];
         ordered = [];
-        commands = codes "copy spec gen.h" ∷ [];
+        commands = gen_command ∷ [];
         marks = marked no_marks Target;
       }
       ∷ record { name = codes "b.c"; sources = []; ordered = []; commands = []; marks = no_marks }
@@ -154,7 +154,7 @@ nodes =
       name = codes "gen.h";
       sources = 1 ∷ [];
       before = 1 ∷ [];
-      commands = codes "copy spec gen.h" ∷ [];
+      commands = gen_command ∷ [];
       implied = [];
       marks = marked no_marks Target;
     }
@@ -171,7 +171,7 @@ nodes =
       name = codes "b.o";
       sources = 4 ∷ [];
       before = 4 ∷ [];
-      commands = codes "probe opt local.h ; cat b.o b.c opt" ∷ [];
+      commands = b_command ∷ [];
       implied = [];
       marks = marked no_marks Target;
     }
@@ -225,9 +225,9 @@ line text = record { text = text; ignore = false; silent = false; always = false
 -- the lines of each node
 abbrev pub lines : ℕ → List TaskLine
 lines node =
-    if node == 2 then line (codes "copy spec gen.h") ∷ []
+    if node == 2 then line gen_command ∷ []
     else if node == 3 then line (codes "cat tmp a.c gen.h") ∷ line (codes "copy tmp a.o") ∷ []
-    else if node == 5 then line (codes "probe opt local.h ; cat b.o b.c opt") ∷ []
+    else if node == 5 then line b_command ∷ []
     else if node == 6 then line (codes "cat prog a.o b.o") ∷ []
     else []
 

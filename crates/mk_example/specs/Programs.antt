@@ -17,11 +17,19 @@ use Rattle.mk_world.specs.declared.history.Happening.TheVariants.{Edit}
 use Rattle.mk_world.specs.declared.history.History.{History}
 use Rattle.mk_example.specs.Copies.{env}
 
+-- how `gen.h` is made
+abbrev pub gen_command : List ℕ
+gen_command = codes "copy spec gen.h"
+
+-- how `b.o` is made: with a note of whether there is a `local.h`, by way of a scratch file
+abbrev pub b_command : List ℕ
+b_command = codes "probe opt local.h ; cat b.o b.c opt"
+
 abbrev pub makefile : List ℕ
 makefile =
     codes ".MAKE.MODE=meta curdirOk=yes missing-meta=yes missing-filemon=yes\nall: prog\n.PHONY: all\n"
     ++ codes "prog: a.o b.o\n\tcat prog a.o b.o\na.o: a.c gen.h\n\tcat tmp a.c gen.h\n\tcopy tmp a.o\n"
-    ++ codes "b.o: b.c\n\tprobe opt local.h ; cat b.o b.c opt\ngen.h: spec\n\tcopy spec gen.h\n"
+    ++ codes "b.o: b.c\n\t" ++ b_command ++ codes "\ngen.h: spec\n\t" ++ gen_command ++ codes "\n"
 
 abbrev pub words : List (List ℕ)
 words = codes "-j" ∷ codes "4" ∷ []
