@@ -1,0 +1,14 @@
+//! What follows where all made files are up to date.
+ghost use Rattle.mk_uptodate.specs.UpToDate.{UpToDateFilesAreSound, UpToDateNodesStand};
+
+/// A made node that is up to date by its meta file stands: its job goes well on the files that stand, and what it leaves
+/// stands.
+pub fn up_to_date_nodes_stand()
+    ensures { UpToDateNodesStand }
+{}
+
+/// Where all made nodes are up to date, and what their jobs read and change on the files that stand is declared, the files
+/// are sound, and the made files are those of the clean build.
+pub fn up_to_date_files_are_sound()
+    ensures { UpToDateFilesAreSound }
+{}
