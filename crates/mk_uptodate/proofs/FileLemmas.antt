@@ -1,12 +1,10 @@
 -- Where all is up to date, the clean build does what the jobs on the files that stand do, with the same tasks.
-use Rattle.std.proofs.Common.{◌≡◌, ◌∙◌, ℕ, zero, suc, Bool, true, false, ◌||◌, List, [], ◌∷◌, map, Option, Some, None, Ok, is_some, slice_get, if◌then◌else◌}
+use Rattle.std.proofs.Common.{◌≡◌, ◌∙◌, ℕ, zero, suc, true, false, ◌||◌, List, [], ◌∷◌, map, Some, None, Ok, is_some, slice_get, if◌then◌else◌}
 use Rattle.std.proofs.Common.{inl, inr, refl, sym, ap, subst}
-use Rattle.mk_clean.proofs.CleanLemmas.{job_of_node, node_of_job, unchanged, untouched}
-use Rattle.mk_clean.specs.Clean.{CleanJob, DependsOn, IsAmong, LeavesIt, Plan, StandsBefore, after_job, clean_build, clean_end, clean_files, clean_jobs, cleared, doings_on, lines_in}
+use Rattle.mk_clean.proofs.CleanLemmas.{job_of_node, node_of_job, unchanged}
+use Rattle.mk_clean.specs.Clean.{CleanJob, DependsOn, IsAmong, LeavesIt, Plan, StandsBefore, after_job, clean_build, clean_files, clean_jobs, cleared, doings_on, lines_in}
 use Rattle.mk_clean.specs.Declared.{AreWellMade, IsDeclared, IsSource}
-use Rattle.mk_cli.specs.declared.order.Order.{Order}
 use Rattle.mk_decision.specs.Decisions.{Work, source_names}
-use Rattle.mk_decision.specs.Makers.{work_on}
 use Rattle.mk_declared.proofs.PresentLemmas.{present-clean}
 use Rattle.mk_declared.specs.Present.{IsPresent, at, present_job, present_jobs}
 use Rattle.mk_headline.proofs.DecideLemmas.{makes-job}
@@ -19,20 +17,16 @@ use Rattle.mk_plan.specs.Newer.{task_names}
 use Rattle.mk_plan.specs.Plans.{node_at}
 use Rattle.mk_plan.specs.Tasks.{Setting, setting_of}
 use Rattle.mk_run.proofs.CleanRunLemmas.{same-jobs, well-made}
-use Rattle.mk_run.specs.CleanRuns.{HasSameTask, bare, by_files, clean_files_of, clean_jobs_of, files_behind, jobs_on, left_by, task_on}
+use Rattle.mk_run.specs.CleanRuns.{HasSameTask, bare, by_files, clean_files_of, clean_jobs_of, jobs_on, left_by, task_on}
 use Rattle.mk_same.proofs.TaskLemmas.{task_names_are_by_answers, tasks_are_by_answers}
-use Rattle.mk_scopes.specs.declared.scopes.Env.{Env}
-use Rattle.mk_sound.specs.Files.{AreSound, IsTrueStart}
 use Rattle.mk_sound.specs.Sound.{HasItsTask}
 use Rattle.mk_trace.specs.Runs.{Tasks}
 use Rattle.mk_uptodate.proofs.NodeLemmas.{up_to_date_nodes_stand}
-use Rattle.mk_uptodate.specs.UpToDate.{AreClean, AreUpToDate, HasPresentTask, UpToDateFilesAreSound, task_in}
+use Rattle.mk_uptodate.specs.UpToDate.{HasPresentTask, UpToDateFilesAreSound, task_in}
 use Rattle.mk_values.specs.Facts.{AnsweredBy}
-use Rattle.mk_values.specs.declared.facts.Asked.{Asked}
 use Rattle.mk_world.specs.Deeds.{Store}
 use Rattle.mk_world.specs.History.{files_of}
 use Rattle.mk_world.specs.Talks.{Meaning}
-use Rattle.mk_world.specs.declared.history.History.{History}
 
 -- lists
 

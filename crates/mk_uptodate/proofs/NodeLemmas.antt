@@ -1,19 +1,18 @@
 -- A node that is up to date stands.
-use Rattle.std.proofs.Common.{◌≡◌, ◌∙◌, ℕ, zero, suc, ◌<◌, List, [], ◌∷◌, ◌++◌, map, Some, None, true}
+use Rattle.std.proofs.Common.{◌≡◌, ◌∙◌, ℕ, zero, suc, List, [], ◌∷◌, ◌++◌, map, Some, true}
 use Rattle.std.proofs.Common.{inl, inr, refl, sym, ap, subst, arith}
 use Rattle.std.specs.List.{AllZip, Contains}
 use Rattle.mk_clean.proofs.CleanLemmas.{among_first, among_last}
 use Rattle.mk_clean.proofs.TestedLemmas.{no_reason_may_keep}
 use Rattle.mk_clean.proofs.WalkLemmas.{left_alone}
 use Rattle.mk_clean.specs.Clean.{IsAmong, Plan}
-use Rattle.mk_clean.specs.Kept.{until, seen_at}
+use Rattle.mk_clean.specs.Kept.{seen_at}
 use Rattle.mk_clean.specs.Tested.{HasTask, WentBy}
 use Rattle.mk_clean.specs.Turns as turn
 use Rattle.mk_clean.specs.Turns.{MayKeep}
 use Rattle.mk_decision.specs.Decisions.{Work, mode_at}
 use Rattle.mk_declared.specs.Present.{Stands}
 use Rattle.mk_filemon.proofs.PathLemmas.{bytes_eq-same}
-use Rattle.mk_filemon.specs.declared.record.Rec.{Rec}
 use Rattle.mk_headline.proofs.DecideLemmas.{makes-job}
 use Rattle.mk_headline.specs.Plans.{clean_plan, lines_of, makes_file}
 use Rattle.mk_headline.specs.Premises.{GoesByMetaMode}
@@ -34,7 +33,6 @@ use Rattle.mk_world.specs.Calls.{when_of}
 use Rattle.mk_world.specs.Deeds.{Store}
 use Rattle.mk_world.specs.History.{State as Stand, MayAll, after, after_all, contents, effects, files_of, first_state, state_of}
 use Rattle.mk_world.specs.Talks.{Meaning, NextOf}
-use Rattle.mk_world.specs.declared.command.Task.{Task}
 use Rattle.mk_world.specs.declared.history.File.{File}
 use Rattle.mk_world.specs.declared.history.Happening.{Happening}
 use Rattle.mk_world.specs.declared.history.Happening.TheVariants.{Stamp, Put}

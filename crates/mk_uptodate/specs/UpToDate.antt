@@ -1,7 +1,7 @@
 -- Whether what is asked before a run holds of the files that stand, by the meta files that stand. Where each made node is
 -- up to date, the files that stand tell what the jobs of the clean build do: so what these read and change, and what their
 -- commands ask, may be looked up in what the jobs do on the files that stand.
-use Rattle.std.specs.Prelude.{◌≡◌, ℕ, ◌<◌, List, [], map, Option, Some, None, Ok, true, false}
+use Rattle.std.specs.Prelude.{◌≡◌, ℕ, ◌<◌, List, [], map, Some, None, Ok, true, false}
 use Rattle.std.specs.List.{AllByRecursion}
 use Rattle.mk_answers.specs.OnFiles.{ChangesNone}
 use Rattle.mk_clean.specs.Clean.{IsAmong}
