@@ -121,7 +121,7 @@ pub record AreUpToDate (meaning : Meaning) (env : Env) (order : Order) (old : Hi
   pub tasks_are : (node : ℕ) → has_job (node_at work.plan node) ≡ true
       → HasPresentTask meaning work lines (files_of old) node
   pub fresh : (node : ℕ) → makes_file (node_at work.plan node) ≡ true → IsUpToDate old work lines node
-  -- What the jobs read and change on the files that stand is declared, as the test of lists of paths tells.
+  -- What the jobs read and change on the files that stand is declared.
   pub declared : IsDeclared (clean_plan work lines)
       (present_jobs meaning (clean_plan work lines) (files_of old))
 
