@@ -2,7 +2,7 @@
 use Rattle.std.proofs.Common.{◌≡◌, ◌≢◌, ◌⊎◌, inl, inr, ℕ, ◌||◌, Bool, true, false, List, [], ◌∷◌, ◌++◌, map, Option, Some, None, refl, sym, ◌∙◌, ap, ap₂, subst, append_assoc, if◌then◌else◌}
 use Rattle.std.proofs.lemmas.Bool.{false≢true}
 use Rattle.std.proofs.lemmas.List.{append-nil}
-use Rattle.mk_clean.proofs.CleanLemmas.{after_over, agree_on, before_among, over_changed, unchanged}
+use Rattle.mk_clean.proofs.CleanLemmas.{after_over, agree_on, among_first, among_last, before_among, over_changed, unchanged}
 use Rattle.mk_clean.proofs.JobLemmas.{job_agree}
 use Rattle.mk_clean.specs.Clean.{AllWell, Changes, CleanJob, DependsOn, IsAmong, IsWell, LeavesIt, Plan, StandsBefore, after_by, clean_build, clean_files, cleared, deeds_of, doings_on, files_by, is_changed, jobs_by, lines_in}
 use Rattle.mk_clean.specs.Declared.{AreWellMade, IsDeclared, IsMadeBefore, IsOwn, IsPrivate, IsSource, LeavesFile}
@@ -12,7 +12,7 @@ use Rattle.mk_world.specs.Outer.{nothing_over, outer, over_deeds}
 use Rattle.mk_world.specs.Talks.{Doing, Meaning}
 use Rattle.mk_declared.specs.Present.{IsPresent, PresentJobsAreClean, Stands, at, present_job, present_jobs}
 
-among-map : {A B : Type 0} (make : A → B) (all : List A) (one : A) → IsAmong one all → IsAmong (make one) (map make all)
+pub among-map : {A B : Type 0} (make : A → B) (all : List A) (one : A) → IsAmong one all → IsAmong (make one) (map make all)
 among-map make [] one among = absurd among
 among-map make (first ∷ more) one (inl is) = inl (ap make is)
 among-map make (first ∷ more) one (inr among) = inr (among-map make more one among)
@@ -139,13 +139,7 @@ module _ (meaning : Meaning) (plan : Plan) (files : Store) (declared : IsDeclare
         inr (before-done done todo node maker (λ twice. once (inr twice)) before)
 
     among-middle : (done todo : List ℕ) (node : ℕ) → IsAmong node (done ++ node ∷ todo)
-    among-middle [] todo node = inl refl
-    among-middle (first ∷ done) todo node = inr (among-middle done todo node)
-
-    among-left : (done todo : List ℕ) (node : ℕ) → IsAmong node done → IsAmong node (done ++ todo)
-    among-left [] todo node among = absurd among
-    among-left (first ∷ done) todo node (inl is) = inl is
-    among-left (first ∷ done) todo node (inr among) = inr (among-left done todo node among)
+    among-middle done todo node = among_last done (node ∷ todo) node (inl refl)
 
     among-last : (done : List ℕ) (last node : ℕ) → IsAmong node (done ++ last ∷ []) → IsAmong node done ⊎ (node ≡ last)
     among-last [] last node (inl is) = inr is
@@ -165,7 +159,7 @@ module _ (meaning : Meaning) (plan : Plan) (files : Store) (declared : IsDeclare
         node-among = subst (IsAmong node) (sym order) (among-middle done todo node)
 
         done-among : (other : ℕ) → IsAmong other done → IsAmong other plan.order
-        done-among other among = subst (IsAmong other) (sym order) (among-left done (node ∷ todo) other among)
+        done-among other among = subst (IsAmong other) (sym order) (among_first done (node ∷ todo) other among)
 
         once : StandsBefore (here node) (here node) all → ⊥
         once twice = well_made.once (here node) (here node) twice refl

@@ -23,7 +23,6 @@ use Rattle.mk_makefile.specs.Acts.{acts_of, asked_in}
 use Rattle.mk_makefile.specs.Questions.{Reading, readings_in}
 use Rattle.mk_makefile.specs.ReadFaults.{Reads}
 use Rattle.mk_makefile.specs.Reading.{reading}
-use Rattle.mk_makefile.specs.declared.fault.ReadFault.TheVariants as read
 use Rattle.mk_makefile.specs.declared.fault.ReadFault.{ReadFault}
 use Rattle.mk_commands.specs.Meaning.{language}
 use Rattle.mk_meta.specs.Texts.{meta_text}
@@ -35,21 +34,19 @@ use Rattle.mk_plan.specs.Oodate.{refers}
 use Rattle.mk_plan.specs.PlanLaws.{plan_names}
 use Rattle.mk_plan.specs.Plans.{node_at, planned}
 use Rattle.mk_plan.specs.Tasks.{lines_from, task_with}
-use Rattle.mk_plan.specs.declared.fault.PlanFault.TheVariants as plan
-use Rattle.mk_plan.specs.declared.fault.PlanFault.{PlanFault}
 use Rattle.mk_plan.specs.declared.plan.PlanNode.{PlanNode}
 use Rattle.mk_pool.specs.Pool.{AreDistinct}
 use Rattle.mk_reader.specs.Results.{Gave, ReadBy}
 use Rattle.mk_run.proofs.CleanRunLemmas.{done-before, done-build}
 use Rattle.mk_run.proofs.TrueRunLemmas.{told-at, told-before}
-use Rattle.mk_modes.specs.Building.{IsBuilt, unbuilt, Point, point}
+use Rattle.mk_modes.specs.Building.{IsBuilt, Point, point}
 use Rattle.mk_run.specs.CleanRuns.{ArePlansAlike, IsReadyRun, LeavesCleanFiles, bare, clean_files_of, clean_jobs_of, HasSameTask, LeavesThem, task_on}
-use Rattle.mk_modes.specs.Ends.{IsOutside, of_plan, of_read}
-use Rattle.mk_modes.specs.Meaning.{Outcome, asked, by_reading, ended}
-use Rattle.mk_modes.specs.Modes.{Followed, Printed, Stands, Goes, Held}
+use Rattle.mk_modes.specs.Ends.{of_plan}
+use Rattle.mk_modes.specs.Meaning.{asked, by_reading}
+use Rattle.mk_modes.specs.Modes.{Followed, Goes, Held}
 use Rattle.mk_run.specs.TrueRuns.{IsTrueOrderRun, LeavesClean, built_in}
 use Rattle.mk_modes.specs.declared.building.Went.{Went}
-use Rattle.mk_modes.specs.declared.report.End.TheVariants.{Done, NoMemory, SinkFault}
+use Rattle.mk_modes.specs.declared.report.End.TheVariants.{Done, NoMemory}
 use Rattle.mk_modes.specs.declared.report.End.{End}
 use Rattle.mk_modes.specs.declared.report.Report.{Report}
 use Rattle.mk_top.specs.Runs.{Does, Follows}
@@ -71,6 +68,7 @@ use Rattle.mk_world.specs.declared.history.Happening.{Happening}
 use Rattle.mk_world.specs.declared.history.History.{History}
 use Rattle.mk_world.specs.declared.step.Deed.TheVariants.{Read, Write}
 use Rattle.mk_example.proofs.AgainLemmas.{LeavesPath, stays-there}
+use Rattle.mk_example.proofs.DoneLemmas.{plan-fault, same-ok, unbuilt-end, unread}
 use Rattle.mk_example.proofs.ReadingLemmas.{IsLooked, IsQuiet, agreeing, agrees, asked-quiet, first-found, found_in, quiet-leaves, quiet-looks}
 use Rattle.mk_example.proofs.RowLemmas.{answers, clean-planned-is, clean-reading-is, planned-differ, planned-is, put-there, reading-first, reading-is, task-is, with_file, files, lines, made, nodes, work}
 use Rattle.mk_headline.proofs.JudgedLemmas.{over-judged}
@@ -245,42 +243,6 @@ ready-run bytes old planned_at tasks ready asks is = record {
 
 -- a run of it, behind its words
 
-not-done : (end : End) → end ≡ Done → IsOutside end → ⊥
-not-done end done (inl failed) = cc
-not-done end done (inr want) = cc
-
-read-fault : (fault : ReadFault) → of_read fault ≡ Done → ⊥
-read-fault (read.NoFile file) is = cc
-read-fault (read.Bad file line what) is = cc
-read-fault (read.Limit kind most) is = cc
-read-fault read.World is = cc
-read-fault read.Sink is = cc
-read-fault read.NoMemory is = cc
-
-plan-fault : (fault : PlanFault) → of_plan fault ≡ Done → ⊥
-plan-fault plan.NoTarget is = cc
-plan-fault (plan.NoRule name) is = cc
-plan-fault (plan.Cycle names) is = cc
-plan-fault (plan.Limit kind most) is = cc
-plan-fault plan.Failed is = cc
-plan-fault plan.NoMemory is = cc
-
--- a run whose makefiles could not be read does not end with all made
-unread : (fault : ReadFault) (out : Held) (end : End) → end ≡ Done → Printed (ended (of_read fault)) out end → ⊥
-unread fault out end done (inl whole) = by whole.stands
-  where
-    by : Stands whole.stood (ended (of_read fault)) → ⊥
-    by (inl same) =
-        read-fault fault (sym (whole.is ∙ ap (λ (one : Outcome). one.end) same) ∙ done)
-    by (inr stopped) = not-done whole.stood.end (sym whole.is ∙ done) stopped.outside
-unread fault out end done (inr cut) = sink-fault end done cut.is
-  where
-    sink-fault : (end : End) → end ≡ Done → end ≡ SinkFault → ⊥
-    sink-fault end done cut = cc
-
-same-ok : {A E : Type 0} (one other : A) → ◌≡◌ {A = Result A E} (Ok one) (Ok other) → one ≡ other
-same-ok one other is = cc
-
 -- what was read is what the makefile says, and nothing but looks happened
 record IsRead (old mid : History) (made_then : Made) : Type 0 where
   made_is : made_then ≡ made
@@ -443,9 +405,6 @@ leaves-copy bytes old mid new first last went made_then ready was at then_is don
             (clean_jobs_of language work (bare built.nodes (files_of old)))
         among = subst (λ s. IsAmong (job (files_of old) bytes) (clean_jobs_of language work s)) starts
             (subst (λ l. IsAmong (job (files_of old) bytes) l) (sym (jobs-are (files_of old) bytes)) (inl refl))
-
-unbuilt-end : (went : Went) (end : End) → went ≡ unbuilt end → went.end ≡ end
-unbuilt-end went end is = ap (λ (one : Went). one.end) is
 
 of-run : (bytes : List ℕ) (old new : History) (out out_after : Option (List ℕ)) (err : Held) (report : Report)
     → IsReady bytes old

@@ -36,7 +36,7 @@ read-fault read.World is = cc
 read-fault read.Sink is = cc
 read-fault read.NoMemory is = cc
 
-plan-fault : (fault : PlanFault) → of_plan fault ≡ Done → ⊥
+pub plan-fault : (fault : PlanFault) → of_plan fault ≡ Done → ⊥
 plan-fault plan.NoTarget is = cc
 plan-fault (plan.NoRule name) is = cc
 plan-fault (plan.Cycle names) is = cc
@@ -45,7 +45,7 @@ plan-fault plan.Failed is = cc
 plan-fault plan.NoMemory is = cc
 
 -- a run whose makefiles could not be read does not end with all made
-unread : (fault : ReadFault) (out : Held) (end : End) → end ≡ Done → Printed (ended (of_read fault)) out end → ⊥
+pub unread : (fault : ReadFault) (out : Held) (end : End) → end ≡ Done → Printed (ended (of_read fault)) out end → ⊥
 unread fault out end done (inl whole) = by whole.stands
   where
     by : Stands whole.stood (ended (of_read fault)) → ⊥
@@ -57,7 +57,7 @@ unread fault out end done (inr cut) = sink-fault end done cut.is
     sink-fault : (end : End) → end ≡ Done → end ≡ SinkFault → ⊥
     sink-fault end done cut = cc
 
-unbuilt-end : (went : Went) (end : End) → went ≡ unbuilt end → went.end ≡ end
+pub unbuilt-end : (went : Went) (end : End) → went ≡ unbuilt end → went.end ≡ end
 unbuilt-end went end is = ap (λ (one : Went). one.end) is
 
 pub done-built : (meaning : Meaning) (words : List (List ℕ)) (env : Env) (order : Order) (first last : Point) (err : Held)

@@ -5,7 +5,7 @@ use Rattle.mk_clean.proofs.CleanLemmas.{job_of_node, node_of_job, unchanged}
 use Rattle.mk_clean.specs.Clean.{CleanJob, DependsOn, IsAmong, LeavesIt, Plan, StandsBefore, after_job, clean_build, clean_files, clean_jobs, cleared, doings_on, lines_in}
 use Rattle.mk_clean.specs.Declared.{AreWellMade, IsDeclared, IsSource}
 use Rattle.mk_decision.specs.Decisions.{Work, source_names}
-use Rattle.mk_declared.proofs.PresentLemmas.{present-clean}
+use Rattle.mk_declared.proofs.PresentLemmas.{among-map, present-clean}
 use Rattle.mk_declared.specs.Present.{IsPresent, at, present_job, present_jobs}
 use Rattle.mk_headline.proofs.DecideLemmas.{makes-job}
 use Rattle.mk_headline.proofs.PlanLemmas.{are-well-made, job-among, job-has}
@@ -29,11 +29,6 @@ use Rattle.mk_world.specs.History.{files_of}
 use Rattle.mk_world.specs.Talks.{Meaning}
 
 -- lists
-
-among-map : {A B : Type 0} (make : A → B) (all : List A) (one : A) → IsAmong one all → IsAmong (make one) (map make all)
-among-map make [] one among = absurd among
-among-map make (first ∷ more) one (inl is) = inl (ap make is)
-among-map make (first ∷ more) one (inr among) = inr (among-map make more one among)
 
 among-place : {A : Type 0} (all : List A) (place : ℕ) (one : A) → slice_get all place ≡ Some one → IsAmong one all
 among-place {A} [] place one is = absurd cc
