@@ -10,17 +10,19 @@ use Rattle.mk_clean.specs.Jobs.{goes_on, job}
 use Rattle.mk_clean.specs.Kept.{until, seen_at, AreLooksAt, KeptTargetsStand}
 use Rattle.mk_filemon.proofs.LookLemmas.{tell_looks}
 use Rattle.mk_filemon.specs.Outer.{counted, ops_of, outer_found, outer_missed}
-use Rattle.mk_filemon.specs.Steps.{EachLook, LookAt, IsToldBy}
+use Rattle.mk_filemon.specs.Steps.{IsToldBy}
 use Rattle.mk_filemon.specs.declared.record.Rec.{Rec}
-use Rattle.mk_meta.specs.Jobs.{command_in, is_empty, numbered, records_from, records_of_job, working}
+use Rattle.mk_meta.specs.Jobs.{command_in, is_empty, numbered, records_from, working}
 use Rattle.mk_meta.specs.Texts.{meta_text}
-use Rattle.mk_meta.specs.TrueHistory.{JobEvent, did, ended, job_events, one_by_one, deeds_of_job, changed_paths, WentWell, ops_of_children, meta_path, IsTrue}
+use Rattle.mk_meta.specs.TrueHistory.{JobEvent, did, ended, job_events, one_by_one, deeds_of_job, changed_paths, AreOfJob, WentWell, meta_path, IsTrue}
 use Rattle.mk_meta.specs.declared.meta.Meta.{Meta}
 use Rattle.mk_oodate.specs.Fresh.{IsOlderThan, Looks, PathsAreFresh, EachSaw, Saw}
-use Rattle.mk_world.specs.Calls.{op_of, when_of}
+use Rattle.mk_world.proofs.RecordLemmas.{exact_records_tell, records_are_joined}
+use Rattle.mk_world.specs.Calls.{when_of}
 use Rattle.mk_world.specs.Deeds.{Spot, changes, saw, Meets}
 use Rattle.mk_world.specs.History.{Filed, FileMap, State, effects, effected_all, contents, after, after_all, first_state, MayAll}
 use Rattle.mk_world.specs.Outer.{Over, nothing_over, over_deed, over_deeds}
+use Rattle.mk_world.specs.Records.{EachLook, LookAt, Tell}
 use Rattle.mk_world.specs.Talks.{Doing, Meaning, NextOf}
 use Rattle.mk_world.specs.declared.command.TaskLine.{TaskLine}
 use Rattle.mk_world.specs.declared.history.File.{File}
@@ -74,41 +76,46 @@ own-run next meta (line ∷ lines) (x ∷ xs) well =
     own-dids x.deeds (ended ∷ one_by_one (map (command_in meta) lines) xs)
     ∙ ap (λ l. x.deeds ++ l) (own-run next meta lines xs well.1)
 
--- the records of a job are the operations of its steps
+-- the records of a job tell of its steps
+
+abbrev EachTells : List (List Op) → List Doing → Type 0
+EachTells = AllZip (λ (ops : List Op) (doing : Doing). Tell ops doing.deeds)
 
 ops-numbered : (number : ℕ) (ops : List Op) → map (λ (one : Rec). one.op) (numbered number ops) ≡ ops
 ops-numbered number [] = refl
 ops-numbered number (one ∷ ops) = ap (λ l. one ∷ l) (ops-numbered number ops)
 
 records-next : (next : NextOf) (meta : Meta) (number : ℕ) (line : TaskLine) (lines : List TaskLine)
-    → ((doings : List Doing) → AllZip (WentWell next meta) (working lines) doings
-    → ops_of (records_from (number + 1) lines (ops_of_children doings))
-    ≡ map op_of (deeds_of_job doings))
-    → (empty : Bool) → is_empty line.text ≡ empty → (doings : List Doing)
-    → AllZip (WentWell next meta) (cond (not empty) (line ∷ working lines) (working lines)) doings
-    → ops_of (records_from number (line ∷ lines) (ops_of_children doings))
-    ≡ map op_of (deeds_of_job doings)
-records-next next meta number line lines rest true is [] well = refl
-records-next next meta number line lines rest true is (x ∷ xs) well = rw is (rest (x ∷ xs) well)
-records-next next meta number line lines rest false is [] well = absurd well
-records-next next meta number line lines rest false is (x ∷ xs) well =
-    let mine = map op_of x.deeds in
-    let more = records_from (number + 1) lines (ops_of_children xs) in
-    let split : ops_of (numbered number mine ++ more) ≡ mine ++ ops_of more =
-    map-append (λ (one : Rec). one.op) (numbered number mine) more
-    ∙ ap (λ l. l ++ ops_of more) (ops-numbered number mine) in
-    rw is (split ∙ (ap (λ l. mine ++ l) (rest xs well.1)
-    ∙ sym (map-append op_of x.deeds (deeds_of_job xs))))
-
-records-of : (next : NextOf) (meta : Meta) (number : ℕ) (lines : List TaskLine) (doings : List Doing)
+    → ((children : List (List Op)) (doings : List Doing) → EachTells children doings
     → AllZip (WentWell next meta) (working lines) doings
-    → ops_of (records_from number lines (ops_of_children doings)) ≡ map op_of (deeds_of_job doings)
-records-of next meta number [] [] well = refl
-records-of next meta number [] (x ∷ xs) well = absurd well
-records-of next meta number (line ∷ lines) doings well =
+    → Tell (ops_of (records_from (number + 1) lines children)) (deeds_of_job doings))
+    → (empty : Bool) → is_empty line.text ≡ empty → (children : List (List Op)) (doings : List Doing)
+    → EachTells children doings
+    → AllZip (WentWell next meta) (cond (not empty) (line ∷ working lines) (working lines)) doings
+    → Tell (ops_of (records_from number (line ∷ lines) children)) (deeds_of_job doings)
+records-next next meta number line lines rest empty is [] (x ∷ xs) tell well = absurd tell
+records-next next meta number line lines rest empty is (ops ∷ children) [] tell well = absurd tell
+records-next next meta number line lines rest empty is [] [] tell well = exact_records_tell []
+records-next next meta number line lines rest true is (ops ∷ children) (x ∷ xs) tell well =
+    rw is (rest (ops ∷ children) (x ∷ xs) tell well)
+records-next next meta number line lines rest false is (ops ∷ children) (x ∷ xs) tell well =
+    let more = records_from (number + 1) lines children in
+    let split : ops_of (numbered number ops ++ more) ≡ ops ++ ops_of more =
+    map-append (λ (one : Rec). one.op) (numbered number ops) more
+    ∙ ap (λ l. l ++ ops_of more) (ops-numbered number ops) in
+    rw (is, split) (records_are_joined ops (ops_of more) x.deeds (deeds_of_job xs) tell.0
+    (rest children xs tell.1 well.1))
+
+records-tell : (next : NextOf) (meta : Meta) (number : ℕ) (lines : List TaskLine)
+    (children : List (List Op)) (doings : List Doing) → EachTells children doings
+    → AllZip (WentWell next meta) (working lines) doings
+    → Tell (ops_of (records_from number lines children)) (deeds_of_job doings)
+records-tell next meta number [] children [] tell well = exact_records_tell []
+records-tell next meta number [] children (x ∷ xs) tell well = absurd well
+records-tell next meta number (line ∷ lines) children doings tell well =
     records-next next meta number line lines
-    (λ more given. records-of next meta (number + 1) lines more given) (is_empty line.text) refl doings
-    well
+    (λ more given. records-tell next meta (number + 1) lines more given) (is_empty line.text) refl
+    children doings tell well
 
 -- what the test saw of the recorded paths is what the job's steps go by
 
@@ -285,18 +292,16 @@ module _ (meaning : Meaning) (base : List File) (meta : Meta) (events : List Hap
       let seen = seen_at base is later in
       let deeds = deeds_of_job is.doings in
       let paths = meta.target ∷ changed_paths deeds in
-      let told : records ≡ records_of_job meta.lines (ops_of_children is.doings) =
-      subst (λ r. IfSome r (λ all. all ≡ records_of_job meta.lines (ops_of_children is.doings))) recorded
-      is.records in
-      let ops : ops_of records ≡ map op_of deeds =
-      ap ops_of told ∙ records-of meaning.next meta 1 meta.lines is.doings is.well in
+      let told : AreOfJob meta.lines is.doings records =
+      subst (λ r. IfSome r (AreOfJob meta.lines is.doings)) recorded is.records in
+      let tell : Tell (ops_of records) deeds =
+      subst (λ r. Tell (ops_of r) deeds) (sym told.all)
+      (records-tell meaning.next meta 1 meta.lines told.children is.doings told.tell is.well) in
       let own : own_deeds (job_events meta.stamp.0 is.during) ≡ deeds =
       ap own_deeds is.commands ∙ own-run meaning.next meta (working meta.lines) is.doings is.well in
       let looked : EachLook (Found seen meta.stamp.0) nothing_over deeds =
-      each-told (IsToldBy (map op_of deeds)) (Found seen meta.stamp.0)
-      (λ path bytes one.
-      found path bytes (subst (λ all. IsToldBy all path bytes) (sym ops) one))
-      nothing_over deeds (tell_looks deeds) in
+      each-told (IsToldBy (ops_of records)) (Found seen meta.stamp.0) found nothing_over deeds
+      (tell_looks (ops_of records) deeds tell) in
       let all = walk meta.stamp.0 paths seen stamped.files is.during (λ path. put_part (later path))
       (λ path. ap (λ files. files path) (sym (now-is (later path))))
       (λ path. after-stamp (later path) (may path)) (right-mid (later meta.target) (may meta.target))

@@ -5,7 +5,7 @@ use Rattle.std.proofs.lemmas.Slice.Eq.{bytes_eq-Decides}
 use Rattle.std.specs.List.{Contains}
 use Rattle.std.specs.Option.{option_map}
 use Rattle.std.specs.Str.{bytes_eq}
-use Rattle.mk_filemon.specs.Steps.{EachLook, LookAt}
+use Rattle.mk_world.specs.Records.{EachLook, LookAt}
 use Rattle.mk_meta.specs.TrueHistory.{JobEvent, begun, did, ended, if_same, job_event, job_events, LeavesAlone, Alone}
 use Rattle.mk_world.specs.Deeds.{Spot, saw, changes, Holds, IsRight, Meets}
 use Rattle.mk_world.specs.History.{Filed, FileMap, Effect, State, effects, at_time, filed, effected, effected_all, contents, last_time, after, after_all, NotEarlier, MayStep, MayAll}

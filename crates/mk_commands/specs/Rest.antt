@@ -1,6 +1,6 @@
 -- What a command does from some moment to its end, as contracts see it.
 use Rattle.std.specs.Prelude.{map, Some}
-use Rattle.mk_world.specs.Calls.{op_of}
+use Rattle.mk_world.specs.Records.{op_of}
 use Rattle.mk_world.specs.Talks.{Doing}
 use Rattle.mk_world.specs.declared.step.Ended.{Ended}
 use Rattle.mk_commands.specs.declared.rest.Rest.{Rest}

@@ -1,7 +1,7 @@
 //! What a command does from here to its end.
 ghost use Rattle.std.specs.Prelude.{◌≡◌, [], ◌∷◌, ◌++◌, map, IfOk, OnOk};
 ghost use Rattle.std.specs.Option.{option_copied};
-ghost use Rattle.mk_world.specs.Calls.{op_of};
+ghost use Rattle.mk_world.specs.Records.{op_of};
 ghost use Rattle.mk_world.specs.Deeds.{Store, after_deed, after_deeds};
 ghost use Rattle.mk_world.specs.History.{contents};
 ghost use Rattle.mk_world.specs.Talks as spec;

@@ -4,136 +4,80 @@ use Rattle.std.proofs.Common.{map, filter, if◌then◌else◌, Option, Some, No
 use Rattle.std.proofs.lemmas.List.Elements.{All-contains, filter_passes}
 use Rattle.std.specs.List.{Contains}
 use Rattle.std.specs.Str.{bytes_eq}
-use Rattle.mk_world.specs.Calls.{op_of}
-use Rattle.mk_world.specs.Deeds.{Spot, saw, changes}
-use Rattle.mk_world.specs.Outer.{Over, over_spot, over_spots, over_deed, over_deeds, nothing_over}
+use Rattle.mk_world.proofs.RecordLemmas.{each-look}
+use Rattle.mk_world.specs.Records.{op_of, finds, misses, alters, is_told, IsToldIn}
+use Rattle.mk_world.specs.Outer.{over_deeds, nothing_over}
 use Rattle.mk_world.specs.declared.step.Deed.{Deed}
-use Rattle.mk_world.specs.declared.step.Deed.TheVariants.{Read, Miss, Write, Delete, Move}
 use Rattle.mk_world.specs.declared.step.Op.{Op}
+use Rattle.mk_world.specs.declared.step.Op.TheVariants as op
 use Rattle.mk_filemon.specs.Outer.{Touched, touches, all_touches, is_found, is_missed, is_written}
 use Rattle.mk_filemon.specs.Outer.{named}
-use Rattle.mk_filemon.specs.Steps.{LookAt, EachLook, IsToldBy, TellLooks, TellWritten, stands_by}
+use Rattle.mk_filemon.specs.Steps.{IsToldBy, TellLooks, TellWritten, stands_by}
 use Rattle.mk_filemon.proofs.EscapeLemmas.{cases}
 use Rattle.mk_filemon.proofs.PathLemmas.{among, among-once, same_bytes, bytes_eq-same, bytes_eq-sym}
 use Rattle.mk_filemon.proofs.StepLemmas.{written_behind}
 
-abbrev Told : Type 1
-Told = List ℕ → Option (List ℕ) → Type 0
-
--- a look that is told one way over some changes is told another way over others
-abbrev Gives : Told → Told → Over → Over → Type 0
-Gives first second over other =
-    (path : List ℕ) → other path ≡ None
-    → (over path ≡ None) × ((bytes : Option (List ℕ)) → first path bytes → second path bytes)
-
-gives-spot : (first second : Told) (over other : Over) (spot : Spot)
-    → Gives first second over other
-    → Gives first second (over_spot over spot) (over_spot other spot)
-gives-spot first second over other spot gives path none =
-    cases (bytes_eq spot.path path)
-    (λ is. let no : Some spot.bytes ≡ None = rw is at none in absurd cc)
-    (λ apart. let free : other path ≡ None = rw apart at none in
-    let both = gives path free in
-    (rw apart both.0, both.1))
-
-gives-spots : (first second : Told) (over other : Over) (spots : List Spot)
-    → Gives first second over other
-    → Gives first second (over_spots over spots) (over_spots other spots)
-gives-spots first second over other [] gives = gives
-gives-spots first second over other (spot ∷ spots) gives =
-    gives-spots first second (over_spot over spot) (over_spot other spot) spots
-    (gives-spot first second over other spot gives)
-
-look-at : (first second : Told) (over other : Over) (spot : Option Spot)
-    → Gives first second over other → LookAt first over spot → LookAt second other spot
-look-at first second over other None gives look = tt
-look-at first second over other (Some spot) gives look =
-    λ none. let both = gives spot.path none in both.1 spot.bytes (look both.0)
-
-each-look : (first second : Told) (over other : Over) (deeds : List Deed)
-    → Gives first second over other → EachLook first over deeds → EachLook second other deeds
-each-look first second over other [] gives each = tt
-each-look first second over other (deed ∷ deeds) gives each = (
-  look-at first second over other (saw deed) gives each.0,
-  each-look first second (over_deed over deed) (over_deed other deed) deeds
-      (gives-spots first second over other (changes deed) gives) each.1,
-)
-
-found-kept : (deed : Deed) (rest : List Touched) (path : List ℕ)
-    → over_deed nothing_over deed path ≡ None → is_found rest path ≡ true
-    → is_found (touches (op_of deed) ++ rest) path ≡ true
-found-kept (Read from bytes) rest path none found =
-    cases (bytes_eq from path) (λ is. rw is refl) (λ apart. rw apart found)
-found-kept (Miss from) rest path none found =
-    cases (bytes_eq from path) (λ is. rw is found) (λ apart. rw apart found)
-found-kept (Write to bytes) rest path none found =
-    cases (bytes_eq to path)
-    (λ is. let no : Some (Some bytes) ≡ None = rw is at none in absurd cc)
-    (λ apart. rw apart found)
-found-kept (Delete to) rest path none found =
-    cases (bytes_eq to path)
-    (λ is. let no : Some None ≡ None = rw is at none in absurd cc)
-    (λ apart. rw apart found)
-found-kept (Move from to bytes) rest path none found =
-    cases (bytes_eq to path)
-    (λ is. let no : Some (Some bytes) ≡ None = rw is at none in absurd cc)
-    (λ apart. cases (bytes_eq from path)
+-- a path that records tell is found or missed by what they touch
+found-told : (records : List Op) (path : List ℕ) → is_told (finds path) (alters path) records ≡ true
+    → is_found (all_touches records) path ≡ true
+found-told [] path told = absurd cc
+found-told (op.Read at ∷ more) path told =
+    cases (bytes_eq at path)
     (λ is. rw is refl)
-    (λ nor. rw nor (rw apart found)))
+    (λ apart. rw apart (found-told more path (rw apart at told)))
+found-told (op.Miss at ∷ more) path told =
+    let rest : is_found (all_touches more) path ≡ true = found-told more path told in
+    cases (bytes_eq at path) (λ is. rw is rest) (λ apart. rw apart rest)
+found-told (op.Write at ∷ more) path told =
+    cases (bytes_eq at path)
+    (λ is. let no : false ≡ true = rw is at told in absurd cc)
+    (λ apart. rw apart (found-told more path (rw apart at told)))
+found-told (op.Delete at ∷ more) path told =
+    cases (bytes_eq at path)
+    (λ is. let no : false ≡ true = rw is at told in absurd cc)
+    (λ apart. rw apart (found-told more path (rw apart at told)))
+found-told (op.Move from to ∷ more) path told =
+    cases (bytes_eq from path)
+    (λ is. rw is refl)
+    (λ nor. cases (bytes_eq to path)
+    (λ is. let no : false ≡ true = rw (nor, is) at told in absurd cc)
+    (λ apart. rw (nor, apart) (found-told more path (rw (nor, apart) at told))))
 
-missed-kept : (deed : Deed) (rest : List Touched) (path : List ℕ)
-    → over_deed nothing_over deed path ≡ None → is_missed rest path ≡ true
-    → is_missed (touches (op_of deed) ++ rest) path ≡ true
-missed-kept (Read from bytes) rest path none missed =
-    cases (bytes_eq from path) (λ is. rw is missed) (λ apart. rw apart missed)
-missed-kept (Miss from) rest path none missed =
-    cases (bytes_eq from path) (λ is. rw is refl) (λ apart. rw apart missed)
-missed-kept (Write to bytes) rest path none missed =
-    cases (bytes_eq to path)
-    (λ is. let no : Some (Some bytes) ≡ None = rw is at none in absurd cc)
-    (λ apart. rw apart missed)
-missed-kept (Delete to) rest path none missed =
-    cases (bytes_eq to path)
-    (λ is. let no : Some None ≡ None = rw is at none in absurd cc)
-    (λ apart. rw apart missed)
-missed-kept (Move from to bytes) rest path none missed =
-    cases (bytes_eq to path)
-    (λ is. let no : Some (Some bytes) ≡ None = rw is at none in absurd cc)
-    (λ apart. cases (bytes_eq from path)
-    (λ is. let rest' : (if bytes_eq to path then Some (Some bytes) else Some None) ≡ None =
-    rw is at none in
-    let no : Some None ≡ None = rw apart at rest' in absurd cc)
-    (λ nor. rw nor (rw apart missed)))
+missed-told : (records : List Op) (path : List ℕ)
+    → is_told (misses path) (alters path) records ≡ true
+    → is_missed (all_touches records) path ≡ true
+missed-told [] path told = absurd cc
+missed-told (op.Read at ∷ more) path told =
+    let rest : is_missed (all_touches more) path ≡ true = missed-told more path told in
+    cases (bytes_eq at path) (λ is. rw is rest) (λ apart. rw apart rest)
+missed-told (op.Miss at ∷ more) path told =
+    cases (bytes_eq at path)
+    (λ is. rw is refl)
+    (λ apart. rw apart (missed-told more path (rw apart at told)))
+missed-told (op.Write at ∷ more) path told =
+    cases (bytes_eq at path)
+    (λ is. let no : false ≡ true = rw is at told in absurd cc)
+    (λ apart. rw apart (missed-told more path (rw apart at told)))
+missed-told (op.Delete at ∷ more) path told =
+    cases (bytes_eq at path)
+    (λ is. let no : false ≡ true = rw is at told in absurd cc)
+    (λ apart. rw apart (missed-told more path (rw apart at told)))
+missed-told (op.Move from to ∷ more) path told =
+    cases (bytes_eq from path)
+    (λ is. let no : false ≡ true = rw is at told in absurd cc)
+    (λ nor. cases (bytes_eq to path)
+    (λ is. let no : false ≡ true = rw (nor, is) at told in absurd cc)
+    (λ apart. rw (nor, apart) (missed-told more path (rw (nor, apart) at told))))
 
 -- what the touches of records say of a look
-abbrev IsSeen : List Touched → Told
+abbrev IsSeen : List Touched → List ℕ → Option (List ℕ) → Type 0
 IsSeen all path (Some bytes) = is_found all path ≡ true
 IsSeen all path None = is_missed all path ≡ true
 
-seen-kept : (deed : Deed) (rest : List Touched) (path : List ℕ)
-    → over_deed nothing_over deed path ≡ None → (bytes : Option (List ℕ))
-    → IsSeen rest path bytes → IsSeen (touches (op_of deed) ++ rest) path bytes
-seen-kept deed rest path none (Some bytes) seen = found-kept deed rest path none seen
-seen-kept deed rest path none None seen = missed-kept deed rest path none seen
-
-first-look : (deed : Deed) (rest : List Touched)
-    → LookAt (IsSeen (touches (op_of deed) ++ rest)) nothing_over (saw deed)
-first-look (Read path bytes) rest = λ none. rw (bytes_eq-same path) refl
-first-look (Miss path) rest = λ none. rw (bytes_eq-same path) refl
-first-look (Write path bytes) rest = tt
-first-look (Delete path) rest = tt
-first-look (Move from to bytes) rest = λ none. rw (bytes_eq-same from) refl
-
-each-seen : (deeds : List Deed)
-    → EachLook (IsSeen (all_touches (map op_of deeds))) nothing_over deeds
-each-seen [] = tt
-each-seen (deed ∷ deeds) =
-    let rest = all_touches (map op_of deeds) in (
-      first-look deed rest,
-      each-look (IsSeen rest) (IsSeen (touches (op_of deed) ++ rest)) nothing_over
-          (over_deed nothing_over deed) deeds
-          (λ path none. (refl, seen-kept deed rest path none)) (each-seen deeds),
-    )
+told-seen : (records : List Op) (path : List ℕ) (bytes : Option (List ℕ)) → IsToldIn records path bytes
+    → IsSeen (all_touches records) path bytes
+told-seen records path (Some bytes) told = found-told records path told
+told-seen records path None told = missed-told records path told
 
 -- a path among others that passes a test is among those that pass it
 passes : (test : List ℕ → Bool) (paths : List (List ℕ)) (path : List ℕ)
@@ -203,9 +147,10 @@ seen-told records path None seen =
     passes (is_missed all) (named all) path (named-touched all path (missed-touched all path seen)) seen
 
 pub tell_looks : TellLooks
-tell_looks deeds =
-    each-look (IsSeen (all_touches (map op_of deeds))) (IsToldBy (map op_of deeds)) nothing_over
-    nothing_over deeds (λ path none. (refl, seen-told (map op_of deeds) path)) (each-seen deeds)
+tell_looks records deeds tell =
+    each-look (IsToldIn records) (IsToldBy records) nothing_over nothing_over deeds
+    (λ path none. (refl, λ bytes told. seen-told records path bytes (told-seen records path bytes told)))
+    tell.looks
 
 pub tell_written : TellWritten
 tell_written deeds path =

@@ -3,7 +3,7 @@ use Rattle.std.proofs.Common.{◌≡◌, ℕ, Bool, true, false, not, ◌||◌, 
 use Rattle.std.proofs.Common.{filter, if◌then◌else◌, Option, Some, None, is_none, refl, sym, ◌∙◌}
 use Rattle.std.proofs.Common.{ap}
 use Rattle.std.specs.Str.{bytes_eq}
-use Rattle.mk_world.specs.Calls.{op_of}
+use Rattle.mk_world.specs.Records.{op_of}
 use Rattle.mk_world.specs.Deeds.{Store, Spot}
 use Rattle.mk_world.specs.Outer.{Over, over_spot, over_deeds, nothing_over, outer_at, outer}
 use Rattle.mk_world.specs.Outer.{AgreeOn, SameDoing}

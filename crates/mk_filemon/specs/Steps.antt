@@ -1,9 +1,9 @@
 -- The records of steps against the steps themselves.
 use Rattle.std.specs.Prelude.{◌≡◌, ◌↔◌, ℕ, Bool, true, false, List, [], ◌∷◌, map, Option, Some, None}
 use Rattle.std.specs.List.{Contains}
-use Rattle.mk_world.specs.Calls.{op_of}
-use Rattle.mk_world.specs.Deeds.{Store, Spot, saw}
-use Rattle.mk_world.specs.Outer.{AgreeOn, Over, nothing_over, outer, over_deed, over_deeds}
+use Rattle.mk_world.specs.Records.{op_of, EachLook, Tell}
+use Rattle.mk_world.specs.Deeds.{Store}
+use Rattle.mk_world.specs.Outer.{AgreeOn, nothing_over, outer, over_deeds}
 use Rattle.mk_world.specs.Talks.{Meaning, does}
 use Rattle.mk_world.specs.declared.command.Cmd.{Cmd}
 use Rattle.mk_world.specs.declared.step.Deed.{Deed}
@@ -28,26 +28,18 @@ TellWritten =
     → Contains (left_written (map op_of deeds)) path
     ↔ (stands_by (over_deeds nothing_over deeds path) ≡ true)
 
--- what is told of a look at a path that the changes so far have left alone
-abbrev pub LookAt : (List ℕ → Option (List ℕ) → Type 0) → Over → Option Spot → Type 0
-LookAt told over None = Unit {0}
-LookAt told over (Some spot) = over spot.path ≡ None → told spot.path spot.bytes
-
--- One step after another: each look at a path that no earlier step has changed is told.
-abbrev pub EachLook : (List ℕ → Option (List ℕ) → Type 0) → Over → List Deed → Type 0
-EachLook told over [] = Unit {0}
-EachLook told over (deed ∷ deeds) =
-    LookAt told over (saw deed) × EachLook told (over_deed over deed) deeds
-
 -- A look that saw a file is told among the paths that are found, one that saw none among those that
 -- are missed.
 abbrev pub IsToldBy : List Op → List ℕ → Option (List ℕ) → Type 0
 IsToldBy records path (Some bytes) = Contains (outer_found records) path
 IsToldBy records path None = Contains (outer_missed records) path
 
--- The records of steps tell each look of the steps at a path that no earlier one of them has changed.
+-- By records that tell of steps each look of the steps at a path that no earlier one of them has changed is
+-- among the outer reads, as it was.
 abbrev pub TellLooks : Type 0
-TellLooks = (deeds : List Deed) → EachLook (IsToldBy (map op_of deeds)) nothing_over deeds
+TellLooks =
+    (records : List Op) (deeds : List Deed) → Tell records deeds
+    → EachLook (IsToldBy records) nothing_over deeds
 
 -- Two maps that agree on the recorded outer reads of a doing on the first give the same doing.
 abbrev pub SameByRecords : Meaning → Type 0

@@ -1,5 +1,6 @@
 -- What `ask` adds to the history.
 use Rattle.std.proofs.Common.{◌≡◌, [], Result, Ok, Err, OnErr, IfOk, inl, refl, sym, ◌∙◌, ap, subst}
+use Rattle.mk_world.proofs.RecordLemmas.{exact_records_tell}
 use Rattle.mk_world.specs.Calls.{AddsEvents, Answers, OwnAsk, OwnUnanswered}
 use Rattle.mk_world.specs.Deeds.{Store}
 use Rattle.mk_world.specs.History.{files_of, state_of}
@@ -61,7 +62,7 @@ answers_as : (doing rest : Doing) (ended : Ended) → rest ≡ doing → ended �
     → Answers doing ended
 answers_as doing rest ended same is =
     subst (Answers doing) (sym (is ∙ ap answer_of same))
-    (record { status = refl; output = refl; records = refl })
+    (record { status = refl; output = refl; records = exact_records_tell doing.deeds })
 
 -- a command was run to its end, and answered with its doing
 pub adds_ask : (old new : History) (cmd : Cmd) (rest : Doing) (ended : Ended)

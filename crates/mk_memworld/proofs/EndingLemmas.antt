@@ -2,6 +2,7 @@
 use Rattle.std.proofs.Common.{◌≡◌, ℕ, suc, zero, ◌+◌, ◌<◌, ◌≤◌, List, [], ◌∷◌, ◌++◌, Option, Some, None, IsSomeAnd, length, map, refl, sym, ◌∙◌, ap, subst, arith, append_assoc, length-append}
 use Rattle.std.proofs.lemmas.List.{append-nil, map-append}
 use Rattle.std.specs.Option.{option_map}
+use Rattle.mk_world.proofs.RecordLemmas.{exact_records_tell}
 use Rattle.mk_world.specs.Calls.{AddsEvents, EndsAs, IsTaken, OwnEnd}
 use Rattle.mk_world.specs.Deeds.{IsRight, Meets, Store, after_deed, changes}
 use Rattle.mk_world.specs.History.{State, May, MayEnd, after, after_all, at_time, child_in, contents, effected_all, last_time, state_of, stepped, tickets_of, timed_effects, without_child}
@@ -350,7 +351,7 @@ taken_if old mid new ticket rest ended (Some child) held adds is events told =
     let taken = taken_as old last new later ended all.held (AddsSteps-then adds all.steps) event
     (ap (λ (e : Ended). e.ticket.0) answered)
     (subst (λ e. EndsAs language e later) (sym answered)
-    (record { over = all.over; records = refl })) in
+    (record { over = all.over; records = exact_records_tell later.deeds })) in
     subst (λ one. Taken old mid new one ended) named (record {
       adds = taken.adds;
       named = taken.named;

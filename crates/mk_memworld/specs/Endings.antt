@@ -1,7 +1,7 @@
 -- How a child is taken in: it does all its remaining steps and ends, and this is told of it.
 use Rattle.std.specs.Prelude.{◌≡◌, ℕ, suc, List, [], ◌∷◌, ◌++◌, map, Option, Some, None}
 use Rattle.std.specs.Option.{option_map}
-use Rattle.mk_world.specs.Calls.{op_of}
+use Rattle.mk_world.specs.Records.{op_of}
 use Rattle.mk_world.specs.History.{State, child_in, contents, state_of}
 use Rattle.mk_world.specs.Talks.{Doing, answer, does_in}
 use Rattle.mk_world.specs.declared.history.Child.{Child}

@@ -4,6 +4,7 @@ use Rattle.mk_meta.specs.Jobs.{meta_of_job}
 use Rattle.mk_meta.specs.Texts.{head, meta_text}
 use Rattle.mk_meta.specs.TrueHistory.{IsTrue, meta_path}
 use Rattle.mk_meta.specs.declared.meta.Meta.{Meta}
+use Rattle.mk_world.proofs.RecordLemmas.{exact_records_tell}
 use Rattle.mk_world.specs.Talks.{NextOf}
 use Rattle.mk_world.specs.declared.command.Cmd.{Cmd}
 use Rattle.mk_world.specs.declared.command.Task.{Task}
@@ -77,7 +78,11 @@ true_of_it = record {
     tt,
   );
   over = refl;
-  records = refl;
+  records = record {
+    children = (op.Write target ∷ []) ∷ [];
+    tell = (exact_records_tell (Write target (codes "x\n") ∷ []), tt);
+    all = refl;
+  };
   alone = (
     inr (λ path among. tt),
     (inl (Write target (codes "x\n"), refl), (inr (λ path among. tt), tt)),

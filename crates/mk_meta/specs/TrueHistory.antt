@@ -2,11 +2,12 @@
 use Rattle.std.specs.Prelude.{◌≡◌, ◌⊎◌, ℕ, ◌==◌, Bool, true, false, List, [], ◌∷◌, ◌++◌}
 use Rattle.std.specs.Prelude.{map, flat_map, codes, Some, IfSome}
 use Rattle.std.specs.List.{AllByRecursion, AllZip, Contains}
+use Rattle.mk_filemon.specs.declared.record.Rec.{Rec}
 use Rattle.mk_meta.specs.Jobs.{command_in, commands_of, records_of_job, working}
 use Rattle.mk_meta.specs.Lawful.{IsLawful}
 use Rattle.mk_meta.specs.Texts.{meta_text}
 use Rattle.mk_meta.specs.declared.meta.Meta.{Meta}
-use Rattle.mk_world.specs.Calls.{op_of}
+use Rattle.mk_world.specs.Records.{op_of, Tell}
 use Rattle.mk_world.specs.Deeds.{changes}
 use Rattle.mk_world.specs.History.{Effect, effects, files_of}
 use Rattle.mk_world.specs.Talks.{Doing, NextOf, Talks}
@@ -81,6 +82,12 @@ pub record WentWell (next : NextOf) (meta : Meta) (line : TaskLine) (doing : Doi
 abbrev pub ops_of_children : List Doing → List (List Op)
 ops_of_children doings = map (λ doing. map op_of doing.deeds) doings
 
+-- These are the records of a job with these lines: what each of its children recorded tells of its steps.
+pub record AreOfJob (lines : List TaskLine) (doings : List Doing) (records : List Rec) : Type 0 where
+  pub children : List (List Op)
+  pub tell : AllZip (λ ops doing. Tell ops doing.deeds) children doings
+  pub all : records ≡ records_of_job lines children
+
 -- the file beside a target that tells of its last job
 abbrev pub meta_path : List ℕ → List ℕ
 meta_path target = target ++ codes ".meta"
@@ -103,9 +110,14 @@ pub record IsTrue (next : NextOf) (meta : Meta) (events : List Happening) : Type
   pub commands : job_events meta.stamp.0 during ≡ one_by_one (commands_of meta) doings
   pub well : AllZip (WentWell next meta) (working meta.lines) doings
   pub over : job_events meta.stamp.0 since ≡ []
-  pub records : IfSome meta.records
-      (λ records. records ≡ records_of_job meta.lines (ops_of_children doings))
+  pub records : IfSome meta.records (AreOfJob meta.lines doings)
   pub alone : Alone meta.stamp.0 (meta.target ∷ changed_paths (deeds_of_job doings)) during
+
+-- The records of a true meta file are exact: those of its job's steps, one for each, in order.
+abbrev pub HasExactRecords : {next : NextOf} {meta : Meta} {events : List Happening} → IsTrue next meta events
+    → Type 0
+HasExactRecords {meta = meta} is =
+    IfSome meta.records (λ records. records ≡ records_of_job meta.lines (ops_of_children is.doings))
 
 -- Each meta file that stands tells what happened.
 abbrev pub IsTrueHistory : NextOf → History → Type 0

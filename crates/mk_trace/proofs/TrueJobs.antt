@@ -5,14 +5,15 @@ use Rattle.std.proofs.lemmas.List.{append-nil, map-append}
 use Rattle.std.specs.List.{AllZip}
 use Rattle.mk_filemon.specs.declared.record.Rec.{Rec}
 use Rattle.mk_meta.specs.Jobs.{is_empty, numbered, records_from, working}
-use Rattle.mk_meta.specs.TrueHistory.{JobEvent, begun, did, ended, one_by_one, ops_of_children}
-use Rattle.mk_world.specs.Calls.{op_of}
+use Rattle.mk_meta.specs.TrueHistory.{JobEvent, begun, did, ended, one_by_one}
+use Rattle.mk_world.specs.Records.{Tell}
 use Rattle.mk_world.specs.Talks.{Doing, NextOf, Talks, answer, deed_at}
 use Rattle.mk_world.specs.declared.command.Cmd.{Cmd}
 use Rattle.mk_world.specs.declared.command.TaskLine.{TaskLine}
 use Rattle.mk_world.specs.declared.history.Child.{Child}
 use Rattle.mk_world.specs.declared.step.Deed.{Deed}
 use Rattle.mk_world.specs.declared.step.Next.TheVariants.{More, Over}
+use Rattle.mk_world.specs.declared.step.Op.{Op}
 use Rattle.mk_world.specs.declared.step.Request.{Request}
 
 -- the child of a line ran to its end, and its status was 0 or does not count
@@ -20,13 +21,19 @@ pub record Went (next : NextOf) (command : TaskLine → Cmd) (line : TaskLine) (
   pub talks : Talks next (command line) [] doing.deeds doing.status doing.output
   pub well : (doing.status ≡ 0) ⊎ (line.ignore ≡ true)
 
+-- what each of some children recorded tells of its steps
+abbrev pub EachTells : List (List Op) → List Doing → Type 0
+EachTells = AllZip (λ (ops : List Op) (doing : Doing). Tell ops doing.deeds)
+
 -- These are the events and the records of the children of these lines, of which the first has this number.
 pub record Ran (next : NextOf) (command : TaskLine → Cmd) (number : ℕ) (lines : List TaskLine)
     (events : List JobEvent) (records : List Rec) : Type 0 where
   pub doings : List Doing
   pub events_are : events ≡ one_by_one (map command (working lines)) doings
   pub well : AllZip (Went next command) (working lines) doings
-  pub records_are : records ≡ records_from number lines (ops_of_children doings)
+  pub children : List (List Op)
+  pub tell : EachTells children doings
+  pub records_are : records ≡ records_from number lines children
 
 drop-suc : (lines : List TaskLine) (place : ℕ) (line : TaskLine) → slice_get lines place ≡ Some line
     → drop place lines ≡ line ∷ drop (suc place) lines
@@ -48,7 +55,14 @@ drop-whole (one ∷ lines) (suc place) least = drop-whole lines place (omega (ar
 
 module _ (next : NextOf) (command : TaskLine → Cmd) where
   ran-none : (number : ℕ) → Ran next command number [] [] []
-  ran-none number = record { doings = []; events_are = refl; well = tt; records_are = refl }
+  ran-none number = record {
+    doings = [];
+    events_are = refl;
+    well = tt;
+    children = [];
+    tell = tt;
+    records_are = refl;
+  }
 
   none-recorded : (number : ℕ) (lines : List TaskLine) → records_from number lines [] ≡ []
   none-recorded number [] = refl
@@ -61,26 +75,31 @@ module _ (next : NextOf) (command : TaskLine → Cmd) where
     doings = ran.doings;
     events_are = rw empty ran.events_are;
     well = rw empty ran.well;
-    records_are = passed ran.doings ran.records_are;
+    children = ran.children;
+    tell = ran.tell;
+    records_are = passed ran.children ran.records_are;
   }
     where
-      passed : (doings : List Doing) → records ≡ records_from (number + 1) lines (ops_of_children doings)
-          → records ≡ records_from number (line ∷ lines) (ops_of_children doings)
+      passed : (children : List (List Op)) → records ≡ records_from (number + 1) lines children
+          → records ≡ records_from number (line ∷ lines) children
       passed [] is = is ∙ none-recorded (number + 1) lines
-      passed (doing ∷ doings) is = rw empty is
+      passed (ops ∷ children) is = rw empty is
 
-  ran-line : (number : ℕ) (line : TaskLine) (lines : List TaskLine) (deeds : List Deed) (status : ℕ)
-      (output : List ℕ) (events : List JobEvent) (records : List Rec) → is_empty line.text ≡ false
+  ran-line : (number : ℕ) (line : TaskLine) (lines : List TaskLine) (deeds : List Deed) (ops : List Op)
+      (status : ℕ) (output : List ℕ) (events : List JobEvent) (records : List Rec)
+      → is_empty line.text ≡ false → Tell ops deeds
       → Talks next (command line) [] deeds status output → (status ≡ 0) ⊎ (line.ignore ≡ true)
       → Ran next command (number + 1) lines events records
       → Ran next command number (line ∷ lines) (begun (command line) ∷ (map did deeds ++ ended ∷ events))
-      (numbered number (map op_of deeds) ++ records)
-  ran-line number line lines deeds status output events records filled talks well ran = record {
+      (numbered number ops ++ records)
+  ran-line number line lines deeds ops status output events records filled tell talks well ran = record {
     doings = record { deeds = deeds; status = status; output = output } ∷ ran.doings;
     events_are = rw filled
         (ap (λ (l : List JobEvent). begun (command line) ∷ (map did deeds ++ ended ∷ l)) ran.events_are);
     well = rw filled (record { talks = talks; well = well }, ran.well);
-    records_are = rw filled (ap (λ l. numbered number (map op_of deeds) ++ l) ran.records_are);
+    children = ops ∷ ran.children;
+    tell = (tell, ran.tell);
+    records_are = rw filled (ap (λ l. numbered number ops ++ l) ran.records_are);
   }
 
   -- Of the lines so many have ended, with these events and records: whatever the others do stands behind
@@ -96,12 +115,13 @@ module _ (next : NextOf) (command : TaskLine → Cmd) where
       (records : List Rec) : Type 0 where
     pub line : TaskLine
     pub line_is : slice_get lines (number - 1) ≡ Some line
-    pub ending : (deeds : List Deed) (status : ℕ) (output : List ℕ) (more : List JobEvent)
-        (others : List Rec) → Talks next child.cmd (map answer child.deeds) deeds status output
+    pub ending : (deeds : List Deed) (ops : List Op) (status : ℕ) (output : List ℕ)
+        (more : List JobEvent) (others : List Rec) → Tell ops (child.deeds ++ deeds)
+        → Talks next child.cmd (map answer child.deeds) deeds status output
         → (status ≡ 0) ⊎ (line.ignore ≡ true)
         → Ran next command (number + 1) (drop number lines) more others
         → Ran next command 1 lines (events ++ (map did deeds ++ ended ∷ more))
-        (records ++ (numbered number (map op_of (child.deeds ++ deeds)) ++ others))
+        (records ++ (numbered number ops ++ others))
 
   pub behind-none : (lines : List TaskLine) → Behind lines 0 [] []
   behind-none lines more others ran = ran
@@ -135,6 +155,8 @@ module _ (next : NextOf) (command : TaskLine → Cmd) where
         doings = given.doings;
         events_are = given.events_are;
         well = given.well;
+        children = given.children;
+        tell = given.tell;
         records_are = given.records_are;
       }
 
@@ -149,17 +171,16 @@ module _ (next : NextOf) (command : TaskLine → Cmd) where
     line_is =
         let same : place ≡ place + 1 - 1 = omega arith in
         subst (λ k. slice_get lines k ≡ Some line) same is;
-    ending = λ deeds status output more others talks well ran.
-        let here = ran-line (place + 1) line (drop (place + 1) lines) deeds status output more others
-        filled talks well ran in
-        subst (λ e. Ran next command 1 lines e
-        (records ++ (numbered (place + 1) (map op_of deeds) ++ others)))
+    ending = λ deeds ops status output more others tell talks well ran.
+        let here = ran-line (place + 1) line (drop (place + 1) lines) deeds ops status output more others
+        filled tell talks well ran in
+        subst (λ e. Ran next command 1 lines e (records ++ (numbered (place + 1) ops ++ others)))
         (sym (append_assoc events (begun (command line) ∷ []) (map did deeds ++ ended ∷ more)))
         (behind (begun (command line) ∷ (map did deeds ++ ended ∷ more))
-        (numbered (place + 1) (map op_of deeds) ++ others)
+        (numbered (place + 1) ops ++ others)
         (subst (λ l. Ran next command (place + 1) l
         (begun (command line) ∷ (map did deeds ++ ended ∷ more))
-        (numbered (place + 1) (map op_of deeds) ++ others)) (sym (drop-next lines place line is)) here));
+        (numbered (place + 1) ops ++ others)) (sym (drop-next lines place line is)) here));
   }
 
   pub within-stepped : (lines : List TaskLine) (number : ℕ) (child : Child) (deed : Deed)
@@ -171,8 +192,9 @@ module _ (next : NextOf) (command : TaskLine → Cmd) where
   within-stepped lines number child deed request stands events records asked done within = record {
     line = within.line;
     line_is = within.line_is;
-    ending = λ deeds status output more others talks well ran.
-        let all = within.ending (deed ∷ deeds) status output more others (
+    ending = λ deeds ops status output more others tell talks well ran.
+        let all = within.ending (deed ∷ deeds) ops status output more others
+        (subst (Tell ops) (append_assoc child.deeds (deed ∷ []) deeds) tell) (
           request,
           stands,
           asked,
@@ -180,29 +202,23 @@ module _ (next : NextOf) (command : TaskLine → Cmd) where
           subst (λ seen. Talks next child.cmd seen deeds status output)
               (map-append answer child.deeds (deed ∷ [])) talks,
         ) well ran in
-        subst (λ e. Ran next command 1 lines e
-        (records ++ (numbered number (map op_of ((child.deeds ++ deed ∷ []) ++ deeds)) ++ others)))
-        (sym (append_assoc events (did deed ∷ []) (map did deeds ++ ended ∷ more)))
-        (subst (λ d. Ran next command 1 lines (events ++ (did deed ∷ (map did deeds ++ ended ∷ more)))
-        (records ++ (numbered number (map op_of d) ++ others)))
-        (sym (append_assoc child.deeds (deed ∷ []) deeds)) all);
+        subst (λ e. Ran next command 1 lines e (records ++ (numbered number ops ++ others)))
+        (sym (append_assoc events (did deed ∷ []) (map did deeds ++ ended ∷ more))) all;
   }
 
-  pub behind-ended : (lines : List TaskLine) (number : ℕ) (child : Child) (status : ℕ)
-      (output : List ℕ) (events : List JobEvent) (records : List Rec)
+  pub behind-ended : (lines : List TaskLine) (number : ℕ) (child : Child) (ops : List Op) (status : ℕ)
+      (output : List ℕ) (events : List JobEvent) (records : List Rec) → Tell ops child.deeds
       → next child.cmd (map answer child.deeds) ≡ Over status output
       → (within : Within lines number child events records)
       → (status ≡ 0) ⊎ (within.line.ignore ≡ true)
-      → Behind lines number (events ++ ended ∷ []) (records ++ numbered number (map op_of child.deeds))
-  behind-ended lines number child status output events records over within well more others ran =
-      let all = within.ending [] status output more others over well ran in
-      subst (λ e. Ran next command 1 lines e
-      ((records ++ numbered number (map op_of child.deeds)) ++ others))
+      → Behind lines number (events ++ ended ∷ []) (records ++ numbered number ops)
+  behind-ended lines number child ops status output events records tell over within well more others ran =
+      let all = within.ending [] ops status output more others
+      (subst (Tell ops) (sym (append-nil child.deeds)) tell) over well ran in
+      subst (λ e. Ran next command 1 lines e ((records ++ numbered number ops) ++ others))
       (sym (append_assoc events (ended ∷ []) more))
       (subst (λ r. Ran next command 1 lines (events ++ ended ∷ more) r)
-      (sym (append_assoc records (numbered number (map op_of child.deeds)) others))
-      (subst (λ d. Ran next command 1 lines (events ++ ended ∷ more)
-      (records ++ (numbered number (map op_of d) ++ others))) (append-nil child.deeds) all))
+      (sym (append_assoc records (numbered number ops) others)) all)
 
   pub ran-whole : (lines : List TaskLine) (number : ℕ) (events : List JobEvent) (records : List Rec)
       → length lines ≤ number → Behind lines number events records

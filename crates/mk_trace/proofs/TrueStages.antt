@@ -10,9 +10,11 @@ use Rattle.mk_plan.specs.Deciding.{is_stopped}
 use Rattle.mk_plan.specs.Plans.{node_at}
 use Rattle.mk_plan.specs.declared.plan.NodeState.TheVariants.{Undecided, Open}
 use Rattle.mk_world.proofs.ChildLemmas.{child_in-last, child_in-stepped}
-use Rattle.mk_world.specs.Calls.{AreRecords, EndsAs, op_of}
+use Rattle.mk_world.proofs.RecordLemmas.{exact_records_tell}
+use Rattle.mk_world.specs.Calls.{EndsAs}
 use Rattle.mk_world.specs.History.{child_in, stepped, IsStep}
 use Rattle.mk_world.specs.Deeds.{Store}
+use Rattle.mk_world.specs.Records.{AreRecords, Tell, op_of}
 use Rattle.mk_world.specs.Talks.{Meaning, NextOf, answer}
 use Rattle.mk_world.specs.declared.command.Cmd.{Cmd}
 use Rattle.mk_world.specs.declared.command.TaskLine.{TaskLine}
@@ -398,16 +400,24 @@ module _ (next : NextOf) (work : Work) (tasks : run.Tasks) where
           (behind-empty_line node first.place first.job.events first.job.records
           (run.line_of (tasks node) number) (ap (slice_get (tasks node)) (sym place)) none first.job.goes)))
 
+  -- what a child recorded, or, where it did not, what its steps are recorded as
+  ops_told : Option (List Op) → List Deed → List Op
+  ops_told None deeds = map op_of deeds
+  ops_told (Some ops) deeds = ops
+
+  told-all : (recorded : Option (List Op)) (deeds : List Deed) → AreRecords recorded deeds
+      → Tell (ops_told recorded deeds) deeds
+  told-all None deeds are = exact_records_tell deeds
+  told-all (Some ops) deeds are = are
+
   -- the child of a line is taken in
   more-recorded : (number : ℕ) (collected : Option (List Rec)) (recorded : Option (List Op))
       (records : List Rec) (deeds : List Deed) → IfSome collected (λ r. r ≡ records)
-      → AreRecords recorded deeds
       → IfSome (more_records number collected recorded)
-      (λ r. r ≡ records ++ numbered number (map op_of deeds))
-  more-recorded number None recorded records deeds was are = tt
-  more-recorded number (Some one) None records deeds was are = tt
-  more-recorded number (Some one) (Some ops) records deeds was are =
-      rw (was, are) refl
+      (λ r. r ≡ records ++ numbered number (ops_told recorded deeds))
+  more-recorded number None recorded records deeds was = tt
+  more-recorded number (Some one) None records deeds was = tt
+  more-recorded number (Some one) (Some ops) records deeds was = rw was refl
 
   pub taken : (meaning : Meaning) (node number owner : ℕ) (one : Ended) (child : Child) (done : List Item)
       (build : Build) (children others : List Child) → next ≡ meaning.next → built done ≡ build
@@ -458,6 +468,7 @@ module _ (next : NextOf) (work : Work) (tasks : run.Tasks) where
           let real : (collected.owner == 0) ≡ false =
           let less = first.later in let same = first.stamp_is in
           ne_eqb collected.owner 0 (λ none. absurd (omega (arith, less, sym same ∙ none))) in
+          let told : List Op = ops_told one.records child.deeds in
           let mine : own_then ≡ record {
             ticket = (build.own node).ticket;
             collected = record {
@@ -467,16 +478,15 @@ module _ (next : NextOf) (work : Work) (tasks : run.Tasks) where
             };
           } = rw (eq-eqb node node refl, real) refl in
           job-more node done (build.own node) own_then _ _ item (ended ∷ [])
-          (first.records ++ numbered number (map op_of child.deeds)) first
+          (first.records ++ numbered number told) first
           (subst (λ b. IsOpenJob b node) (sym at) (inl has.0))
           (ap (λ (o : Own). o.collected.owner) mine)
           (rw (eq-eqb owner first.stamp (owned ∙ first.stamp_is)) refl)
           (subst (λ (o : Own). IfSome o.collected.records
-          (λ r. r ≡ first.records ++ numbered number (map op_of child.deeds))) (sym mine)
-          (more-recorded number collected.records one.records first.records child.deeds first.recorded
-          ends_as.records))
-          (behind-ended next command (tasks node) number child one.status one.output first.events
-          first.records (subst (λ n. n child.cmd (map answer child.deeds) ≡ Over one.status one.output)
+          (λ r. r ≡ first.records ++ numbered number told)) (sym mine)
+          (more-recorded number collected.records one.records first.records child.deeds first.recorded))
+          (behind-ended next command (tasks node) number child told one.status one.output first.events
+          first.records (told-all one.records child.deeds ends_as.records) (subst (λ n. n child.cmd (map answer child.deeds) ≡ Over one.status one.output)
           (sym means) ends_as.over) first.goes
           (went-well (run.line_of (tasks node) number) first.goes.line one.status first.goes.line_is well))
 

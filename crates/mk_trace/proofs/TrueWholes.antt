@@ -11,7 +11,7 @@ use Rattle.mk_meta.proofs.MetaLemmas.{none_begins}
 use Rattle.mk_meta.specs.Jobs.{command_in, commands_of, is_empty, kept_line, numbered, records_from, records_of_job, working}
 use Rattle.mk_meta.specs.Lawful.{IsLawful}
 use Rattle.mk_meta.specs.Texts.{meta_text}
-use Rattle.mk_meta.specs.TrueHistory.{JobEvent, did, ended, job_events, one_by_one, deeds_of_job, changed_paths, Alone, WentWell, ops_of_children, meta_path, IsTrue}
+use Rattle.mk_meta.specs.TrueHistory.{JobEvent, did, ended, job_events, one_by_one, deeds_of_job, changed_paths, Alone, AreOfJob, WentWell, meta_path, IsTrue}
 use Rattle.mk_meta.specs.declared.meta.Meta.{Meta}
 use Rattle.mk_plan.specs.Plans.{node_at}
 use Rattle.mk_world.specs.Sinks.{Begins}
@@ -86,7 +86,7 @@ module _ (next : NextOf) (work : Work) (tasks : run.Tasks) (node : ℕ) (done : 
   same-records : (without : Bool) (collected : Option (List Rec)) → IfSome collected (λ r. r ≡ job.records)
       → (if without then None else collected)
       ≡ option_map (records_of_job (tasks node))
-      (if without then None else option_map (λ r. ops_of_children job.goes.doings) collected)
+      (if without then None else option_map (λ r. job.goes.children) collected)
   same-records true collected are = refl
   same-records false None are = refl
   same-records false (Some one) are = ap Some (are ∙ job.goes.records_are)
@@ -96,7 +96,7 @@ module _ (next : NextOf) (work : Work) (tasks : run.Tasks) (node : ℕ) (done : 
   mine-lawful countable few exports =
       let recorded : Option (List (List Op)) =
       if work.mode.nofilemon then None
-      else option_map (λ r. ops_of_children job.goes.doings) own.collected.records in
+      else option_map (λ r. job.goes.children) own.collected.records in
       subst IsLawful
       (ap (λ (r : Option (List Rec)). record {
         stamp = record { 0 = own.collected.owner };
@@ -140,12 +140,14 @@ module _ (next : NextOf) (work : Work) (tasks : run.Tasks) (node : ℕ) (done : 
 
   records-are : (without : Bool) (collected : Option (List Rec)) → IfSome collected (λ r. r ≡ job.records)
       → IfSome (if without then None else collected)
-      (λ records. records ≡ records_of_job (map kept_line (tasks node)) (ops_of_children job.goes.doings))
+      (AreOfJob (map kept_line (tasks node)) job.goes.doings)
   records-are true collected are = tt
   records-are false None are = tt
-  records-are false (Some one) are =
-      are ∙ (job.goes.records_are
-      ∙ sym (records-kept 1 (tasks node) (ops_of_children job.goes.doings)))
+  records-are false (Some one) are = record {
+    children = job.goes.children;
+    tell = job.goes.tell;
+    all = are ∙ (job.goes.records_are ∙ sym (records-kept 1 (tasks node) job.goes.children));
+  }
 
   regroup : (first before during : List Happening) (stamp put : Happening)
       → (first ++ (before ++ stamp ∷ during)) ++ put ∷ [] ≡ (first ++ before) ++ stamp ∷ (during ++ put ∷ [])

@@ -8,5 +8,6 @@ pub mod LawLemmas
 pub mod ListingLemmas
 pub mod LookLemmas
 pub mod OuterLemmas
+pub mod RecordLemmas
 pub mod SinkLemmas
 pub mod TalkLemmas

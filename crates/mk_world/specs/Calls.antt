@@ -2,6 +2,7 @@
 use Rattle.std.specs.Prelude.{◌≡◌, ◌⊎◌, ℕ, List, [], ◌∷◌, ◌++◌, map, Option, Some, None}
 use Rattle.mk_world.specs.History.{Filed, State, MayAll, after_all, child_in, contents, state_of}
 use Rattle.mk_world.specs.Listings.{Lists}
+use Rattle.mk_world.specs.Records.{AreRecords}
 use Rattle.mk_world.specs.Sinks.{Begins}
 use Rattle.mk_world.specs.Talks.{Meaning, Doing, answer, does}
 use Rattle.mk_world.specs.Told.{Told}
@@ -12,11 +13,8 @@ use Rattle.mk_world.specs.declared.history.Happening.TheVariants.{Look, Stamp, P
 use Rattle.mk_world.specs.declared.history.History.{History}
 use Rattle.mk_world.specs.declared.history.Timed.{Timed}
 use Rattle.mk_world.specs.declared.step.Deed.{Deed}
-use Rattle.mk_world.specs.declared.step.Deed.TheVariants as deed
 use Rattle.mk_world.specs.declared.step.Ended.{Ended}
 use Rattle.mk_world.specs.declared.step.Next.TheVariants.{Over}
-use Rattle.mk_world.specs.declared.step.Op.{Op}
-use Rattle.mk_world.specs.declared.step.Op.TheVariants as op
 use Rattle.mk_world.specs.declared.time.When.{When}
 use Rattle.mk_world.specs.declared.time.When.TheVariants.{Missing, At}
 
@@ -88,19 +86,6 @@ OwnPutPart path bytes = OwnPart (λ part time. Put path part time) bytes
 
 abbrev pub OwnStart : ℕ → ℕ → Cmd → State → List Happening → Type 0
 OwnStart ticket owner cmd state own = own ≡ Start ticket owner cmd ∷ []
-
--- the record of a step
-abbrev pub op_of : Deed → Op
-op_of (deed.Read path bytes) = op.Read path
-op_of (deed.Miss path) = op.Miss path
-op_of (deed.Write path bytes) = op.Write path
-op_of (deed.Delete path) = op.Delete path
-op_of (deed.Move from to bytes) = op.Move from to
-
--- records, where there are any, are those of these steps in order
-abbrev pub AreRecords : Option (List Op) → List Deed → Type 0
-AreRecords None deeds = Unit {0}
-AreRecords (Some records) deeds = records ≡ map op_of deeds
 
 -- a command that was run to its end, with times for its steps
 abbrev pub IsAsk : Cmd → List Happening → Type 0

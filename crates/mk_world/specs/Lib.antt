@@ -8,6 +8,7 @@ pub mod Lawful
 pub mod Listings
 pub mod Looks
 pub mod Outer
+pub mod Records
 pub mod Runs
 pub mod Sinks
 pub mod Talks

@@ -24,7 +24,7 @@ pub use command::{Cmd, Lines, Task, TaskLine};
 pub use fault::{SinkFault, WorldFault};
 pub use history::{Bases, Child, Children, File, Happening, Happenings, History, Timed, Timeds};
 pub use kids::Kids;
-pub use law::{one_listing, runs_stay_lawful, same_doing};
+pub use law::{one_listing, records_may_tell, runs_stay_lawful, same_doing};
 pub use listing::Names;
 pub use progress::Progress;
 pub use shared::SharedPairs;

@@ -1,5 +1,5 @@
 use Rattle.std.proofs.Common.{◌≡◌, ◌++◌, map, take}
-use Rattle.mk_world.specs.Calls.{op_of}
+use Rattle.mk_world.specs.Records.{op_of}
 use Rattle.mk_commands.proofs.rest.add_records.Given as goal
 
 abbrev pub invariant-loop-deed : goal.invariant-loop-deed

@@ -1,6 +1,6 @@
 use Rattle.std.proofs.Common.{◌≡◌, ◌++◌, Some, IsSomeAnd, map, sym, ap, ◌∙◌, subst}
 use Rattle.std.specs.Option.{option_copied}
-use Rattle.mk_world.specs.Calls.{op_of}
+use Rattle.mk_world.specs.Records.{op_of}
 use Rattle.mk_world.specs.History.{child_in, state_of}
 use Rattle.mk_world.specs.declared.history.History.{History}
 use Rattle.mk_commands.specs.Rest.{doing_of}
