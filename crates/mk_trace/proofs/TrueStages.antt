@@ -401,7 +401,7 @@ module _ (next : NextOf) (work : Work) (tasks : run.Tasks) where
           (run.line_of (tasks node) number) (ap (slice_get (tasks node)) (sym place)) none first.job.goes)))
 
   -- what a child recorded, or, where it did not, what its steps are recorded as
-  ops_told : Option (List Op) → List Deed → List Op
+  abbrev ops_told : Option (List Op) → List Deed → List Op
   ops_told None deeds = map op_of deeds
   ops_told (Some ops) deeds = ops
 
