@@ -81,7 +81,7 @@ own-run next meta (line ∷ lines) (x ∷ xs) well =
 abbrev EachTells : List (List Op) → List Doing → Type 0
 EachTells = AllZip (λ (ops : List Op) (doing : Doing). Tell ops doing.deeds)
 
-ops-numbered : (number : ℕ) (ops : List Op) → map (λ (one : Rec). one.op) (numbered number ops) ≡ ops
+pub ops-numbered : (number : ℕ) (ops : List Op) → map (λ (one : Rec). one.op) (numbered number ops) ≡ ops
 ops-numbered number [] = refl
 ops-numbered number (one ∷ ops) = ap (λ l. one ∷ l) (ops-numbered number ops)
 
@@ -119,7 +119,7 @@ records-tell next meta number (line ∷ lines) children doings tell well =
 
 -- what the test saw of the recorded paths is what the job's steps go by
 
-counted-all : (paths : List (List ℕ)) → counted [] paths ≡ paths
+pub counted-all : (paths : List (List ℕ)) → counted [] paths ≡ paths
 counted-all [] = refl
 counted-all (path ∷ paths) = ap (λ l. path ∷ l) (counted-all paths)
 
@@ -134,12 +134,12 @@ each-told one other gives over (deed ∷ deeds) looks =
     at None look = tt
     at (Some spot) look = λ free. gives spot.path spot.bytes (look free)
 
-older-stood : (stamp : Time) (stood : Option Filed) (bytes : List ℕ) (time : When)
+pub older-stood : (stamp : Time) (stood : Option Filed) (bytes : List ℕ) (time : When)
     → time ≡ when_of stood → IsOlderThan stamp time → FoundAt stood stamp.0 (Some bytes)
 older-stood stamp None bytes time is less = subst (IsOlderThan stamp) is less
 older-stood stamp (Some file) bytes time is less = subst (IsOlderThan stamp) is less
 
-missing-stood : (stamp : ℕ) (stood : Option Filed) (time : When) → time ≡ when_of stood
+pub missing-stood : (stamp : ℕ) (stood : Option Filed) (time : When) → time ≡ when_of stood
     → time ≡ when.Missing → FoundAt stood stamp None
 missing-stood stamp None time is missing = tt
 missing-stood stamp (Some file) time is missing =
@@ -278,17 +278,27 @@ module _ (meaning : Meaning) (base : List File) (meta : Meta) (events : List Hap
       ≡ files_after (files_after stamped.files is.during) (put_part rest)
   now-put rest = now-is rest ∙ files_after-append stamped.files is.during (put_part rest)
 
-  pub present : (later : List ℕ → List Happening) (records : List Rec)
+  -- the job's own steps
+  abbrev mine : List Deed
+  mine = own_deeds (job_events meta.stamp.0 is.during)
+
+  mine-are : mine ≡ deeds_of_job is.doings
+  mine-are =
+      ap own_deeds is.commands ∙ own-run meaning.next meta (working meta.lines) is.doings is.well
+
+  -- what the looks saw at each path that the records tell of is as the job found it
+  abbrev FoundAll : (List ℕ → List Happening) → List Rec → Type 0
+  FoundAll later records =
+      (path : List ℕ) (bytes : Option (List ℕ)) → IsToldBy (ops_of records) path bytes
+      → Found (seen_at base is later) meta.stamp.0 path bytes
+
+  walked : (later : List ℕ → List Happening) (records : List Rec)
       → ((path : List ℕ) → MayAll meaning start (until is (later path)))
-      → meta.records ≡ Some records
-      → IsOlderThan (record { 0 = is.time }) (when_of (seen_at base is later meta.target))
-      → ((path : List ℕ) (bytes : Option (List ℕ)) → IsToldBy (ops_of records) path bytes
-      → Found (seen_at base is later) meta.stamp.0 path bytes)
-      → (job meaning (command_in meta) (working meta.lines) (contents (seen_at base is later)) ≡ is.doings)
-      × ((stands : Option (List ℕ))
-      → over_deeds nothing_over (deeds_of_job is.doings) meta.target ≡ Some stands
-      → contents (seen_at base is later) meta.target ≡ stands)
-  present later records may recorded untouched found =
+      → meta.records ≡ Some records → FoundAll later records
+      → Meets (contents (seen_at base is later)) mine
+      × ((path : List ℕ) (stands : Option (List ℕ)) → over_deeds nothing_over mine path ≡ Some stands
+      → contents (files_after stamped.files is.during) path ≡ stands)
+  walked later records may recorded found =
       let seen = seen_at base is later in
       let deeds = deeds_of_job is.doings in
       let paths = meta.target ∷ changed_paths deeds in
@@ -297,31 +307,48 @@ module _ (meaning : Meaning) (base : List File) (meta : Meta) (events : List Hap
       let tell : Tell (ops_of records) deeds =
       subst (λ r. Tell (ops_of r) deeds) (sym told.all)
       (records-tell meaning.next meta 1 meta.lines told.children is.doings told.tell is.well) in
-      let own : own_deeds (job_events meta.stamp.0 is.during) ≡ deeds =
-      ap own_deeds is.commands ∙ own-run meaning.next meta (working meta.lines) is.doings is.well in
       let looked : EachLook (Found seen meta.stamp.0) nothing_over deeds =
       each-told (IsToldBy (ops_of records)) (Found seen meta.stamp.0) found nothing_over deeds
       (tell_looks (ops_of records) deeds tell) in
-      let all = walk meta.stamp.0 paths seen stamped.files is.during (λ path. put_part (later path))
+      walk meta.stamp.0 paths seen stamped.files is.during (λ path. put_part (later path))
       (λ path. ap (λ files. files path) (sym (now-is (later path))))
       (λ path. after-stamp (later path) (may path)) (right-mid (later meta.target) (may meta.target))
       is.alone nothing_over (λ path stands one. absurd (none-over stands one))
       (λ path stands one. absurd (none-over stands one))
-      (subst (Covers paths) (sym own)
+      (subst (Covers paths) (sym mine-are)
       (covers-all paths deeds (λ path has. (suc has.0, omega (arith, has.1), has.2))))
-      (subst (EachLook (Found seen meta.stamp.0) nothing_over) (sym own) looked) in
-      let file = older-some (seen meta.target) (record { 0 = is.time }) untouched in
+      (subst (EachLook (Found seen meta.stamp.0) nothing_over) (sym mine-are) looked)
+
+  pub repeats : (later : List ℕ → List Happening) (records : List Rec)
+      → ((path : List ℕ) → MayAll meaning start (until is (later path)))
+      → meta.records ≡ Some records → FoundAll later records
+      → job meaning (command_in meta) (working meta.lines) (contents (seen_at base is later)) ≡ is.doings
+  repeats later records may recorded found =
+      let seen = contents (seen_at base is later) in
+      job_told meaning (command_in meta) (working meta.lines) seen is.doings
+      (talked meaning.next meta (working meta.lines) is.doings is.well)
+      (subst (Meets seen) mine-are (walked later records may recorded found).0)
+
+  pub present : (later : List ℕ → List Happening) (records : List Rec)
+      → ((path : List ℕ) → MayAll meaning start (until is (later path)))
+      → meta.records ≡ Some records
+      → IsOlderThan (record { 0 = is.time }) (when_of (seen_at base is later meta.target))
+      → FoundAll later records
+      → (job meaning (command_in meta) (working meta.lines) (contents (seen_at base is later)) ≡ is.doings)
+      × ((stands : Option (List ℕ))
+      → over_deeds nothing_over (deeds_of_job is.doings) meta.target ≡ Some stands
+      → contents (seen_at base is later) meta.target ≡ stands)
+  present later records may recorded untouched found =
+      let file = older-some (seen_at base is later meta.target) (record { 0 = is.time }) untouched in
       let stood : files_after stamped.files is.during meta.target ≡ Some file.0 =
       older meta.target file.0 is.time file.2 (files_after stamped.files is.during)
       (put_part (later meta.target)) (after-put (later meta.target) (may meta.target))
       (ap (λ files. files meta.target) (sym (now-put (later meta.target))) ∙ file.1) in (
-        job_told meaning (command_in meta) (working meta.lines) (contents seen) is.doings
-            (talked meaning.next meta (working meta.lines) is.doings is.well)
-            (subst (Meets (contents seen)) own all.0),
+        repeats later records may recorded found,
         λ stands left.
             ap (option_map (λ (one : Filed). one.bytes)) (file.1 ∙ sym stood)
-            ∙ all.1 meta.target stands
-            (subst (λ l. over_deeds nothing_over l meta.target ≡ Some stands) (sym own) left),
+            ∙ (walked later records may recorded found).1 meta.target stands
+            (subst (λ l. over_deeds nothing_over l meta.target ≡ Some stands) (sym mine-are) left),
       )
 
 pub kept_stands : KeptTargetsStand

@@ -2,7 +2,7 @@
 use Rattle.std.proofs.Common.{◌≡◌, ◌∙◌, ℕ, List, [], ◌∷◌, not, Bool, true, false, if◌then◌else◌, Option, Some, refl, sym, ap, ap₂, subst}
 use Rattle.std.specs.List.{AllByRecursion, AllZip}
 use Rattle.mk_clean.proofs.KeptLemmas.{kept_stands, went_on}
-use Rattle.mk_clean.specs.Clean.{AllWell, Plan}
+use Rattle.mk_clean.specs.Clean.{AllWell, Plan, doings_on}
 use Rattle.mk_clean.specs.Jobs.{goes_on, job}
 use Rattle.mk_clean.specs.Kept.{seen_at}
 use Rattle.mk_clean.specs.Tested.{NoReasonMayKeep, HasTask}
@@ -95,6 +95,20 @@ all_well next meta (line ∷ lines) [] well = absurd well
 all_well next meta (line ∷ lines) (doing ∷ doings) well =
     (went_on next meta line doing well.0, all_well next meta lines doings well.1)
 
+-- The job of a task that is as recorded does on the files that looks saw what the recorded job did.
+pub recorded_same : (meaning : Meaning) (meta : Meta) (plan : Plan) (node : ℕ) (task : Task)
+    (files : Store) (doings : List Doing) → HasTask plan node task → task.exports ≡ meta.exports
+    → task.cwd ≡ meta.cwd → AreTheSame task.lines meta.lines
+    → job meaning (command_in meta) (working meta.lines) files ≡ doings
+    → doings_on meaning plan node files ≡ doings
+recorded_same meaning meta plan node task files doings has exports directory lines job_is =
+    ap (λ some. job meaning plan.command some files) has.lines
+    ∙ (job_alike meaning plan.command (command_in meta) (working task.lines) (working meta.lines) files
+    (λ line other same. has.command line
+    ∙ (λ i. record { text = same.text i; cwd = directory i; exports = exports i }))
+    (working_alike task.lines meta.lines has.compared lines)
+    ∙ job_is)
+
 -- By looks that saw each recorded path as the job of a fresh target left it, its node may be kept.
 pub fresh_may_keep : (meaning : Meaning) (base : List File) (meta : Meta) (events : List Happening)
     (is : IsTrue meaning.next meta events) (plan : Plan) (build : Build) (node : ℕ) (task : Task)
@@ -107,21 +121,12 @@ pub fresh_may_keep : (meaning : Meaning) (base : List File) (meta : Meta) (event
     → contents (seen_at base is later) meta.target ≡ stands)
     → MayKeep meaning plan build node
 fresh_may_keep meaning base meta events is plan build node task times has fresh later files_are job_is stands =
-    let seen = contents (seen_at base is later) in
     let alike = working_alike task.lines meta.lines has.compared fresh.lines in
-    let on_seen : doings_seen meaning plan build node
-    ≡ job meaning plan.command (working task.lines) (seen_by build node) =
-    ap (λ lines. job meaning plan.command lines (seen_by build node)) has.lines in
-    let by_meta : job meaning plan.command (working task.lines) (seen_by build node)
-    ≡ job meaning (command_in meta) (working meta.lines) (seen_by build node) =
-    job_alike meaning plan.command (command_in meta) (working task.lines) (working meta.lines)
-    (seen_by build node)
-    (λ line other same. has.command line
-    ∙ (λ i. record { text = same.text i; cwd = fresh.directory i; exports = fresh.exports i })) alike in
-    let files : seen_by build node ≡ seen = λ i path. sym (files_are path) i in
+    let files : seen_by build node ≡ contents (seen_at base is later) = λ i path. sym (files_are path) i in
     let same : doings_seen meaning plan build node ≡ is.doings =
-    on_seen
-    ∙ (by_meta ∙ (ap (job meaning (command_in meta) (working meta.lines)) files ∙ job_is)) in
+    recorded_same meaning meta plan node task (seen_by build node) is.doings has fresh.exports
+    fresh.directory fresh.lines
+    (ap (job meaning (command_in meta) (working meta.lines)) files ∙ job_is) in
     let name : (plan.node node).name ≡ meta.target = has.name ∙ sym fresh.target in
     record {
       well = subst (λ lines. AllWell lines (doings_seen meaning plan build node)) (sym has.lines)

@@ -2,6 +2,7 @@
 ghost use Rattle.mk_clean.specs.Clean.{CleanBuildsForget};
 ghost use Rattle.mk_clean.specs.Jobs.{SameJobs};
 ghost use Rattle.mk_clean.specs.Kept.{KeptTargetsStand};
+ghost use Rattle.mk_clean.specs.Repeated.{ExactRecordsAreOfSteps, RecordedJobsRepeat};
 ghost use Rattle.mk_clean.specs.Same.{BuildsAreClean, StepsAreClean};
 ghost use Rattle.mk_clean.specs.Tested.{NoReasonMayKeep};
 
@@ -28,6 +29,14 @@ pub fn targets_without_a_reason_stand()
 /// the node's path stands there. So the node may be kept.
 pub fn nodes_without_a_reason_may_be_kept()
     ensures { NoReasonMayKeep }
+{}
+
+/// Where a meta file tells what happened, a node's task is as it is recorded there, and what its job found
+/// and missed stands so by the looks, the node's job does on the files that these saw what that job did,
+/// whatever stands at the node's own path. Exact records of it are those of its steps.
+pub fn recorded_jobs_do_the_same()
+    ensures same { RecordedJobsRepeat }
+    ensures exact { ExactRecordsAreOfSteps }
 {}
 
 /// Where what the jobs of a plan read and change is declared, a build of it in which all is settled has

@@ -9,6 +9,7 @@ mod law;
 
 pub use law::{
     clean_builds_forget_what_builds_leave, jobs_with_the_same_reads_are_the_same,
-    nodes_without_a_reason_may_be_kept, settled_builds_have_the_clean_files,
-    steps_are_those_of_the_clean_build, targets_without_a_reason_stand,
+    nodes_without_a_reason_may_be_kept, recorded_jobs_do_the_same,
+    settled_builds_have_the_clean_files, steps_are_those_of_the_clean_build,
+    targets_without_a_reason_stand,
 };
