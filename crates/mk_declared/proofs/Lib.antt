@@ -1,2 +1,3 @@
 pub mod PresentLemmas
+pub mod RecordedLemmas
 pub mod TestLemmas

@@ -18,16 +18,16 @@ among-map make (first ∷ more) one (inl is) = inl (ap make is)
 among-map make (first ∷ more) one (inr among) = inr (among-map make more one among)
 
 -- one of those that are made of others
-record MadeOf {A B : Type 0} (make : A → B) (all : List A) (made : B) : Type 0 where
-  one : A
-  among : IsAmong one all
-  is : make one ≡ made
+pub record MadeOf {A B : Type 0} (make : A → B) (all : List A) (made : B) : Type 0 where
+  pub one : A
+  pub among : IsAmong one all
+  pub is : make one ≡ made
 
 later-made : {A B : Type 0} {make : A → B} {all : List A} {made : B} (first : A) → MadeOf make all made
     → MadeOf make (first ∷ all) made
 later-made first it = record { one = it.one; among = inr it.among; is = it.is }
 
-made-of : {A B : Type 0} (make : A → B) (all : List A) (made : B) → IsAmong made (map make all) → MadeOf make all made
+pub made-of : {A B : Type 0} (make : A → B) (all : List A) (made : B) → IsAmong made (map make all) → MadeOf make all made
 made-of make [] made among = absurd among
 made-of make (first ∷ more) made (inl is) = record { one = first; among = inl refl; is = sym is }
 made-of make (first ∷ more) made (inr among) = later-made first (made-of make more made among)

@@ -6,4 +6,4 @@
 
 mod law;
 
-pub use law::{present_jobs_are_clean, tested_jobs_are_declared};
+pub use law::{present_jobs_are_clean, recorded_jobs_are_declared, tested_jobs_are_declared};

@@ -5,4 +5,4 @@
 
 mod law;
 
-pub use law::{up_to_date_files_are_sound, up_to_date_nodes_stand};
+pub use law::{recorded_files_are_declared, up_to_date_files_are_sound, up_to_date_nodes_stand};
