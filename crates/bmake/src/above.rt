@@ -1,5 +1,5 @@
-//! What a make is given by the one above it, and by who runs it: options in `BMAKE_FLAGS`, and a recorder
-//! in `BMAKE_RECORDER`; and what it gives to the makes below.
+//! What a make is given by the one above it, and by who runs it: options in `BMAKE_FLAGS`, and a
+//! recorder in `BMAKE_RECORDER`; and what it gives to the makes below.
 use crate::process::{absolute, value_of};
 use mk_bytes::{Items, NoMemory, Pair, Pairs, Text, Texts, words};
 use mk_inherit::{flags_of, passed_on, words_in};
@@ -11,8 +11,8 @@ const FLAGS: &[u8] = b"BMAKE_FLAGS";
 
 const RECORDER: &[u8] = b"BMAKE_RECORDER";
 
-/// The words that the make above hands on, where there are any; `None` where their text is not of the form
-/// in which a make writes it.
+/// The words that the make above hands on, where there are any; `None` where their text is not of
+/// the form in which a make writes it.
 pub fn inherited(alloc: Global, env: &Env) -> Result<Option<Texts>, NoMemory> {
     match value_of(env, FLAGS) {
         Some(text) => words_in(alloc, text),
@@ -38,8 +38,8 @@ fn flags(alloc: Global, all: &Texts) -> Result<Option<Text>, NoMemory> {
     Ok(Some(flags_of(alloc, &passed)?))
 }
 
-// The words of the recorder. The first is an absolute path where it has a slash, so that it serves in each
-// directory.
+// The words of the recorder. The first is an absolute path where it has a slash, so that it serves
+// in each directory.
 fn recorder(alloc: Global, env: &Env) -> Result<Texts, NoMemory> {
     let mut recorder = Items::new(alloc, 0)?;
     for word in words(alloc, value_of(env, RECORDER).unwrap_or(b""))?.as_slice() {

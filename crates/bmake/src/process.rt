@@ -24,7 +24,8 @@ enum Query {
     Entry(usize),
 }
 
-// The bytes that the system has there, or `None` behind the last. The buffer doubles until they fit.
+// The bytes that the system has there, or `None` behind the last. The buffer doubles until they
+// fit.
 fn bytes_of<R: Env + AllocGlobal>(rt: &R, query: Query) -> Result<Option<Vec<u8>>, NoMemory> {
     let mut len = 256usize;
     for _ in 0..usize::BITS {
@@ -70,7 +71,8 @@ fn variable(alloc: Global, entry: &[u8]) -> Result<Option<Pair>, NoMemory> {
     Ok(Some(Pair { name, value }))
 }
 
-// Adds the variables of these places, up to the end of the environment, and tells whether that was met.
+// Adds the variables of these places, up to the end of the environment, and tells whether that was
+// met.
 fn ask<R: Env + AllocGlobal>(
     rt: &R,
     vars: &mut Pairs,
@@ -88,8 +90,9 @@ fn ask<R: Env + AllocGlobal>(
     Ok(false)
 }
 
-// Whether entries with a byte 0 between them are still the environment: a library that stands before the
-// program's own may have taken some away or added some. There are as many, and the last is the same.
+// Whether entries with a byte 0 between them are still the environment: a library that stands
+// before the program's own may have taken some away or added some. There are as many, and the last
+// is the same.
 fn are_now<R: Env + AllocGlobal>(rt: &R, entries: &[u8]) -> Result<bool, NoMemory> {
     let mut count = 0usize;
     let mut last = entries;
@@ -117,8 +120,8 @@ fn take(alloc: Global, vars: &mut Pairs, entries: &[u8]) -> Result<(), NoMemory>
     Ok(())
 }
 
-// What stands in the system's file of the environment, without its last byte 0; `None` where nobody may read
-// it here.
+// What stands in the system's file of the environment, without its last byte 0; `None` where nobody
+// may read it here.
 fn entries_in_file<R: Files + AllocGlobal>(rt: &R) -> Result<Option<Vec<u8>>, Error> {
     match fs::read(rt, ENVIRONMENT) {
         Ok(mut entries) => {
@@ -132,8 +135,9 @@ fn entries_in_file<R: Files + AllocGlobal>(rt: &R) -> Result<Option<Vec<u8>>, Er
     }
 }
 
-// The variables of the environment, entry by entry; `None` where the system fails. To ask for one by its
-// number takes a walk from the first, so that those behind the first few are taken from one file.
+// The variables of the environment, entry by entry; `None` where the system fails. To ask for one
+// by its number takes a walk from the first, so that those behind the first few are taken from one
+// file.
 fn variables<R: Env + Files + AllocGlobal>(rt: &R) -> Result<Option<Pairs>, NoMemory> {
     let mut vars = Items::new(rt.alloc(), 0)?;
     if ask(rt, &mut vars, 0, FEW)? {
@@ -165,7 +169,8 @@ pub fn absolute(alloc: Global, cwd: &[u8], path: &[u8]) -> Result<Text, NoMemory
     Ok(absolute)
 }
 
-// The name by which the program was called: as it stands where it has no slash, and else an absolute path.
+// The name by which the program was called: as it stands where it has no slash, and else an
+// absolute path.
 fn program<R: Env + AllocGlobal>(rt: &R, cwd: &[u8]) -> Result<Text, NoMemory> {
     let Some(name) = bytes_of(rt, Query::Word(0))? else {
         return Text::from_bytes(rt.alloc(), b"bmake");
@@ -177,8 +182,8 @@ fn program<R: Env + AllocGlobal>(rt: &R, cwd: &[u8]) -> Result<Text, NoMemory> {
     absolute(rt.alloc(), cwd, name)
 }
 
-/// The environment, entry by entry, with the current directory and the program's name; `None` where the
-/// system gives no directory, or fails.
+/// The environment, entry by entry, with the current directory and the program's name; `None` where
+/// the system gives no directory, or fails.
 pub fn environment<R: Env + Files + AllocGlobal>(
     rt: &R,
 ) -> Result<Option<mk_scopes::Env>, NoMemory> {
@@ -205,7 +210,8 @@ pub fn value_of<'e>(env: &'e mk_scopes::Env, name: &[u8]) -> Option<&'e [u8]> {
     value
 }
 
-// The directory for temporary files: that of `TMPDIR`, taken from the current directory, or else `/tmp`.
+// The directory for temporary files: that of `TMPDIR`, taken from the current directory, or else
+// `/tmp`.
 fn temporary_directory(alloc: Global, env: &mk_scopes::Env) -> Result<Text, NoMemory> {
     let directory = value_of(env, b"TMPDIR").filter(|path| !path.is_empty());
     let Some(directory) = directory else {

@@ -1,4 +1,5 @@
-//! The clean build beside a run: of the sources as they stand, by one job, with nothing of earlier builds.
+//! The clean build beside a run: of the sources as they stand, by one job, with nothing of earlier
+//! builds.
 use crate::before::{change_sources, is_left};
 use crate::compare::Ran;
 use crate::idle::IdleWorld;
@@ -105,8 +106,8 @@ fn compare_build(found: &mut Found, job: &Job, world: &IdleWorld) -> Result<(), 
     told
 }
 
-/// Behind a run that has ended well, where the case names made files, each has the bytes that a clean build
-/// gives it.
+/// Behind a run that has ended well, where the case names made files, each has the bytes that a
+/// clean build gives it.
 pub fn compare_clean(found: &mut Found, job: &Job, world: &IdleWorld) {
     if find(job.case.setup.as_slice(), Directive::Made).is_none() {
         return;

@@ -37,8 +37,8 @@ impl IdleWorld {
         }
     }
 
-    /// Changes the file that an item of a case names from outside, or takes it away. `Bad` where that cannot be
-    /// done.
+    /// Changes the file that an item of a case names from outside, or takes it away. `Bad` where
+    /// that cannot be done.
     pub fn edit(&mut self, item: &Item, bytes: Option<&[u8]>) -> Result<(), Trouble> {
         match self.world.edit(item.rest.as_bytes(), bytes) {
             Ok(()) => Ok(()),

@@ -1,5 +1,5 @@
-//! Runs over the world in memory, as files of cases. The words name the files; what differs from what
-//! a case wants is printed, and then how many cases pass and how many do not (docs/CASES.md).
+//! Runs over the world in memory, as files of cases. The words name the files; what differs from
+//! what a case wants is printed, and then how many cases pass and how many do not (docs/CASES.md).
 #![tactic(auto)]
 
 mod before;

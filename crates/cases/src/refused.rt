@@ -1,5 +1,5 @@
-//! Each call of a run refused in turn: the run ends as that call has it, and the next one makes all that is
-//! to be made.
+//! Each call of a run refused in turn: the run ends as that call has it, and the next one makes all
+//! that is to be made.
 use crate::before::change_files;
 use crate::clean::compare_made;
 use crate::compare::{Ran, Sinks, made};
@@ -19,8 +19,8 @@ use mk_memworld::CallKind;
 use mk_top::End;
 use std::alloc::Global;
 
-// How many bytes stand behind a refused write: as the call has it, none, some of the head of a meta file and
-// of its text, and all of them.
+// How many bytes stand behind a refused write: as the call has it, none, some of the head of a meta
+// file and of its text, and all of them.
 const LEFT: [Option<usize>; 6] = [None, Some(0), Some(1), Some(20), Some(60), Some(1_048_576)];
 
 // A call that is refused, and the name of its kind.
@@ -149,7 +149,8 @@ fn run_unrefused(alloc: Global, job: &Job, world: &mut IdleWorld) -> Result<Ran,
     run_step(alloc, job, sinks, world)
 }
 
-// The same words are run again, and end as where nothing is refused; they make all that is made there.
+// The same words are run again, and end as where nothing is refused; they make all that is made
+// there.
 fn compare_again(found: &mut Found, trial: &Trial, one: &Refusal, again: &Ran, world: &IdleWorld) {
     compare_ends(found, trial, one, &again.report.end);
     found.turn_to(2, 0);

@@ -136,8 +136,8 @@ fn run_own(found: &mut Found, case: &Case) {
     }
 }
 
-/// Runs a case under its own schedule, then with each call refused where it asks for that, and then under the
-/// generated schedules that it asks for.
+/// Runs a case under its own schedule, then with each call refused where it asks for that, and then
+/// under the generated schedules that it asks for.
 pub fn run_case(found: &mut Found, case: &Case) {
     if !case.has_run() {
         found.refuse(Trouble::Bad(case.head.line));

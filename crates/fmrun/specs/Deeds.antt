@@ -91,7 +91,8 @@ are_looks (path ∷ paths) [] = false
 are_looks (path ∷ paths) (sight ∷ sights) =
     if is_found sight then are_looks paths sights else is_end sights
 
--- A look at a file that stands is a read, also where it is refused, and one at a missing file a miss.
+-- A look at a file that stands is a read, also where it is refused, and one at a missing file a
+-- miss.
 abbrev pub look_op : List ℕ → Sight → Op
 look_op path Found = op.Read path
 look_op path Missing = op.Miss path

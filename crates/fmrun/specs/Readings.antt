@@ -23,8 +23,8 @@ named cwd directory (Delete path) = Delete (path_from cwd directory path)
 named cwd directory (Move from to) =
     Move (path_from cwd directory from) (path_from cwd directory to)
 
--- From wherever a log is read, it is these operations, done in that directory, unless its lines take too
--- much.
+-- From wherever a log is read, it is these operations, done in that directory, unless its lines
+-- take too much.
 abbrev pub IsReadAs : List ℕ → List Op → List ℕ → Type 0
 IsReadAs directory ops log =
     (cwd : List ℕ) → has_form directory ≡ true → list_all has_lines ops ≡ true

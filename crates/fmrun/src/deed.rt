@@ -163,8 +163,8 @@ fn done(alloc: Global, act: Act, sights: &[Sight], text: Text) -> Result<Deed, N
 }
 
 /// What a request comes to, where its looks found this, and these contents one behind the other. A
-/// variable of the environment counts as a look. Where a look is refused, or a file is missing that is
-/// needed, it is the end with status 1 and nothing else.
+/// variable of the environment counts as a look. Where a look is refused, or a file is missing that
+/// is needed, it is the end with status 1 and nothing else.
 pub fn deed_of(alloc: Global, act: Act, sights: &[Sight], text: Text) -> Result<Deed, NoMemory>
     ensures { IfOk result (λ deed. deed ≡ spec.deed_of act sights.now text) }
 {

@@ -93,8 +93,8 @@ fn remove<R: Files + AllocGlobal>(rt: &R, path: &[u8]) -> Result<(), Refusal> {
     }
 }
 
-/// Makes a change. A moved file is written anew, so that its time is new, and then removed where it was;
-/// one that is moved onto itself stays.
+/// Makes a change. A moved file is written anew, so that its time is new, and then removed where it
+/// was; one that is moved onto itself stays.
 pub fn make<R: Files + AllocGlobal>(
     rt: &R,
     directory: &[u8],

@@ -52,8 +52,8 @@ fn push_change(alloc: Global, ops: &mut Ops, change: &Change) -> Result<(), NoMe
     }
 }
 
-/// The operations of a request, in order: its looks, as far as they happened, and its change. A look at a
-/// missing file is a miss, and every other one a read.
+/// The operations of a request, in order: its looks, as far as they happened, and its change. A
+/// look at a missing file is a miss, and every other one a read.
 pub fn ops_of(
     alloc: Global,
     looks: &[Text],
@@ -125,9 +125,10 @@ fn push_op(log: &mut Text, op: &Op) -> Result<(), NoMemory>
     }
 }
 
-/// What is appended to a log: a line of the directory, and the lines of each operation in order, with its
-/// paths as they are. A path that no line can hold, as one with a newline, is recorded as a read of a
-/// file that is never there, and a move whose paths its line would not tell apart as what it does to each.
+/// What is appended to a log: a line of the directory, and the lines of each operation in order,
+/// with its paths as they are. A path that no line can hold, as one with a newline, is recorded as
+/// a read of a file that is never there, and a move whose paths its line would not tell apart as
+/// what it does to each.
 pub fn log_of(alloc: Global, directory: &[u8], ops: &[Op]) -> Result<Text, NoMemory>
     ensures log { IfOk result (λ log. log ≡ spec.log directory.now ops.now) }
     // It is read as what was recorded.

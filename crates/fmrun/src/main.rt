@@ -1,5 +1,5 @@
-//! The program `fmrun`: small commands on files, which append what they did to the log of a recorder,
-//! as NetBSD filemon(4) does for any command.
+//! The program `fmrun`: small commands on files, which append what they did to the log of a
+//! recorder, as NetBSD filemon(4) does for any command.
 #![tactic(auto)]
 
 mod deed;
@@ -90,7 +90,8 @@ fn status(rt: &HostRuntime, words: &Texts) -> u8 {
     }
 }
 
-// Where a command line is run: the current directory, and the log of a recorder, where there is one.
+// Where a command line is run: the current directory, and the log of a recorder, where there is
+// one.
 #[derive(Drop)]
 struct Place {
     directory: Text,

@@ -71,8 +71,8 @@ fn misused(alloc: Global) -> Result<Request, NoMemory>
 }
 
 /// What the words of a command line ask for, of which the first says what it is about. No words ask
-/// for nothing, a wrong number of words or a bad number ends with status 2, and an unknown first word
-/// with 127.
+/// for nothing, a wrong number of words or a bad number ends with status 2, and an unknown first
+/// word with 127.
 pub fn asked(alloc: Global, words: &[Text]) -> Result<Request, NoMemory>
     ensures { IfOk result (λ request. request ≡ spec.asked words.now) }
 {

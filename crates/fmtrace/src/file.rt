@@ -71,7 +71,8 @@ pub fn bytes_from<R: Files + AllocGlobal>(
     }
 }
 
-/// The first bytes of a file, as far as one call of the system gives them; none where it cannot be read.
+/// The first bytes of a file, as far as one call of the system gives them; none where it cannot be
+/// read.
 pub fn head_of<'b, R: Files>(rt: &R, path: &[u8], buffer: &'b mut [u8]) -> &'b [u8] {
     let Ok(path) = str::from_utf8(path) else {
         return b"";

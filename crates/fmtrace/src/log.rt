@@ -32,8 +32,8 @@ impl Log {
         })
     }
 
-    /// Adds a record. One whose path holds a newline, which no line can hold, is told as a read of a
-    /// path that is never there.
+    /// Adds a record. One whose path holds a newline, which no line can hold, is told as a read of
+    /// a path that is never there.
     pub fn push(&mut self, letter: &[u8], path: &[u8]) -> Result<(), NoMemory> {
         if has_newline(path) {
             return self.push_line(b"R", NO_FORM);
@@ -64,8 +64,8 @@ impl Log {
     }
 }
 
-/// Whether a read is recorded, where this stands at its path in the end. A directory counts where it was
-/// listed, and no device does.
+/// Whether a read is recorded, where this stands at its path in the end. A directory counts where
+/// it was listed, and no device does.
 pub fn keeps_read(is_folder: bool, stand: Stand) -> bool {
     match stand {
         Stand::File | Stand::Missing | Stand::Unknown => true,

@@ -25,8 +25,8 @@ const CALLS: &str = "trace=?open,?openat,?openat2,?creat,?execve,?execveat,?stat
 ?vfork,?clone,?clone3,?unshare,?chroot,?pivot_root,?mount,?setns,?open_by_handle_at,?io_uring_setup,\
 ?move_mount";
 
-// The options of strace; the name of the trace follows. Signals that can end a process are shown, since
-// strace says only of these that they ended one.
+// The options of strace; the name of the trace follows. Signals that can end a process are shown,
+// since strace says only of these that they ended one.
 const OPTIONS: [&str; 12] = [
     "-D",
     "-f",
@@ -142,7 +142,8 @@ fn trace_path(rt: &HostRuntime, directory: &[u8], log: &[u8]) -> Result<Text, Re
     Ok(path)
 }
 
-// The records of a trace, as soon as it is whole. `None` where it is not within a fifth of a second.
+// The records of a trace, as soon as it is whole. `None` where it is not within a fifth of a
+// second.
 fn whole_records(
     rt: &HostRuntime,
     directory: &[u8],
@@ -199,8 +200,8 @@ fn current(rt: &HostRuntime) -> Result<Text, Refusal> {
     }
 }
 
-// What is no record of a command that begins in a directory. Where that is a make's own, none is passed
-// over but those of this log.
+// What is no record of a command that begins in a directory. Where that is a make's own, none is
+// passed over but those of this log.
 fn scratch_of(rt: &HostRuntime, log: &[u8], directory: &[u8]) -> Result<Scratch, Refusal> {
     let alloc = rt.alloc();
     let mut temporary = match env::var(rt, "TMPDIR") {
@@ -216,8 +217,8 @@ fn scratch_of(rt: &HostRuntime, log: &[u8], directory: &[u8]) -> Result<Scratch,
     })
 }
 
-// What a command has from its beginning: its streams, and the programs that were sought for it. A command
-// that is not found is refused.
+// What a command has from its beginning: its streams, and the programs that were sought for it. A
+// command that is not found is refused.
 fn beginning(
     rt: &HostRuntime,
     log: &[u8],
@@ -232,7 +233,8 @@ fn beginning(
     Ok(before)
 }
 
-/// Runs a command under strace, and appends its records to a log. Recorders below are told of its trace.
+/// Runs a command under strace, and appends its records to a log. Recorders below are told of its
+/// trace.
 pub fn recorded(rt: &HostRuntime, log: &[u8], words: &[Text]) -> Result<u8, Refusal> {
     let [program, ..] = words else {
         return Ok(2);
@@ -265,8 +267,8 @@ fn written(
     told(rt, log, &source, directory, before, ended)
 }
 
-/// Runs a command as it is, below a recorder that records it too, and appends its records to a log of its
-/// own, by the lines of its processes in the trace of that recorder.
+/// Runs a command as it is, below a recorder that records it too, and appends its records to a log
+/// of its own, by the lines of its processes in the trace of that recorder.
 pub fn recorded_within(
     rt: &HostRuntime,
     log: &[u8],
@@ -284,7 +286,8 @@ pub fn recorded_within(
     told(rt, log, &source, directory.bytes(), &before, ended)
 }
 
-// Appends the records of a command of which a trace tells, by the number and the status of its process.
+// Appends the records of a command of which a trace tells, by the number and the status of its
+// process.
 fn told(
     rt: &HostRuntime,
     log: &[u8],

@@ -34,9 +34,9 @@ impl Source {
         }
     }
 
-    /// How often the end of the trace is waited for, and how long each time, in microseconds: a fifth of a
-    /// second in all. strace writes it when the command is gone already. A trace to which others add is
-    /// not looked at as often.
+    /// How often the end of the trace is waited for, and how long each time, in microseconds: a
+    /// fifth of a second in all. strace writes it when the command is gone already. A trace to
+    /// which others add is not looked at as often.
     pub fn patience(&self) -> (u32, u64) {
         match self.part {
             None => (1000, 200),
@@ -57,8 +57,8 @@ impl Source {
         let Some(bytes) = bytes_from(rt, self.path.bytes(), part.from)? else {
             return Ok(None);
         };
-        // The first line is of what this process asked for the length with, or of another one: that of the
-        // command was not begun then.
+        // The first line is of what this process asked for the length with, or of another one: that
+        // of the command was not begun then.
         let lines = match cut_at(b'\n', bytes.bytes()) {
             Some((_, lines)) => lines,
             None => b"",

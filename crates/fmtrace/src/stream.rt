@@ -29,8 +29,8 @@ fn flags_in(facts: &[u8]) -> Option<u64> {
     Some(value)
 }
 
-// What a stream that is open with these flags does to its file: it reads it, or writes it, and where
-// old bytes stay both.
+// What a stream that is open with these flags does to its file: it reads it, or writes it, and
+// where old bytes stay both.
 fn touch_by(flags: u64) -> Touch {
     match (flags % 4, flags / 1024 % 2) {
         (0, _) => Touch::Read,
@@ -51,8 +51,8 @@ fn path_of(rt: &HostRuntime, link: &str, own: &[u8]) -> Result<Option<Text>, Ref
     Ok(Some(Text::from_bytes(rt.alloc(), bytes)?))
 }
 
-/// Adds what the standard streams of this process do to regular files, but for those whose paths begin
-/// with `own`.
+/// Adds what the standard streams of this process do to regular files, but for those whose paths
+/// begin with `own`.
 pub fn push_streams(rt: &HostRuntime, own: &[u8], touches: &mut Touches) -> Result<(), Refusal> {
     for place in 0..3 {
         let Some(path) = path_of(rt, LINKS[place], own)? else {

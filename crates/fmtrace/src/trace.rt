@@ -13,8 +13,8 @@ use std::io::{Print, Read};
 // How many of a program's first bytes are read for its interpreter.
 const HEAD: usize = 4096;
 
-/// The records of a trace of a command that began in a directory, behind these touches. `None` where the
-/// trace is cut, or has another form.
+/// The records of a trace of a command that began in a directory, behind these touches. `None`
+/// where the trace is cut, or has another form.
 pub fn records_in(
     alloc: Global,
     directory: &[u8],
@@ -64,16 +64,16 @@ fn push_programs(rt: &HostRuntime, log: &mut Log, records: &[Record]) -> Result<
     Ok(())
 }
 
-/// Where makes have the files for their children: that of the log, and below which directory for temporary
-/// files others may have theirs.
+/// Where makes have the files for their children: that of the log, and below which directory for
+/// temporary files others may have theirs.
 #[derive(Drop)]
 pub struct Scratch {
     pub own: Text,
     pub temporary: Text,
 }
 
-/// Adds the records of a command to a log, as far as what stands at their paths agrees, but for those of
-/// the files of makes for their children.
+/// Adds the records of a command to a log, as far as what stands at their paths agrees, but for
+/// those of the files of makes for their children.
 pub fn push_all(
     rt: &HostRuntime,
     log: &mut Log,

@@ -3,7 +3,8 @@ use Rattle.std.specs.Prelude.{List, [], ◌++◌, Result, Ok, Err}
 use Rattle.mk_blocks.specs.Acts.{Act}
 
 pub record Outcome (A E : Type 0) : Type 0 where
-  -- the messages that it writes, and the files, times, listings and commands that it asks for, in order
+  -- the messages that it writes, and the files, times, listings and commands that it asks for, in
+  -- order
   pub acts : List Act
   pub answer : Result A E
 
@@ -26,8 +27,8 @@ abbrev pub followed : {A B E : Type 0} → List Act → Result A E → (A → Ou
 followed acts (Ok given) next = behind acts (next given)
 followed acts (Err fault) next = record { acts = acts; answer = Err fault }
 
--- The second step on what the first one gives, with its acts behind those of the first, or the first
--- one's fault.
+-- The second step on what the first one gives, with its acts behind those of the first, or the
+-- first one's fault.
 infixl 10 ◌>>=◌
 abbrev pub ◌>>=◌ : {A B E : Type 0} → Outcome A E → (A → Outcome B E) → Outcome B E
 outcome >>= next = followed outcome.acts outcome.answer next

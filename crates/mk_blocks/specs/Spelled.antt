@@ -21,8 +21,8 @@ IsLast false others = Unit {0}
 
 module _ (kind_of : List ℕ → LineKind) where
   unfoldable mutual
-    -- These lines are the block, inside a loop or outside of all. An if-block is closed by `.endif`,
-    -- a loop by `.endfor`, and `.break` stands in a loop.
+    -- These lines are the block, inside a loop or outside of all. An if-block is closed by
+    -- `.endif`, a loop by `.endfor`, and `.break` stands in a loop.
     pub Spells : Bool → Block → List LogLine → Type 0
     Spells in_loop tree.none lines = lines ≡ []
     Spells in_loop (tree.line counts l rest) lines =

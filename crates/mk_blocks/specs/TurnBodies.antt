@@ -12,8 +12,8 @@ use Rattle.mk_blocks.specs.Meaning.{meaning}
 use Rattle.mk_blocks.specs.Runs.{Files, Run}
 use Rattle.mk_blocks.specs.declared.kind.LineKind.{LineKind}
 
--- Where the words of a turn make no line a directive and hide none, and no line too long, lines inside
--- this turn and then others mean what the lines of its body mean inside the others.
+-- Where the words of a turn make no line a directive and hide none, and no line too long, lines
+-- inside this turn and then others mean what the lines of its body mean inside the others.
 abbrev pub TurnsReadBodies : {S W : Type 0} → (F : Type 0) → (List ℕ → LineKind) → LineMeaning S W
     → Type 0
 TurnsReadBodies {S} {W} F kind_of M =

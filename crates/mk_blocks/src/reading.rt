@@ -29,12 +29,11 @@ pub const MAX_FILES: usize = 64;
 ///
 /// `Bad` where a line is wrong: by the faults of the file's lines, else by those of its blocks,
 /// else by the first line that the language refuses; likewise in an included file when it is
-/// reached.
-/// `TooManyLines` where a line or turn above [`MAX_LINES`] would be processed, and `TooManyFiles`
-/// where an included file would be open above [`MAX_FILES`]. All messages of the lines before such
-/// a fault have been written, and all files, times, listings and commands asked for that they ask for.
-/// `Failed` where the outside failed, and `NoMemory` where memory ran out: a first part of that was done
-/// then.
+/// reached. `TooManyLines` where a line or turn above [`MAX_LINES`] would be processed, and
+/// `TooManyFiles` where an included file would be open above [`MAX_FILES`]. All messages of the
+/// lines before such a fault have been written, and all files, times, listings and commands asked
+/// for that they ask for. `Failed` where the outside failed, and `NoMemory` where memory ran out: a
+/// first part of that was done then.
 ///
 /// [`MAX_LINES`]: crate::MAX_LINES
 pub fn read_file<L: Language>(

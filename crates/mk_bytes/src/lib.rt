@@ -11,6 +11,7 @@ mod num;
 mod pair;
 mod part;
 mod path;
+mod same;
 mod text;
 mod word;
 
@@ -23,5 +24,6 @@ pub use part::{
     begins, is_blank, skip, without_blanks, without_blanks_after, without_blanks_before,
 };
 pub use path::{are_names, clean_path, is_absolute, is_clean_directory};
+pub use same::{same_pairs, same_texts};
 pub use text::Text;
 pub use word::{Span, first_piece, is_white, next_word, next_word_is_first, words};

@@ -159,8 +159,8 @@ fn spelled(alloc: Global, dir: &[&[u8]], place: &[&[u8]]) -> Result<Text, NoMemo
 
 /// A path as it is named from the current directory `cwd`: made absolute against `cwd`, without `.`
 /// and empty names, each `..` taking away the name before it; `.` where it is `cwd`, relative where
-/// it lies below `cwd`, and absolute elsewhere. A relative path without `.`, `..` and empty names is
-/// named so already.
+/// it lies below `cwd`, and absolute elsewhere. A relative path without `.`, `..` and empty names
+/// is named so already.
 pub fn clean_path<'t>(alloc: Global, cwd: &'t [u8], path: &'t [u8]) -> Result<Text, NoMemory>
     ensures { IfOk result (λ text. text ≡ spec.clean cwd.now path.now) }
 {

@@ -4,7 +4,8 @@ use crate::fault::Trouble;
 use crate::said::Said;
 use std::alloc::Global;
 
-/// A run of a case, counted from 1, under a generated schedule, or under the case's own, which is 0.
+/// A run of a case, counted from 1, under a generated schedule, or under the case's own, which is
+/// 0.
 #[derive(Clone, Copy)]
 pub struct Turn {
     pub run: u32,

@@ -48,7 +48,8 @@ fn call_of(kind: Counted) -> CallKind {
     }
 }
 
-/// A call that fails: what it is counted with, which one of its kind it is, and how many bytes stand behind it.
+/// A call that fails: what it is counted with, which one of its kind it is, and how many bytes
+/// stand behind it.
 #[derive(Clone, Copy)]
 pub struct Failing {
     pub kind: Counted,

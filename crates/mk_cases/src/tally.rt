@@ -174,7 +174,8 @@ fn are_all(differences: &[Difference], name: &str) -> bool {
     true
 }
 
-// Whether something differs, and only the thing that the text of a case begins with, before a colon.
+// Whether something differs, and only the thing that the text of a case begins with, before a
+// colon.
 fn is_told(shows: &str, found: &Found) -> bool {
     match shows.split_once(':') {
         Some((name, _)) => !found.as_slice().is_empty() && are_all(found.as_slice(), name),

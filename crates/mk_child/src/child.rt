@@ -1,5 +1,7 @@
 //! One child: its line is started, it is waited for, and its end is printed.
-ghost use Rattle.std.specs.Prelude.{◌≡◌, ◌⊎◌, ◌+◌, ◌≤◌, ◌<◌, ℕ, [], ◌∷◌, ◌++◌, Option, Some, false, length, nat_eq, IsTrue, IfOk, OnOk, OnErr, vec_capacity, vec_len};
+ghost use Rattle.std.specs.Prelude.{◌≡◌, ◌⊎◌, ◌+◌, ◌≤◌, ◌<◌, ℕ, [], ◌∷◌, ◌++◌, Option, Some, false};
+ghost use Rattle.std.specs.Prelude.{length, nat_eq, IsTrue, IfOk, OnOk, OnErr, vec_capacity};
+ghost use Rattle.std.specs.Prelude.{vec_len};
 ghost use Rattle.std.specs.List.{list_any};
 ghost use Rattle.mk_bytes.specs.Paths.{is_clean_directory};
 ghost use Rattle.mk_trace.specs.Calls.{Called, NoItem, StartItem, EndItem};
@@ -90,8 +92,8 @@ pub fn start_child<W: World>(
     Ok(())
 }
 
-/// Waits for a child and takes it in, while the progress may be shown. Tells of the wait, and leaves room
-/// to tell of the child's end.
+/// Waits for a child and takes it in, while the progress may be shown. Tells of the wait, and
+/// leaves room to tell of the child's end.
 pub fn wait_child<W: World>(
     alloc: Global,
     world: &mut W,
@@ -181,8 +183,8 @@ fn prints_nothing(line: &TaskLine, output: &[u8]) -> bool
     line.silent && output.is_empty()
 }
 
-/// Writes what the end of a line prints: its text unless it is silent, and its child's output, behind a
-/// marker where there are many jobs and the piece before was another node's.
+/// Writes what the end of a line prints: its text unless it is silent, and its child's output,
+/// behind a marker where there are many jobs and the piece before was another node's.
 pub fn print_end<S: Sink>(
     out: &mut S,
     plan: &Plan,

@@ -9,8 +9,8 @@ use mk_world::{Sink, SinkFault, write_all};
 // Pieces that have so many bytes together are joined before they are written.
 const SHORT: usize = 512;
 
-// Copies a piece behind the first bytes of a buffer, and gives where it ends there; `None` where it does
-// not fit.
+// Copies a piece behind the first bytes of a buffer, and gives where it ends there; `None` where it
+// does not fit.
 fn put_behind(buffer: &mut [u8], start: usize, piece: &[u8]) -> Option<usize>
     requires { start ≤ length buffer.old }
     ensures same { length buffer.new ≡ length buffer.old }
@@ -26,8 +26,8 @@ fn put_behind(buffer: &mut [u8], start: usize, piece: &[u8]) -> Option<usize>
     Some(end)
 }
 
-// Copies pieces into a buffer, one after the other, and gives how many bytes they have; `None` where they
-// do not fit.
+// Copies pieces into a buffer, one after the other, and gives how many bytes they have; `None`
+// where they do not fit.
 fn join(buffer: &mut [u8], pieces: &[&[u8]]) -> Option<usize>
     ensures within { IfSome result (λ end. end ≤ length buffer.new) }
     ensures joined { IfSome result (λ end. take end buffer.new ≡ all_of pieces.now) }
@@ -39,8 +39,8 @@ fn join(buffer: &mut [u8], pieces: &[&[u8]]) -> Option<usize>
     Some(end)
 }
 
-/// Writes all of these pieces, one after the other, and short ones by one call. After `Failed` a part of
-/// their bytes, from the beginning, was written. Takes no memory.
+/// Writes all of these pieces, one after the other, and short ones by one call. After `Failed` a
+/// part of their bytes, from the beginning, was written. Takes no memory.
 pub fn write_joined<S: Sink>(sink: &mut S, pieces: &[&[u8]]) -> Result<(), SinkFault>
     ensures done { OnOk result (Gains (S.held sink.old) (S.held sink.new) (all_of pieces.now)) }
     ensures cut { OnErr result (GainsPart (S.held sink.old) (S.held sink.new) (all_of pieces.now)) }

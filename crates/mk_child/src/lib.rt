@@ -1,5 +1,5 @@
-//! The children of make: the command of a line is started, one is waited for, and what it printed is
-//! written. Beside it stands what ends a build before it is over.
+//! The children of make: the command of a line is started, one is waited for, and what it printed
+//! is written. Beside it stands what ends a build before it is over.
 #![tactic(auto)]
 
 mod child;

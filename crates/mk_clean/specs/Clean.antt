@@ -1,5 +1,6 @@
 -- The clean build: what a build does that has nothing of earlier builds, one job after the other.
-use Rattle.std.specs.Prelude.{◌≡◌, ◌⊎◌, ℕ, ◌||◌, List, [], ◌∷◌, map, None, Bool, true, false, if◌then◌else◌}
+use Rattle.std.specs.Prelude.{◌≡◌, ◌⊎◌, ℕ, ◌||◌, List, [], ◌∷◌, map, None, Bool, true, false}
+use Rattle.std.specs.Prelude.{if◌then◌else◌}
 use Rattle.std.specs.List.{list_any}
 use Rattle.std.specs.Str.{bytes_eq}
 use Rattle.mk_clean.specs.Jobs.{goes_on, job}
@@ -17,8 +18,8 @@ pub record Node : Type 0 where
   pub lines : List TaskLine
   pub made : Bool
 
--- What is built: the command of a line, the nodes, those with commands in their order, and which paths
--- are those of nodes, made files and meta files.
+-- What is built: the command of a line, the nodes, those with commands in their order, and which
+-- paths are those of nodes, made files and meta files.
 pub record Plan : Type 0 where
   pub command : TaskLine → Cmd
   pub node : ℕ → Node
@@ -98,7 +99,8 @@ clean_build meaning plan store = clean_jobs meaning plan plan.order (cleared pla
 abbrev pub clean_files : Meaning → Plan → Store → Store
 clean_files meaning plan store = clean_end meaning plan plan.order (cleared plan store)
 
--- What stands at made files and meta files does not count in it: its jobs do the same, and leave the same.
+-- What stands at made files and meta files does not count in it: its jobs do the same, and leave
+-- the same.
 abbrev pub CleanBuildsForget : Type 0
 CleanBuildsForget =
     (meaning : Meaning) (plan : Plan) (store other : Store)

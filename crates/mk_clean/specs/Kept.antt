@@ -34,10 +34,10 @@ abbrev pub AreLooksAt : FileMap → Looks → Type 0
 AreLooksAt files looks =
     (path : List ℕ) (when : When) → Contains looks (path, when) → when ≡ when_of (files path)
 
--- A meta file tells what happened. By looks at moments of their own behind its job, its target was changed
--- last before the meta file was written, and each path of its records is as the job left it. Then the
--- job's lines, on what these looks saw, do what they did then, and what they leave at the target is what
--- stands there.
+-- A meta file tells what happened. By looks at moments of their own behind its job, its target was
+-- changed last before the meta file was written, and each path of its records is as the job left
+-- it. Then the job's lines, on what these looks saw, do what they did then, and what they leave at
+-- the target is what stands there.
 abbrev pub KeptTargetsStand : Type 0
 KeptTargetsStand =
     (meaning : Meaning) (base : List File) (meta : Meta) (events : List Happening)

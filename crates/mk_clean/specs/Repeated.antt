@@ -1,5 +1,6 @@
--- When the job of a node does on the files that stand what a recorded one did, whatever stands at its own path: so what it
--- reads and changes may be told from its records, also where the node makes no file.
+-- When the job of a node does on the files that stand what a recorded one did, whatever stands at
+-- its own path: so what it reads and changes may be told from its records, also where the node
+-- makes no file.
 use Rattle.std.specs.Prelude.{◌≡◌, ℕ, List, [], Some}
 use Rattle.std.specs.List.{AllByRecursion}
 use Rattle.mk_clean.specs.Clean.{Plan, doings_on}
@@ -21,9 +22,11 @@ use Rattle.mk_world.specs.declared.history.Happening.{Happening}
 use Rattle.mk_world.specs.declared.time.When.{When}
 use Rattle.mk_world.specs.declared.time.When.TheVariants as when
 
--- A task is that of a meta file with these records: the exported variables, the directory and the commands are those of its
--- job; and by the times of the files what the job found outside is older than the job, and what it missed is missing.
-pub record IsAsRecorded (meta : Meta) (records : List Rec) (task : Task) (time : List ℕ → When) : Type 0
+-- A task is that of a meta file with these records: the exported variables, the directory and the
+-- commands are those of its job; and by the times of the files what the job found outside is older
+-- than the job, and what it missed is missing.
+pub record IsAsRecorded (meta : Meta) (records : List Rec) (task : Task) (time : List ℕ → When)
+    : Type 0
   where
     pub exports : task.exports ≡ meta.exports
     pub directory : task.cwd ≡ meta.cwd
@@ -31,8 +34,9 @@ pub record IsAsRecorded (meta : Meta) (records : List Rec) (task : Task) (time :
     pub reads : AllByRecursion (λ path. IsOlderThan meta.stamp (time path)) (read_paths [] records)
     pub misses : AllByRecursion (λ path. time path ≡ when.Missing) (missed_paths [] records)
 
--- Where a meta file tells what happened, and a node's task is as it is recorded there, by looks at moments of their own behind
--- its job, the node's job does on what these looks saw what that job did.
+-- Where a meta file tells what happened, and a node's task is as it is recorded there, by looks at
+-- moments of their own behind its job, the node's job does on what these looks saw what that job
+-- did.
 abbrev pub RecordedJobsRepeat : Type 0
 RecordedJobsRepeat =
     (meaning : Meaning) (base : List File) (meta : Meta) (events : List Happening)

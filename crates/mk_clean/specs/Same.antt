@@ -1,8 +1,11 @@
 -- That a build by what commands did leaves what the clean build leaves.
 use Rattle.std.specs.Prelude.{◌≡◌, ◌⊎◌, ℕ, ◌==◌, List, [], ◌∷◌, ◌++◌, true, if◌then◌else◌}
-use Rattle.mk_clean.specs.Clean.{Plan, CleanJob, deeds_of, clean_build, clean_files, IsAmong, IsWell}
+use Rattle.mk_clean.specs.Clean.{Plan, CleanJob, deeds_of, clean_build, clean_files, IsAmong}
+use Rattle.mk_clean.specs.Clean.{IsWell}
 use Rattle.mk_clean.specs.Declared.{IsDeclared, AreWellMade}
-use Rattle.mk_clean.specs.Turns.{Build, Turn, looks_at, keeps, begins, starts_line, steps, ends_line, fails, settles, removes, puts_meta, settled, failed, first_build, after_turns, MayTurns}
+use Rattle.mk_clean.specs.Turns.{Build, Turn, looks_at, keeps, begins, starts_line, steps}
+use Rattle.mk_clean.specs.Turns.{ends_line, fails, settles, removes, puts_meta, settled, failed}
+use Rattle.mk_clean.specs.Turns.{first_build, after_turns, MayTurns}
 use Rattle.mk_world.specs.Deeds.{Store}
 use Rattle.mk_world.specs.Talks.{Meaning}
 use Rattle.mk_world.specs.declared.step.Deed.{Deed}
@@ -14,8 +17,9 @@ pub record HasCleanFiles (meaning : Meaning) (plan : Plan) (store files : Store)
       → (plan.node one.node).made ≡ true
       → files (plan.node one.node).name ≡ clean_files meaning plan store (plan.node one.node).name
 
--- Where what the jobs of the clean build read and change is declared, and a build of any turns has settled
--- all their nodes, the clean build goes well, and each made file has the bytes that it gives it.
+-- Where what the jobs of the clean build read and change is declared, and a build of any turns has
+-- settled all their nodes, the clean build goes well, and each made file has the bytes that it
+-- gives it.
 abbrev pub BuildsAreClean : Type 0
 BuildsAreClean =
     (meaning : Meaning) (plan : Plan) (store : Store)
@@ -59,20 +63,22 @@ pub record AreAllSteps (all : List CleanJob) (node : ℕ) (done : List Deed) : T
   pub node_is : one.node ≡ node
   pub are : deeds_of one ≡ done
 
--- What is done in a build is done in the clean build: of each node's job nothing, or its first steps;
--- where the node is settled, nothing or all of them; and where it has failed, all of them, and its job fails
--- there, too.
-pub record DoesCleanSteps (plan : Plan) (all : List CleanJob) (turns : List Turn) (build : Build) : Type 0
+-- What is done in a build is done in the clean build: of each node's job nothing, or its first
+-- steps; where the node is settled, nothing or all of them; and where it has failed, all of them,
+-- and its job fails there, too.
+pub record DoesCleanSteps (plan : Plan) (all : List CleanJob) (turns : List Turn) (build : Build)
+    : Type 0
   where
-    pub begun : (node : ℕ) → (steps_of node turns ≡ []) ⊎ AreFirstSteps all node (steps_of node turns)
+    pub begun : (node : ℕ)
+        → (steps_of node turns ≡ []) ⊎ AreFirstSteps all node (steps_of node turns)
     pub whole : (node : ℕ) → build.stage node ≡ settled
         → (steps_of node turns ≡ []) ⊎ AreAllSteps all node (steps_of node turns)
     pub broken : (node : ℕ) → build.stage node ≡ failed
         → (is : AreAllSteps all node (steps_of node turns)) × (IsWell plan is.one → ⊥)
 
--- Where what the jobs of the clean build read and change is declared, each step of a build is a step of
--- the same node in the clean build, at every moment, in whatever order the steps are done, and whatever
--- has failed.
+-- Where what the jobs of the clean build read and change is declared, each step of a build is a
+-- step of the same node in the clean build, at every moment, in whatever order the steps are done,
+-- and whatever has failed.
 abbrev pub StepsAreClean : Type 0
 StepsAreClean =
     (meaning : Meaning) (plan : Plan) (store : Store)

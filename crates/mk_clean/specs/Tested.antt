@@ -26,17 +26,17 @@ use Rattle.mk_world.specs.declared.time.When.TheVariants as when
 abbrev pub command_for : Task → TaskLine → Cmd
 command_for task line = record { text = line.text; cwd = task.cwd; exports = task.exports }
 
--- A node has this task: its path, its lines without the empty ones, and their commands. Each line is
--- compared with that of another build.
+-- A node has this task: its path, its lines without the empty ones, and their commands. Each line
+-- is compared with that of another build.
 pub record HasTask (plan : Plan) (node : ℕ) (task : Task) : Type 0 where
   pub name : (plan.node node).name ≡ task.target
   pub lines : (plan.node node).lines ≡ working task.lines
   pub command : (line : TaskLine) → plan.command line ≡ command_for task line
   pub compared : AllByRecursion (λ line. line.compared ≡ true) task.lines
 
--- The test went by looks behind the job of a true meta file, each at a moment of its own: these are the
--- times that it went by, of the target, of the meta file, and of the paths of its records, and these the
--- files that the looks saw.
+-- The test went by looks behind the job of a true meta file, each at a moment of its own: these are
+-- the times that it went by, of the target, of the meta file, and of the paths of its records, and
+-- these the files that the looks saw.
 pub record WentBy {next : NextOf} {meta : Meta} {events : List Happening} (is : IsTrue next meta events)
     (meaning : Meaning) (base : List File) (times : Times) (files : Store) : Type 0
   where
@@ -51,8 +51,8 @@ pub record WentBy {next : NextOf} {meta : Meta} {events : List Happening} (is : 
     pub meta_file : times.meta ≡ when.At (record { 0 = is.time })
     pub files_are : (path : List ℕ) → files path ≡ contents (seen_at base is later) path
 
--- Where the test gives no reason to make a node again, in a build that goes by records, and the node's
--- meta file tells what happened, the node may be kept.
+-- Where the test gives no reason to make a node again, in a build that goes by records, and the
+-- node's meta file tells what happened, the node may be kept.
 abbrev pub NoReasonMayKeep : Type 0
 NoReasonMayKeep =
     (meaning : Meaning) (base : List File) (meta : Meta) (events : List Happening)

@@ -1,6 +1,7 @@
--- A build as turns, one after the other: looks, decisions, and what the lines of jobs do, in the order in
--- which these things happen.
-use Rattle.std.specs.Prelude.{◌≡◌, ℕ, ◌==◌, List, [], ◌∷◌, ◌++◌, Option, Some, None, true, false, if◌then◌else◌}
+-- A build as turns, one after the other: looks, decisions, and what the lines of jobs do, in the
+-- order in which these things happen.
+use Rattle.std.specs.Prelude.{◌≡◌, ℕ, ◌==◌, List, [], ◌∷◌, ◌++◌, Option, Some, None, true, false}
+use Rattle.std.specs.Prelude.{if◌then◌else◌}
 use Rattle.std.specs.Str.{bytes_eq}
 use Rattle.mk_clean.specs.Clean.{Plan, DependsOn, doings_on, AllWell, IsAmong}
 use Rattle.mk_clean.specs.Jobs.{goes_on}
@@ -15,8 +16,8 @@ use Rattle.mk_world.specs.declared.step.Deed.{Deed}
 use Rattle.mk_world.specs.declared.step.Next.TheVariants.{More, Over as Ended}
 use Rattle.mk_world.specs.declared.step.Request.{Request}
 
--- How far a node is: undecided; between two of its lines, or in one, with what its job did so far, what
--- the line was answered, and the lines to come; settled; or failed.
+-- How far a node is: undecided; between two of its lines, or in one, with what its job did so far,
+-- what the line was answered, and the lines to come; settled; or failed.
 pub data Stage : Type 0 where
   waiting : Stage
   between : (deeds : List Deed) → (lines : List TaskLine) → Stage
@@ -153,7 +154,8 @@ abbrev pub ended_with : ℕ → List ℕ → Doing
 ended_with status output = record { deeds = []; status = status; output = output }
 
 -- A line ends where its command is at its end, and it has not failed.
-pub record HasEnded (next : NextOf) (plan : Plan) (seen : List Answer) (line : TaskLine) : Type 0 where
+pub record HasEnded (next : NextOf) (plan : Plan) (seen : List Answer) (line : TaskLine)
+    : Type 0 where
   pub status : ℕ
   pub output : List ℕ
   pub next_is : next (plan.command line) seen ≡ Ended status output
@@ -167,7 +169,8 @@ MayEndLine next plan settled = ⊥
 MayEndLine next plan failed = ⊥
 
 -- It fails where its command is at its end with a status that counts.
-pub record HasFailed (next : NextOf) (plan : Plan) (seen : List Answer) (line : TaskLine) : Type 0 where
+pub record HasFailed (next : NextOf) (plan : Plan) (seen : List Answer) (line : TaskLine)
+    : Type 0 where
   pub status : ℕ
   pub output : List ℕ
   pub next_is : next (plan.command line) seen ≡ Ended status output
@@ -180,10 +183,10 @@ MayFail next plan (inside deeds seen line lines) = HasFailed next plan seen line
 MayFail next plan settled = ⊥
 MayFail next plan failed = ⊥
 
--- A node is looked at and decided where it is undecided and all that it depends on is settled. It may be
--- kept, or it begins; its lines follow one another, each to its end; then it is settled. Where a line
--- fails, the node has failed, and make may remove its made file. In all else make itself changes meta
--- files alone. A child that is given up does nothing more, and has no turn.
+-- A node is looked at and decided where it is undecided and all that it depends on is settled. It
+-- may be kept, or it begins; its lines follow one another, each to its end; then it is settled.
+-- Where a line fails, the node has failed, and make may remove its made file. In all else make
+-- itself changes meta files alone. A child that is given up does nothing more, and has no turn.
 abbrev pub MayTurn : Meaning → Plan → Build → Turn → Type 0
 MayTurn meaning plan build (looks_at node path) =
     (build.stage node ≡ waiting) × SourcesSettled plan build node

@@ -1,6 +1,6 @@
-//! What a build without any record would make: jobs on files alone, and the clean build; that a target for
-//! which the test gives no reason stands as its job would leave it now; and that a build in which all is
-//! settled has the files of the clean build.
+//! What a build without any record would make: jobs on files alone, and the clean build; that a
+//! target for which the test gives no reason stands as its job would leave it now; and that a build
+//! in which all is settled has the files of the clean build.
 //!
 //! No code stands here but the laws, each the contract of a function.
 #![tactic(auto)]

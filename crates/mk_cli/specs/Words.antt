@@ -8,7 +8,8 @@ use Rattle.mk_bytes.specs.Paths.{clean}
 use Rattle.mk_cli.specs.Assignments.{is_assignment, assignment}
 use Rattle.mk_cli.specs.Letters.{letter_of}
 use Rattle.mk_cli.specs.Options.{with_flag, names_nothing, with_argument}
-use Rattle.mk_cli.specs.Orders.{first_reading, with_order, with_flags, with_set, with_jobs, with_explain, with_progress}
+use Rattle.mk_cli.specs.Orders.{first_reading, with_order, with_flags, with_set, with_jobs}
+use Rattle.mk_cli.specs.Orders.{with_explain, with_progress}
 use Rattle.mk_cli.specs.declared.letter.Argument.{Argument}
 use Rattle.mk_cli.specs.declared.letter.Argument.TheVariants.{Generate}
 use Rattle.mk_cli.specs.declared.letter.Letter.{Letter}

@@ -29,8 +29,8 @@ ClosuresAreNamed =
     (files : Store) (nodes : List Node) (seeking : Seeking) (wanted : List (List ℕ)) (s : State)
     → AreDistinct (names_of nodes) → closed files nodes seeking wanted ≡ Ok s → IsNamed nodes s
 
--- A node is needed where its name is wanted, or where it is a source of one that is needed, or where it
--- stands for one; but not what stands around a build.
+-- A node is needed where its name is wanted, or where it is a source of one that is needed, or
+-- where it stands for one; but not what stands around a build.
 pub data IsNeeded (s : State) (wanted : List (List ℕ)) : ℕ → Type 0 where
   by_name : {n : ℕ} (name : List ℕ) → Contains wanted name → is_frame name ≡ false
       → number_in s name ≡ Some n → IsNeeded s wanted n

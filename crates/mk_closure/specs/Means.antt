@@ -22,8 +22,8 @@ has_commands nodes n = is_some_command (node_at nodes n).commands
 abbrev pub is_phony : List Node → ℕ → Bool
 is_phony nodes n = has (node_at nodes n).marks Phony
 
--- by a chain of suffix rules; else by its place, which is the name itself where it is a target or a file;
--- else it is missing
+-- by a chain of suffix rules; else by its place, which is the name itself where it is a target or a
+-- file; else it is missing
 abbrev pub means_by : List ℕ → Option (List ℕ) → Option Chain → Means
 means_by name place (Some chain) = Chained chain
 means_by name None None = Missing

@@ -5,12 +5,13 @@ use Rattle.mk_closure.specs.Names.{name_in, number_in}
 use Rattle.mk_closure.specs.Parts.{State, part_at, is_left_out_way}
 use Rattle.mk_closure.specs.declared.members.Sources.{Sources}
 use Rattle.mk_closure.specs.declared.part.Way.{Way}
-use Rattle.mk_closure.specs.declared.part.Way.TheVariants.{Open, Own, Rule, Placed, Default, Dropped}
+use Rattle.mk_closure.specs.declared.part.Way.TheVariants.{Open, Own, Rule, Placed, Default}
+use Rattle.mk_closure.specs.declared.part.Way.TheVariants.{Dropped}
 use Rattle.mk_graph.specs.Nodes.{Node, node_at, number_of}
 use Rattle.mk_graph.specs.declared.attr.Marks.{Marks}
 
--- The source of a rule goes behind a node's own. One that another stands for leads to that alone, and a
--- node that is dropped has none.
+-- The source of a rule goes behind a node's own. One that another stands for leads to that alone,
+-- and a node that is dropped has none.
 abbrev pub sources_by : List ℕ → Way → List ℕ
 sources_by own Open = own
 sources_by own Own = own
@@ -84,8 +85,8 @@ planned_of s nodes = filter (is_planned s) nodes
 abbrev pub sourced_of : State → List ℕ → List ℕ
 sourced_of s nodes = planned_of s (map (stands_for s) nodes)
 
--- A node's predecessors: what stands for its sources, and then the nodes that are ordered before it. An
--- order of a name that another one stands for is lost.
+-- A node's predecessors: what stands for its sources, and then the nodes that are ordered before
+-- it. An order of a name that another one stands for is lost.
 abbrev pub preds_in : State → ℕ → List ℕ
 preds_in s n = sourced_of s (sources_in s n) ++ planned_of s (node_at s.nodes n).ordered
 

@@ -1,5 +1,6 @@
 -- Names and their numbers: those of the nodes, and behind them those that were added.
-use Rattle.std.specs.Prelude.{ℕ, ◌+◌, ◌-◌, ◌==◌, Bool, ◌||◌, nat_lt, List, [], length, get_or, position, codes}
+use Rattle.std.specs.Prelude.{ℕ, ◌+◌, ◌-◌, ◌==◌, Bool, ◌||◌, nat_lt, List, [], length, get_or}
+use Rattle.std.specs.Prelude.{position, codes}
 use Rattle.std.specs.Prelude.{Option, Some, None, Result, Ok, Err, if◌then◌else◌}
 use Rattle.std.specs.Str.{bytes_eq}
 use Rattle.mk_closure.specs.Parts.{State, with_name}

@@ -3,7 +3,8 @@ use Rattle.std.specs.Prelude.{◌≡◌, ℕ, ◌+◌, ◌<◌, ◌≤◌, Bool,
 use Rattle.std.specs.Prelude.{length, get_or, set, replicate, if◌then◌else◌}
 use Rattle.mk_closure.specs.declared.part.Part.{Part}
 use Rattle.mk_closure.specs.declared.part.Way.{Way}
-use Rattle.mk_closure.specs.declared.part.Way.TheVariants.{Open, Own, Rule, Placed, Default, Dropped}
+use Rattle.mk_closure.specs.declared.part.Way.TheVariants.{Open, Own, Rule, Placed, Default}
+use Rattle.mk_closure.specs.declared.part.Way.TheVariants.{Dropped}
 use Rattle.mk_graph.specs.Nodes.{Node}
 use Rattle.mk_pool.specs.declared.pool.TheConstants.{MAX_NAMES}
 

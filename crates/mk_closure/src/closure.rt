@@ -1,5 +1,6 @@
 //! How far a walk over a graph has come.
-ghost use Rattle.std.specs.Prelude.{◌≡◌, ◌+◌, ◌<◌, ◌≤◌, false, length, Ok, IfOk, IfErr, IfSome, IfNone, OnOk};
+ghost use Rattle.std.specs.Prelude.{◌≡◌, ◌+◌, ◌<◌, ◌≤◌, false, length, Ok, IfOk, IfErr, IfSome};
+ghost use Rattle.std.specs.Prelude.{IfNone, OnOk};
 ghost use Rattle.mk_closure.specs.Faults.{IsOwn, IsRefusedBy};
 ghost use Rattle.mk_closure.specs.Names as names;
 ghost use Rattle.mk_closure.specs.Parts as spec;
@@ -13,8 +14,8 @@ use mk_pool::{MAX_NAMES, Name, Pool};
 use std::alloc::Global;
 use std::marker::Model;
 
-/// The nodes of a graph, and behind them the names that are added to them, each with a number: 0, 1,
-/// 2 and so on. Contracts see how each is made, and which were met.
+/// The nodes of a graph, and behind them the names that are added to them, each with a number: 0,
+/// 1, 2 and so on. Contracts see how each is made, and which were met.
 #[derive(Drop)]
 pub struct Closure<'g> {
     graph: &'g Graph,

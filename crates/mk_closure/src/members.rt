@@ -11,8 +11,8 @@ use mk_bytes::{Items, NoMemory, Text};
 use mk_graph::{Graph, Marks, Nodes, Preds};
 use std::alloc::Global;
 
-/// The sources of a node as they stand, without a copy: those that the makefiles give it, and behind them
-/// that of a rule; or the node of the place that stands for it.
+/// The sources of a node as they stand, without a copy: those that the makefiles give it, and
+/// behind them that of a rule; or the node of the place that stands for it.
 #[derive(Clone, Copy)]
 pub struct Sources<'g> {
     pub own: &'g [u32],
@@ -92,8 +92,8 @@ impl<'g> Closure<'g> {
         &[]
     }
 
-    /// The node that stands for a node: that of its place where it has another one, and else the node
-    /// itself. Takes no memory.
+    /// The node that stands for a node: that of its place where it has another one, and else the
+    /// node itself. Takes no memory.
     pub fn stand_in(&self, n: u32) -> u32
         ensures value { result ≡ spec.stands_for self.now n }
         ensures within { n < length self.now.parts → result < length self.now.parts }
@@ -160,8 +160,8 @@ impl<'g> Closure<'g> {
         }
     }
 
-    // The predecessors of a node: what is planned for its sources, and then the planned nodes that are
-    // ordered before it.
+    // The predecessors of a node: what is planned for its sources, and then the planned nodes that
+    // are ordered before it.
     fn preds(&self, alloc: Global, n: u32) -> Result<Nodes, NoMemory>
         requires { n < length self.now.parts }
         ensures { IfOk result (λ nodes. nodes ≡ spec.preds_in self.now n) }

@@ -1,5 +1,6 @@
 //! The walk from wanted names over their sources.
-ghost use Rattle.std.specs.Prelude.{◌≡◌, ◌+◌, ◌<◌, ◌≤◌, ◌^◌, false, [], ◌∷◌, ◌++◌, length, reverse, Ok, IfOk, IfErr, OnOk};
+ghost use Rattle.std.specs.Prelude.{◌≡◌, ◌+◌, ◌<◌, ◌≤◌, ◌^◌, false, [], ◌∷◌, ◌++◌, length, reverse};
+ghost use Rattle.std.specs.Prelude.{Ok, IfOk, IfErr, OnOk};
 ghost use Rattle.mk_closure.specs.Faults.{IsRefusedBy};
 ghost use Rattle.mk_closure.specs.Members.{listed};
 ghost use Rattle.mk_closure.specs.Names.{is_frame};
@@ -212,21 +213,23 @@ impl<'g> Closure<'g> {
     }
 }
 
-/// The closure of wanted names in a graph, where sources are made by rules between these suffixes, sought
-/// in the directories `paths`, and named from the directory `cwd`.
+/// The closure of wanted names in a graph, where sources are made by rules between these suffixes,
+/// sought in the directories `paths`, and named from the directory `cwd`.
 ///
 /// Names are met in order, each before its sources and these before the next one; a name is met
-/// once, and added to those of the graph where it is new. `.BEGIN` and `.END` are passed over. A node
-/// without commands that is not phony is made by the chosen chain of suffix rules, if there is one:
-/// each step gives its rule's commands to a name and adds its source as the last one, and a name for
-/// which that was decided before stays as it is, with those before it. For a node without commands and
-/// chain that is no target and has no file, but a place in a directory that is searched, the node of the
-/// place stands, which is met behind it. One without a place takes the commands of `.DEFAULT`; where that
-/// has none, it is dropped if it is optional, and else it is refused.
+/// once, and added to those of the graph where it is new. `.BEGIN` and `.END` are passed over. A
+/// node without commands that is not phony is made by the chosen chain of suffix rules, if there is
+/// one: each step gives its rule's commands to a name and adds its source as the last one, and a
+/// name for which that was decided before stays as it is, with those before it. For a node without
+/// commands and chain that is no target and has no file, but a place in a directory that is
+/// searched, the node of the place stands, which is met behind it. One without a place takes the
+/// commands of `.DEFAULT`; where that has none, it is dropped if it is optional, and else it is
+/// refused.
 ///
-/// `NoRule` is the first such name, and `Full` comes exactly where a 1,048,577th name would be added
-/// before. All this is by what the world was asked and answered: the closure, or its refusal, is that of all
-/// files that fit the answers. `Failed` comes only where the world's count of faults rose or is at its end.
+/// `NoRule` is the first such name, and `Full` comes exactly where a 1,048,577th name would be
+/// added before. All this is by what the world was asked and answered: the closure, or its refusal,
+/// is that of all files that fit the answers. `Failed` comes only where the world's count of faults
+/// rose or is at its end.
 pub fn close<'g, W: World>(
     alloc: Global,
     graph: &'g Graph,

@@ -1,5 +1,6 @@
 -- Every command is at its end after as many answers as it has words.
-use Rattle.std.specs.Prelude.{ℕ, Bool, true, false, List, [], ◌∷◌, ◌++◌, Option, Some, None, if◌then◌else◌, ◌&&◌, nat_le}
+use Rattle.std.specs.Prelude.{ℕ, Bool, true, false, List, [], ◌∷◌, ◌++◌, Option, Some, None}
+use Rattle.std.specs.Prelude.{if◌then◌else◌, ◌&&◌, nat_le}
 use Rattle.mk_bytes.specs.Paths.{clean}
 use Rattle.mk_world.specs.declared.command.Cmd.{Cmd}
 use Rattle.mk_commands.specs.Commands as spec
@@ -7,7 +8,8 @@ use Rattle.mk_commands.specs.Turns.{stops, writes, deletes, moves}
 use Rattle.mk_commands.specs.Words.{line_of, number_of, place_of, picked}
 use Rattle.mk_commands.specs.declared.verb.Verb.{Verb}
 use Rattle.mk_commands.specs.declared.verb.Verb.TheVariants as verb
-use Rattle.mk_commands.specs.TalkEnds.{Words, EndsIn, stops_in, misused_in, writes_in, deletes_in, moves_in, looks_in, reads_in, later_in}
+use Rattle.mk_commands.specs.TalkEnds.{Words, EndsIn, stops_in, misused_in, writes_in, deletes_in}
+use Rattle.mk_commands.specs.TalkEnds.{moves_in, looks_in, reads_in, later_in}
 
 -- each command, by its verb and the words after it
 put_in : (verb cwd : List ℕ) (words : Words) → EndsIn (verb ∷ words) (spec.put cwd words)

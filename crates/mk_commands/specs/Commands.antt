@@ -1,5 +1,6 @@
 -- What each command does. Paths are taken from the directory of the line and cleaned.
-use Rattle.std.specs.Prelude.{ℕ, nat_le, ◌&&◌, List, [], ◌∷◌, ◌++◌, Option, Some, None, codes, if◌then◌else◌}
+use Rattle.std.specs.Prelude.{ℕ, nat_le, ◌&&◌, List, [], ◌∷◌, ◌++◌, Option, Some, None, codes}
+use Rattle.std.specs.Prelude.{if◌then◌else◌}
 use Rattle.std.specs.Str.{bytes_eq}
 use Rattle.mk_bytes.specs.Paths.{clean}
 use Rattle.mk_bytes.specs.declared.pair.Pair.{Pair}
@@ -7,7 +8,8 @@ use Rattle.mk_world.specs.declared.command.Cmd.{Cmd}
 use Rattle.mk_commands.specs.Turns.{Talk, stops, writes, deletes, looks, reads, moves}
 use Rattle.mk_commands.specs.Words.{line_of, number_of, place_of, picked}
 use Rattle.mk_commands.specs.declared.verb.Verb.{Verb}
-use Rattle.mk_commands.specs.declared.verb.Verb.TheVariants.{Put, Cat, Copy, Move, Del, Show, Say, Pick, Probe, Env, Fail}
+use Rattle.mk_commands.specs.declared.verb.Verb.TheVariants.{Put, Cat, Copy, Move, Del, Show, Say}
+use Rattle.mk_commands.specs.declared.verb.Verb.TheVariants.{Pick, Probe, Env, Fail}
 
 -- a wrong number of words, or a word that is not the number it should be
 abbrev pub misused : Talk

@@ -1,12 +1,14 @@
 -- Every command line is at its end after as many answers as its commands have words.
-use Rattle.std.proofs.Common.{ℕ, ◌≤◌, ◌==◌, Bool, true, false, List, [], ◌∷◌, ◌++◌, length, if◌then◌else◌, le_of_suc-le-suc, not-suc-le-zero}
+use Rattle.std.proofs.Common.{ℕ, ◌≤◌, ◌==◌, Bool, true, false, List, [], ◌∷◌, ◌++◌, length}
+use Rattle.std.proofs.Common.{if◌then◌else◌, le_of_suc-le-suc, not-suc-le-zero}
 use Rattle.mk_world.specs.Talks.{IsOver}
 use Rattle.mk_world.specs.declared.command.Cmd.{Cmd}
 use Rattle.mk_world.specs.declared.step.Answer.{Answer}
 use Rattle.mk_world.specs.declared.step.Next.{Next}
 use Rattle.mk_world.specs.declared.step.Next.TheVariants.{Over}
 use Rattle.mk_commands.specs.Commands.{command}
-use Rattle.mk_commands.specs.Language.{and_then, commands_of, in_order, language_next, most_answers, together}
+use Rattle.mk_commands.specs.Language.{and_then, commands_of, in_order, language_next, most_answers}
+use Rattle.mk_commands.specs.Language.{together}
 use Rattle.mk_commands.specs.Turns.{Turn, asks, ends}
 use Rattle.mk_commands.specs.CommandEnds.{command_in}
 use Rattle.mk_commands.specs.TalkEnds.{Covers, Leaves}

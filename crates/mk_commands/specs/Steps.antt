@@ -1,5 +1,6 @@
 -- One step that is still to be done, and what is different after it.
-use Rattle.std.specs.Prelude.{ℕ, ◌==◌, Bool, true, false, List, [], ◌∷◌, ◌++◌, Option, Some, None, if◌then◌else◌}
+use Rattle.std.specs.Prelude.{ℕ, ◌==◌, Bool, true, false, List, [], ◌∷◌, ◌++◌, Option, Some, None}
+use Rattle.std.specs.Prelude.{if◌then◌else◌}
 use Rattle.mk_world.specs.Deeds.{Store, after_deed}
 use Rattle.mk_world.specs.Talks.{deed_on}
 use Rattle.mk_world.specs.declared.history.Child.{Child}

@@ -5,7 +5,8 @@ use Rattle.mk_world.specs.declared.step.Answer.TheVariants.{Found, Missing, Stan
 use Rattle.mk_world.specs.declared.step.Request.{Request}
 use Rattle.mk_world.specs.declared.step.Request.TheVariants.{Look, Write, Delete, Move}
 use Rattle.mk_commands.specs.Commands as spec
-use Rattle.mk_commands.specs.Turns.{Turn, asks, ends, Talk, stops, asked, done, found, or_fails, looks, reads, writes, deletes, moved, moves}
+use Rattle.mk_commands.specs.Turns.{Turn, asks, ends, Talk, stops, asked, done, found, or_fails}
+use Rattle.mk_commands.specs.Turns.{looks, reads, writes, deletes, moved, moves}
 
 -- words that stand for as many answers
 abbrev pub Words : Type 0

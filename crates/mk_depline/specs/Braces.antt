@@ -75,7 +75,8 @@ abbrev pub Speller : Type 0
 Speller = List ℕ → Result (List (List ℕ)) DepFault
 
 -- a word for each alternative, in order, with what stands round the group
-abbrev pub each_spelled : Speller → List ℕ → List ℕ → List (List ℕ) → Result (List (List ℕ)) DepFault
+abbrev pub each_spelled : Speller → List ℕ → List ℕ → List (List ℕ)
+    → Result (List (List ℕ)) DepFault
 each_spelled spell before behind [] = Ok []
 each_spelled spell before behind (one ∷ more) =
     spell (before ++ one ++ behind)

@@ -4,7 +4,8 @@ use Rattle.std.specs.Str.{bytes_eq}
 pub use Rattle.mk_bytes.specs.Texts.{is_among}
 use Rattle.mk_depline.specs.declared.name.Special.{Special}
 use Rattle.mk_depline.specs.declared.name.Special.TheVariants.{Main, Begin, End, Default, Order}
-use Rattle.mk_depline.specs.declared.name.Special.TheVariants.{Suffixes, Path, NotParallel, DeleteOnError}
+use Rattle.mk_depline.specs.declared.name.Special.TheVariants.{Suffixes, Path, NotParallel}
+use Rattle.mk_depline.specs.declared.name.Special.TheVariants.{DeleteOnError}
 use Rattle.mk_depline.specs.declared.name.Special.TheVariants.{Phony, Precious, Silent, Ignore}
 
 -- the attributes of sources; `.WAIT`, which parts them, counts among these

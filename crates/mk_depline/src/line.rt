@@ -1,5 +1,6 @@
 //! Dependency lines: targets, an operator, and sources.
-ghost use Rattle.std.specs.Prelude.{◌≡◌, ◌<◌, length, position, drop, Ok, IfOk, IfSome, IsTrue, OnOk};
+ghost use Rattle.std.specs.Prelude.{◌≡◌, ◌<◌, length, position, drop, Ok, IfOk, IfSome, IsTrue};
+ghost use Rattle.std.specs.Prelude.{OnOk};
 ghost use Rattle.std.specs.List.{list_all, list_any};
 ghost use Rattle.mk_bytes.specs.Agrees.{Agrees};
 ghost use Rattle.mk_bytes.specs.Paths.{is_clean_directory};

@@ -7,9 +7,11 @@ use Rattle.mk_bytes.specs.Bytes as bytes
 use Rattle.mk_cond.specs.declared.cond.Form.TheVariants as form
 use Rattle.mk_bytes.specs.Texts.{without_blanks_before}
 use Rattle.mk_directive.specs.declared.directive.Directive.{Directive}
-use Rattle.mk_directive.specs.declared.directive.Directive.TheVariants.{If, ElseIf, Else, EndIf, For, EndFor}
+use Rattle.mk_directive.specs.declared.directive.Directive.TheVariants.{If, ElseIf, Else, EndIf}
+use Rattle.mk_directive.specs.declared.directive.Directive.TheVariants.{For, EndFor}
 use Rattle.mk_directive.specs.declared.directive.Directive.TheVariants.{Break, Include, TryInclude}
-use Rattle.mk_directive.specs.declared.directive.Directive.TheVariants.{Undef, Error, Warning, Info, Export, Unexport}
+use Rattle.mk_directive.specs.declared.directive.Directive.TheVariants.{Undef, Error, Warning, Info}
+use Rattle.mk_directive.specs.declared.directive.Directive.TheVariants.{Export, Unexport}
 
 -- a byte of a directive's word: lower-case letters and `-`
 abbrev pub is_word_byte : ℕ → Bool

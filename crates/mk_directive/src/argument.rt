@@ -64,8 +64,8 @@ fn in_place(text: &[u8]) -> Option<usize>
 }
 
 /// The names of a loop and the text that its words are cut from: what follows the first word `in`
-/// and its blanks. `None` where there is no word `in`, or no name before it. `NoMemory` where memory
-/// ran out.
+/// and its blanks. `None` where there is no word `in`, or no name before it. `NoMemory` where
+/// memory ran out.
 pub fn heading_in<'t>(alloc: Global, text: &'t [u8]) -> Result<Option<Heading<'t>>, NoMemory>
     ensures { IfOk result (λ found.
         option_map (λ h. (h.names, h.text.now)) found ≡ spec.heading_in text.now) }

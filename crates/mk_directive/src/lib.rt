@@ -1,8 +1,8 @@
 //! Directive lines of makefiles: their words, and the forms of what follows these (NetBSD make(1),
 //! "INCLUDE STATEMENTS, CONDITIONALS AND FOR LOOPS").
 //!
-//! A directive is a line that begins with `.` and one of the words that [`directive_on`] knows. What
-//! its argument means is left to the reader of makefiles.
+//! A directive is a line that begins with `.` and one of the words that [`directive_on`] knows.
+//! What its argument means is left to the reader of makefiles.
 #![tactic(auto)]
 
 mod argument;

@@ -10,8 +10,9 @@ use Rattle.mk_world.specs.declared.history.History.{History}
 abbrev pub FitAnswers : Store → List Dated → Type 0
 FitAnswers files looks = AllByRecursion (λ one. is_missing one.when ≡ is_none (files one.path)) looks
 
--- Make asked for the times of paths, one after the other, while no child ran, and did nothing else. By what it was
--- answered this is so: of all files that fit the answers, in every world, and so of those of a world that tells.
+-- Make asked for the times of paths, one after the other, while no child ran, and did nothing else.
+-- By what it was answered this is so: of all files that fit the answers, in every world, and so of
+-- those of a world that tells.
 pub record ByLooks (before after : Option History) (Fact : Store → Type 0) : Type 0 where
   pub looks : List Dated
   pub told : Told before after (DatesAll looks)

@@ -3,8 +3,8 @@ use Rattle.std.specs.Prelude.{◌≡◌, ℕ, ◌||◌, Bool, List, [], Some, No
 use Rattle.mk_dirs.specs.Places.{place}
 use Rattle.mk_world.specs.Deeds.{Store}
 
--- Without directories to search, the place of a name is the name itself where it is a target or a file,
--- and else there is none.
+-- Without directories to search, the place of a name is the name itself where it is a target or a
+-- file, and else there is none.
 abbrev pub WithoutDirectories : Type 0
 WithoutDirectories =
     (files : Store) (target : Bool) (cwd name : List ℕ)

@@ -1,5 +1,6 @@
 -- At which place a name stands: under the name itself, or in a directory that is searched.
-use Rattle.std.specs.Prelude.{ℕ, ◌||◌, Bool, List, [], ◌∷◌, ◌++◌, Option, Some, None, is_some, if◌then◌else◌}
+use Rattle.std.specs.Prelude.{ℕ, ◌||◌, Bool, List, [], ◌∷◌, ◌++◌, Option, Some, None, is_some}
+use Rattle.std.specs.Prelude.{if◌then◌else◌}
 use Rattle.mk_bytes.specs.Bytes.{slash}
 use Rattle.mk_bytes.specs.Paths.{clean, is_absolute}
 use Rattle.mk_world.specs.Deeds.{Store}
@@ -29,8 +30,8 @@ first_below files cwd (dir ∷ more) name =
 abbrev pub searched : Store → List (List ℕ) → List ℕ → List ℕ → Option (List ℕ)
 searched files paths cwd name = if is_absolute name then None else first_below files cwd paths name
 
--- The place of a name on these files: the name itself where it is a target or a file that is there, and
--- else where it is found in the directories.
+-- The place of a name on these files: the name itself where it is a target or a file that is there,
+-- and else where it is found in the directories.
 abbrev pub place : Store → Bool → List (List ℕ) → List ℕ → List ℕ → Option (List ℕ)
 place files target paths cwd name =
     if target || is_some (files name) then Some name else searched files paths cwd name

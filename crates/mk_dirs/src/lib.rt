@@ -1,4 +1,5 @@
-//! The directories that are searched for files (NetBSD make(1), `.PATH`): at which place a name stands.
+//! The directories that are searched for files (NetBSD make(1), `.PATH`): at which place a name
+//! stands.
 #![tactic(auto)]
 
 mod fault;

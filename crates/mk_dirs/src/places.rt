@@ -80,13 +80,13 @@ fn first_below<W: World>(
     Ok(None)
 }
 
-/// The place of a cleaned name (make(1), `.PATH`): the name itself where it is a `target` or a file that
-/// is there; else, for a relative name, the path of a file of that name below the first directory of
-/// `paths` that has one, cleaned against the directory `cwd`.
+/// The place of a cleaned name (make(1), `.PATH`): the name itself where it is a `target` or a file
+/// that is there; else, for a relative name, the path of a file of that name below the first
+/// directory of `paths` that has one, cleaned against the directory `cwd`.
 ///
-/// `None` exactly where there is no such place. A target is not looked at, and of other names each path
-/// is looked at once, up to the first file. `Failed` comes only where the world's count of faults rose or
-/// is at its end, and `NoMemory` where memory runs out.
+/// `None` exactly where there is no such place. A target is not looked at, and of other names each
+/// path is looked at once, up to the first file. `Failed` comes only where the world's count of
+/// faults rose or is at its end, and `NoMemory` where memory runs out.
 pub fn place<W: World>(
     alloc: Global,
     target: bool,
@@ -97,7 +97,8 @@ pub fn place<W: World>(
 ) -> Result<Option<Text>, DirFault>
     requires idle { W.runs world.old [] }
 
-    // The answer is the place by what the world was asked and answered: of all files that fit the answers.
+    // The answer is the place by what the world was asked and answered: of all files that fit the
+    // answers.
     ensures told { IfOk result (λ found. ByLooks (W.history world.old) (W.history world.new)
         (λ files. found ≡ spec.place files target paths.now cwd.now name.now)) }
 

@@ -1,5 +1,6 @@
 -- The jobs whose lines run, as the driver keeps them.
-use Rattle.std.specs.Prelude.{◌≡◌, ◌≢◌, ℕ, ◌<◌, ◌≤◌, ◌+◌, ◌-◌, nat_le, List, [], ◌∷◌, ◌++◌, length, map, get_or, Option, Some, None, Bool, true, false, if◌then◌else◌}
+use Rattle.std.specs.Prelude.{◌≡◌, ◌≢◌, ℕ, ◌<◌, ◌≤◌, ◌+◌, ◌-◌, nat_le, List, [], ◌∷◌, ◌++◌, length}
+use Rattle.std.specs.Prelude.{map, get_or, Option, Some, None, Bool, true, false, if◌then◌else◌}
 use Rattle.mk_plan.specs.Deciding.{Rules}
 use Rattle.mk_plan.specs.declared.plan.NodeState.{NodeState}
 use Rattle.mk_plan.specs.declared.plan.NodeState.TheVariants.{Undecided, Open}
@@ -65,8 +66,8 @@ pub record HasToken (nodes : List NodeState) (jobs : List Job) (node : ℕ) : Ty
   pub apart : AreApart node jobs
 
 -- What the driver keeps fits together: the schedule is that of these rules, each job is open in it,
--- beside so many nodes that have a token and no child, and the children that are held are those of the
--- jobs.
+-- beside so many nodes that have a token and no child, and the children that are held are those of
+-- the jobs.
 pub record FitsTogether (rules : Rules) (schedule : Schedule) (jobs : List Job)
     (failure : Option Failure) (tickets : List ℕ) (room others : ℕ) : Type 0
   where

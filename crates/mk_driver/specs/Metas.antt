@@ -1,5 +1,6 @@
 -- What opening and closing a job leaves in the world.
-use Rattle.std.specs.Prelude.{◌≡◌, ◌⊎◌, ℕ, ◌<◌, ◌≤◌, ◌^◌, List, [], length, Option, None, true, false}
+use Rattle.std.specs.Prelude.{◌≡◌, ◌⊎◌, ℕ, ◌<◌, ◌≤◌, ◌^◌, List, [], length, Option, None, true}
+use Rattle.std.specs.Prelude.{false}
 use Rattle.mk_export.specs.Lists.{AreExports}
 use Rattle.mk_meta.specs.Texts.{head as head_of, meta_text}
 use Rattle.mk_meta.specs.declared.meta.Meta.{Meta}

@@ -1,5 +1,6 @@
 -- How far a build has come.
-use Rattle.std.specs.Prelude.{◌≡◌, ◌≢◌, ℕ, ◌+◌, ◌<◌, ◌≤◌, nat_le, List, [], ◌∷◌, length, get_or, set, count_by, Option, Some, None, Bool, true, false, if◌then◌else◌}
+use Rattle.std.specs.Prelude.{◌≡◌, ◌≢◌, ℕ, ◌+◌, ◌<◌, ◌≤◌, nat_le, List, [], ◌∷◌, length, get_or}
+use Rattle.std.specs.Prelude.{set, count_by, Option, Some, None, Bool, true, false, if◌then◌else◌}
 use Rattle.mk_plan.specs.Deciding.{is_stopped, is_undecided}
 use Rattle.mk_plan.specs.declared.plan.NodeState.{NodeState}
 use Rattle.mk_plan.specs.declared.plan.NodeState.TheVariants.{Undecided, Open, Settled, Failed}
@@ -10,7 +11,8 @@ use Rattle.mk_world.specs.Talks.{Meaning}
 use Rattle.mk_world.specs.declared.command.TaskLine.{TaskLine}
 use Rattle.mk_world.specs.declared.history.History.{History}
 use Rattle.mk_decision.specs.Decisions.{Work, IsBegun}
-use Rattle.mk_trace.specs.Builds.{Build, Duty, free, remove, Moment, Own, rules_of, or_next, opening, closing, is_removed, moment}
+use Rattle.mk_trace.specs.Builds.{Build, Duty, free, remove, Moment, Own, rules_of, or_next}
+use Rattle.mk_trace.specs.Builds.{opening, closing, is_removed, moment}
 use Rattle.mk_trace.specs.Collected.{nothing_collected}
 use Rattle.mk_trace.specs.Ends.{StandsBy, is_cut}
 use Rattle.mk_trace.specs.Growth.{Known, SoFar, Standing}
@@ -52,8 +54,8 @@ abbrev pub AreUnknown : Known → List NodeState → Type 0
 AreUnknown known nodes = (node : ℕ) → get_or nodes node Failed ≡ Undecided → known node ≡ None
 
 -- What holds between two calls, whatever has to follow: the children of these jobs run, this is the
--- first failure, and this is what make has to do next. Nothing was seen of undecided nodes, but perhaps
--- of one.
+-- first failure, and this is what make has to do next. Nothing was seen of undecided nodes, but
+-- perhaps of one.
 pub record Stands (known : Known) (nodes : List NodeState) (jobs : List Job)
     (failure : Option Failure) (duty : Duty) (but : Option ℕ) (build : Build) : Type 0
   where
@@ -99,7 +101,8 @@ pub record IsSeen (known : Known) (nodes : List NodeState) (jobs : List Job)
     pub collected_is : (build.own n).collected ≡ collected
 
 -- a node was looked at, and it has no job yet
-abbrev pub IsLookedAt : Known → List NodeState → List Job → Option Failure → ℕ → List Seen → Standing
+abbrev pub IsLookedAt : Known → List NodeState → List Job → Option Failure → ℕ → List Seen
+    → Standing
 IsLookedAt known nodes jobs failure n seen =
     IsSeen known nodes jobs failure n seen free nothing_collected
 
@@ -124,8 +127,8 @@ IsBehind work known nodes jobs failure n lines collected done tasks build =
     × (length lines ≤ done
     → IsClosing work known (set nodes n Settled) jobs failure n lines collected tasks build)
 
--- The end of a line: it fails, or else it is the last one, or else the job is cut off by a failure of
--- another, or else the next line is poised.
+-- The end of a line: it fails, or else it is the last one, or else the job is cut off by a failure
+-- of another, or else the next line is poised.
 abbrev pub IsEnding : Work → Known → List NodeState → List Job → Option Failure → ℕ
     → List TaskLine → Collected → ℕ → ℕ → Bool → Bool → Bool → Standing
 IsEnding work known nodes jobs failure n lines collected number status true last stopped =
@@ -201,7 +204,8 @@ OverOn meaning work history course events job first out =
     (IsClosing work known (set course.sched.nodes job.node Settled) course.jobs.items course.failure
     job.node job.task.lines job.collected)
 
-abbrev pub OverAt : Meaning → Work → Option History → Course → Job → Moment → Option (List ℕ) → Type 0
+abbrev pub OverAt : Meaning → Work → Option History → Course → Job → Moment → Option (List ℕ)
+    → Type 0
 OverAt meaning work history course job = OverOn meaning work history course course.events.items job
 
 -- a build that the outside has ended

@@ -4,7 +4,8 @@ ghost use Rattle.mk_trace.specs.Builds.{Moment, moment};
 ghost use Rattle.mk_headline.specs.CleanBuilds.{IsCleanBuild};
 ghost use Rattle.mk_trace.specs.Ends.{EndsBy, result_of};
 ghost use Rattle.mk_decision.specs.Makers.{work_of, work_on};
-ghost use Rattle.mk_driver.specs.Progress.{EndedAt, Fits, GoingAt, HaltedAt, IsFirstCourse, undecided};
+ghost use Rattle.mk_driver.specs.Progress.{EndedAt, Fits, GoingAt, HaltedAt, IsFirstCourse};
+ghost use Rattle.mk_driver.specs.Progress.{undecided};
 ghost use Rattle.mk_trace.specs.declared.result.BuildResult.TheVariants as ended;
 ghost use Rattle.mk_child.specs.declared.halt.Halt.TheVariants as halts;
 ghost use Rattle.mk_sched.specs.Next.{next_of};
@@ -57,8 +58,8 @@ fn take_in_ready<W: World, S: Sink>(
     Ok(())
 }
 
-// One more node is decided, behind the children that have to be taken in before. Gives whether there
-// was one.
+// One more node is decided, behind the children that have to be taken in before. Gives whether
+// there was one.
 fn make_next<W: World, S: Sink>(
     maker: &Maker,
     world: &mut W,
@@ -198,23 +199,23 @@ fn no_memory(alloc: Global) -> BuildEnd
     }
 }
 
-/// Builds a plan with so many jobs at once: whenever a node may be decided it is, and is kept if it is
-/// up to date, and else made by the lines of its task, one after the other. A node is out of date where
-/// it is always made, its file is missing, or a source is new or newer; a source without a file may be
-/// as old as its own sources. In meta mode it is also out of date where its meta file says so, each of
-/// its jobs begins with the head of that file, and where the job has ended well, make asks for the
-/// target's time and writes the whole file. Where no node may be decided, the next child that ends is taken in, and
-/// what its line printed is written. Behind the first line that fails or cannot be expanded no line is
-/// started, or, with `-k`, none of what depends on it.
+/// Builds a plan with so many jobs at once: whenever a node may be decided it is, and is kept if it
+/// is up to date, and else made by the lines of its task, one after the other. A node is out of
+/// date where it is always made, its file is missing, or a source is new or newer; a source without
+/// a file may be as old as its own sources. In meta mode it is also out of date where its meta file
+/// says so, each of its jobs begins with the head of that file, and where the job has ended well,
+/// make asks for the target's time and writes the whole file. Where no node may be decided, the
+/// next child that ends is taken in, and what its line printed is written. Behind the first line
+/// that fails or cannot be expanded no line is started, or, with `-k`, none of what depends on it.
 ///
-/// The report's events are a cut run, and a legal run where the outside did not end the build. There is
-/// one list of items, of which the events are one side, and what happened in the world, where it tells,
-/// the other; each item has its reason. Standard output gains what the events print. Where meta files told
-/// what happened before the build, they do so at every moment of it, as far as jobs have kept apart. And
-/// where all is made in meta mode, and what jobs read and change is declared, each made file has the bytes
-/// that a clean build of the same plan and tasks gives it, one job after the other, and each meta file that
-/// stands then tells what happened, as jobs have kept apart. `World` and `Sink` come only where that
-/// object's count of faults rose.
+/// The report's events are a cut run, and a legal run where the outside did not end the build.
+/// There is one list of items, of which the events are one side, and what happened in the world,
+/// where it tells, the other; each item has its reason. Standard output gains what the events
+/// print. Where meta files told what happened before the build, they do so at every moment of it,
+/// as far as jobs have kept apart. And where all is made in meta mode, and what jobs read and
+/// change is declared, each made file has the bytes that a clean build of the same plan and tasks
+/// gives it, one job after the other, and each meta file that stands then tells what happened, as
+/// jobs have kept apart. `World` and `Sink` come only where that object's count of faults rose.
 pub fn build<W: World, S: Sink>(
     alloc: Global,
     plan: &Plan,

@@ -1,5 +1,6 @@
 //! The ends of lines.
-ghost use Rattle.std.specs.Prelude.{◌≡◌, ◌<◌, ◌≤◌, ◌+◌, ◌-◌, ◌&&◌, ◌||◌, ℕ, nat_le, not, length, Option, List, Some, None, OnOk, IfOk, IfErr, true};
+ghost use Rattle.std.specs.Prelude.{◌≡◌, ◌<◌, ◌≤◌, ◌+◌, ◌-◌, ◌&&◌, ◌||◌, ℕ, nat_le, not, length};
+ghost use Rattle.std.specs.Prelude.{Option, List, Some, None, OnOk, IfOk, IfErr, true};
 ghost use Rattle.mk_trace.specs.Builds.{Moment, is_removed};
 ghost use Rattle.mk_child.specs.Halts.{of_world};
 ghost use Rattle.mk_driver.specs.Jobs.{HasLine, HasToken, is_there, lines_left};

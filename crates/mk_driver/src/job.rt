@@ -1,5 +1,6 @@
 //! Jobs: the nodes whose lines run, one line at a time.
-ghost use Rattle.std.specs.Prelude.{◌≡◌, ◌<◌, ◌+◌, ◌^◌, [], ◌∷◌, ◌++◌, Some, false, length, nat_eq, OnOk, OnErr};
+ghost use Rattle.std.specs.Prelude.{◌≡◌, ◌<◌, ◌+◌, ◌^◌, [], ◌∷◌, ◌++◌, Some, false, length, nat_eq};
+ghost use Rattle.std.specs.Prelude.{OnOk, OnErr};
 ghost use Rattle.std.specs.List.{list_any};
 ghost use Rattle.mk_driver.specs.Jobs.{HasLine, IsJobTaken, tickets_of};
 ghost use Rattle.mk_trace.specs.Runs.{line_of};
@@ -70,7 +71,8 @@ fn ticket_behind(last: u32) -> u32
     if last < u32::MAX - 256 { last + 1 } else { 1 }
 }
 
-/// The next ticket that is not held. Tickets count from 1, and from 1 again before their numbers run out.
+/// The next ticket that is not held. Tickets count from 1, and from 1 again before their numbers
+/// run out.
 pub fn next_ticket<K>(kids: &Kids<K>, last: &mut u32) -> u32
     requires { length kids.now.tickets < 256 }
     ensures { list_any (nat_eq result) kids.now.tickets ≡ false }

@@ -1,10 +1,12 @@
 //! The lines of a job: empty ones are passed over, and for others children are started.
 ghost use Rattle.std.specs.List.{list_any};
-ghost use Rattle.std.specs.Prelude.{◌≡◌, ◌<◌, ◌≤◌, ◌+◌, ◌-◌, ◌^◌, ℕ, [], ◌∷◌, ◌++◌, Some, true, false, length, nat_eq, OnOk, OnErr, IfOk, IfErr};
+ghost use Rattle.std.specs.Prelude.{◌≡◌, ◌<◌, ◌≤◌, ◌+◌, ◌-◌, ◌^◌, ℕ, [], ◌∷◌, ◌++◌, Some, true};
+ghost use Rattle.std.specs.Prelude.{false, length, nat_eq, OnOk, OnErr, IfOk, IfErr};
 ghost use Rattle.mk_child.specs.Halts.{of_world};
 ghost use Rattle.mk_driver.specs.Jobs.{HasLine, HasToken, lines_left};
 ghost use Rattle.mk_decision.specs.Makers.{work_of};
-ghost use Rattle.mk_driver.specs.Progress.{BehindAt, BehindOn, Fits, FromAny, GoingAt, HaltedAt, IsUnstopped, undecided};
+ghost use Rattle.mk_driver.specs.Progress.{BehindAt, BehindOn, Fits, FromAny, GoingAt, HaltedAt};
+ghost use Rattle.mk_driver.specs.Progress.{IsUnstopped, undecided};
 ghost use Rattle.mk_trace.specs.Builds.{command_of};
 ghost use Rattle.mk_trace.specs.Calls.{Called, NoItem, StartItem};
 ghost use Rattle.mk_trace.specs.Runs.{is_empty, line_of};
@@ -166,8 +168,8 @@ fn start_line<W: World>(
     Ok(())
 }
 
-/// Goes on with a job whose lines have ended up to the one with its number: its next line that has a
-/// child is started, or the job ends where there is none.
+/// Goes on with a job whose lines have ended up to the one with its number: its next line that has
+/// a child is started, or the job ends where there is none.
 pub fn run_on<W: World>(
     maker: &Maker,
     world: &mut W,

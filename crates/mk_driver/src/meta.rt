@@ -1,11 +1,14 @@
-//! Meta files: a job in meta mode begins with the head of one, and where it has ended well the whole
-//! file is written (make(1), "META MODE").
-ghost use Rattle.std.specs.Prelude.{◌≡◌, ◌<◌, ◌^◌, ℕ, List, None, length, map, true, if◌then◌else◌, IfOk, IfErr, OnOk, OnErr};
+//! Meta files: a job in meta mode begins with the head of one, and where it has ended well the
+//! whole file is written (make(1), "META MODE").
+ghost use Rattle.std.specs.Prelude.{◌≡◌, ◌<◌, ◌^◌, ℕ, List, None, length, map, true, if◌then◌else◌};
+ghost use Rattle.std.specs.Prelude.{IfOk, IfErr, OnOk, OnErr};
 ghost use Rattle.mk_decision.specs.Makers.{work_of};
 ghost use Rattle.mk_child.specs.Halts.{of_world};
 ghost use Rattle.mk_driver.specs.Jobs.{HasToken};
 ghost use Rattle.mk_driver.specs.Metas as metas;
-ghost use Rattle.mk_driver.specs.Metas.{HasClosed, HasOpened, IsUnclosed, IsUnopened, WholeWritten, WritesHead, WritesPartOfHead, WritesPartOfWhole, WritesWhole};
+ghost use Rattle.mk_driver.specs.Metas.{HasClosed, HasOpened, IsUnclosed, IsUnopened, WholeWritten};
+ghost use Rattle.mk_driver.specs.Metas.{WritesHead, WritesPartOfHead, WritesPartOfWhole};
+ghost use Rattle.mk_driver.specs.Metas.{WritesWhole};
 ghost use Rattle.mk_driver.specs.Progress.{Fits, FromAny, GoingAt, HaltedAt, OverAt, undecided};
 ghost use Rattle.mk_export.specs.Lists.{AreExports};
 ghost use Rattle.mk_meta.specs.Jobs as jobs;
@@ -25,8 +28,8 @@ use mk_trace::Collected;
 use mk_world::{Lines, TaskLine, Time, World, WorldFault};
 use std::alloc::Global;
 
-// Writes the head of the meta file of a node, later than the newest time: its time is the start stamp of
-// the job.
+// Writes the head of the meta file of a node, later than the newest time: its time is the start
+// stamp of the job.
 fn open_head<W: World>(
     maker: &Maker,
     world: &mut W,
@@ -55,7 +58,8 @@ fn open_head<W: World>(
     })
 }
 
-/// Opens the job of a node that is to be made. In meta mode it begins with the head of the meta file.
+/// Opens the job of a node that is to be made. In meta mode it begins with the head of the meta
+/// file.
 pub fn open_job<W: World>(
     maker: &Maker,
     world: &mut W,
@@ -182,8 +186,8 @@ fn write_whole<W: World>(
     Ok(())
 }
 
-// Closes a job in meta mode whose lines have ended well: the target's time is asked, and the whole meta
-// file is written.
+// Closes a job in meta mode whose lines have ended well: the target's time is asked, and the whole
+// meta file is written.
 fn close_meta<W: World>(
     maker: &Maker,
     world: &mut W,

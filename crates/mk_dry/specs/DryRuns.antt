@@ -35,9 +35,10 @@ StandsBy rules ended.Sink dry = Unit {0}
 StandsBy rules ended.NoMemory dry = Unit {0}
 
 -- A dry run from one moment to another: there is one list of items whose events are those of the
--- report, which the history tells where the world does, and whose output was printed. With a line that is not
--- started as one that has ended well, its report is that of a legal run with one job, or of a cut one where the
--- outside has ended it. Only lines with `+` are started. Each child that was started was taken in or given up.
+-- report, which the history tells where the world does, and whose output was printed. With a line
+-- that is not started as one that has ended well, its report is that of a legal run with one job,
+-- or of a cut one where the outside has ended it. Only lines with `+` are started. Each child that
+-- was started was taken in or given up.
 pub record IsDryRun (meaning : Meaning) (work : Work) (result : BuildResult) (first last : Moment)
     : Type 0 where
   pub tasks : run.Tasks

@@ -1,5 +1,6 @@
 -- A dry run as one list: what its report tells and what happened in the world, woven together.
-use Rattle.std.specs.Prelude.{ℕ, List, [], ◌∷◌, ◌++◌, map, get_or, Option, Some, None, Bool, not, ◌&&◌, if◌then◌else◌}
+use Rattle.std.specs.Prelude.{ℕ, List, [], ◌∷◌, ◌++◌, map, get_or, Option, Some, None, Bool, not}
+use Rattle.std.specs.Prelude.{◌&&◌, if◌then◌else◌}
 use Rattle.mk_bytes.specs.Bytes.{newline}
 use Rattle.mk_trace.specs.Items as build
 use Rattle.mk_trace.specs.Items.{Item, passes}
@@ -26,8 +27,8 @@ abbrev pub reported_all : List DryItem → List Event
 reported_all [] = []
 reported_all (item ∷ items) = reported item ++ reported_all items
 
--- What stands for it in a build: a line that is not started begins and ends there without a child, and
--- that a line is shown which is started next is passed over.
+-- What stands for it in a build: a line that is not started begins and ends there without a child,
+-- and that a line is shown which is started next is passed over.
 abbrev pub in_build : DryItem → List Item
 in_build (does item) = item ∷ []
 in_build (shows node number) = passes node number ∷ []

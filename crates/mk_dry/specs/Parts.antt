@@ -1,5 +1,6 @@
 -- What a part of a dry run comes to: the dry run goes on, or the outside has ended it.
-use Rattle.std.specs.Prelude.{◌≡◌, ℕ, ◌+◌, ◌<◌, List, [], length, set, Option, Some, true, false, Result, IfOk, IfErr}
+use Rattle.std.specs.Prelude.{◌≡◌, ℕ, ◌+◌, ◌<◌, List, [], length, set, Option, Some, true, false}
+use Rattle.std.specs.Prelude.{Result, IfOk, IfErr}
 use Rattle.mk_child.specs.declared.child.Place.{Place}
 use Rattle.mk_child.specs.declared.halt.Halt.{Halt}
 use Rattle.mk_decision.specs.Decisions.{Work, IsDecision}
@@ -15,7 +16,9 @@ use Rattle.mk_world.specs.Looks.{Seen}
 use Rattle.mk_world.specs.Talks.{Meaning}
 use Rattle.mk_world.specs.declared.command.TaskLine.{TaskLine}
 use Rattle.mk_world.specs.declared.history.History.{History}
-use Rattle.mk_dry.specs.Progress.{GoingAt, HaltedAt, HaltedIn, HasCome, InScene, IsAfter, IsAt, IsBehind, IsEnded, IsGoneThrough, IsOpenScene, OverAt, Scene, SeenAt, Standing, is_ready, work_in}
+use Rattle.mk_dry.specs.Progress.{GoingAt, HaltedAt, HaltedIn, HasCome, InScene, IsAfter, IsAt}
+use Rattle.mk_dry.specs.Progress.{IsBehind, IsEnded, IsGoneThrough, IsOpenScene, OverAt, Scene}
+use Rattle.mk_dry.specs.Progress.{SeenAt, Standing, is_ready, work_in}
 use Rattle.mk_dry.specs.Runs.{rules_of}
 use Rattle.mk_dry.specs.declared.course.Course.{Course}
 
@@ -25,8 +28,8 @@ pub record IsAlone (Runs : List ℕ → Type 0) (tickets : List ℕ) (room : ℕ
   pub none : tickets ≡ []
   pub has_room : 0 < room
 
--- In whatever scene it is, a part leads from what was so before it to what is so behind it, by what it gave;
--- or the outside has ended the dry run in it.
+-- In whatever scene it is, a part leads from what was so before it to what is so behind it, by what
+-- it gave; or the outside has ended the dry run in it.
 pub record Leads {S A : Type 0} (Before : S → Type 0) (Behind : A → S → Type 0) (Ended : Halt → S → Type 0)
     (result : Result A Halt) : Type 0 where
   pub goes : IfOk result (λ given. (scene : S) → Before scene → Behind given scene)
@@ -121,13 +124,15 @@ EndedFrom meaning now halt from =
     HaltedAt meaning from.start halt from.first (moment now.history now.out now.course.events.items)
 
 -- A part goes through a node.
-abbrev pub Passes : {A : Type 0} → Meaning → Made → Flags → ℕ → Point → Point → Result A Halt → Type 0
+abbrev pub Passes : {A : Type 0} → Meaning → Made → Flags → ℕ → Point → Point → Result A Halt
+    → Type 0
 Passes {A} meaning made flags node old new result =
     Leads (GoingFrom meaning made flags node old) (λ done. GoingFrom meaning made flags (node + 1) new)
     (EndedFrom meaning new) result
 
 -- A part goes through all nodes.
-abbrev pub PassesAll : {A : Type 0} → Meaning → Made → Flags → Point → Point → Result A Halt → Type 0
+abbrev pub PassesAll : {A : Type 0} → Meaning → Made → Flags → Point → Point → Result A Halt
+    → Type 0
 PassesAll {A} meaning made flags old new result =
     Leads (GoingFrom meaning made flags 0 old)
     (λ done from. OverAt meaning from.start new.history new.course from.first new.out)
@@ -140,13 +145,15 @@ DecidedFrom meaning made flags node decision now from =
     × SeenAt meaning from.start made flags now.history now.course node seen from.first now.out
 
 -- A part carries out the decision of a node, and gives how the node then stands.
-abbrev pub CarriesOut : Meaning → Made → Flags → ℕ → Decision → Point → Point → Result NodeState Halt → Type 0
+abbrev pub CarriesOut : Meaning → Made → Flags → ℕ → Decision → Point → Point
+    → Result NodeState Halt → Type 0
 CarriesOut meaning made flags node decision old new result =
     Leads (DecidedFrom meaning made flags node decision old)
     (λ stands from. IsAfter meaning from.start made flags new.history new.course node stands from.first
     new.out) (EndedFrom meaning new) result
 
--- The rules and how the nodes stand are as they were. How the node that was decided stands, is given.
+-- The rules and how the nodes stand are as they were. How the node that was decided stands, is
+-- given.
 pub record IsCarriedOut (made : Made) (flags : Flags) (old new : Course) (result : Result NodeState Halt)
     : Type 0
   where

@@ -1,12 +1,14 @@
 -- How far a dry run has come.
-use Rattle.std.specs.Prelude.{◌≡◌, ℕ, ◌+◌, ◌<◌, ◌≤◌, List, [], length, get_or, set, slice_get, Option, Some, None, Bool, true, false, ◌&&◌}
+use Rattle.std.specs.Prelude.{◌≡◌, ℕ, ◌+◌, ◌<◌, ◌≤◌, List, [], length, get_or, set, slice_get}
+use Rattle.std.specs.Prelude.{Option, Some, None, Bool, true, false, ◌&&◌}
 use Rattle.std.specs.List.{list_any}
 use Rattle.mk_decision.specs.Decisions.{Work, IsBegun}
 use Rattle.mk_decision.specs.Makers.{work_on}
 use Rattle.mk_flags.specs.declared.Flags.{Flags}
 use Rattle.mk_graph.specs.declared.Made.{Made}
 use Rattle.mk_graph.specs.Walks.{preds_of}
-use Rattle.mk_plan.specs.Deciding.{Rules, all_settled, is_failed, is_stopped, is_undecided, open_jobs}
+use Rattle.mk_plan.specs.Deciding.{Rules, all_settled, is_failed, is_stopped, is_undecided}
+use Rattle.mk_plan.specs.Deciding.{open_jobs}
 use Rattle.mk_plan.specs.declared.plan.NodeState.{NodeState}
 use Rattle.mk_plan.specs.declared.plan.NodeState.TheVariants.{Undecided, Open, Settled, Failed}
 use Rattle.mk_child.specs.Halts.{is_cut_by}
@@ -53,8 +55,8 @@ pub record SoFar (meaning : Meaning) (work : Work) (cut : Bool) (first now : Mom
   pub made : (tasks : run.Tasks) → HasTasks tasks known
       → IsMade work tasks cut first now items Stands
 
--- Between two nodes: these stand so, this was seen of the next one, by this work it is decided, and this
--- is the first failure.
+-- Between two nodes: these stand so, this was seen of the next one, by this work it is decided, and
+-- this is the first failure.
 pub record IsAt (nodes : List NodeState) (seen : List Seen) (work : Work)
     (failure : Option Failure) (tasks : run.Tasks) (dry : Dry) : Type 0 where
   pub nodes_are : dry.run.nodes ≡ nodes
@@ -64,9 +66,9 @@ pub record IsAt (nodes : List NodeState) (seen : List Seen) (work : Work)
   pub failed : dry.failure ≡ failure
   pub free : dry.announced ≡ None
 
--- What stands round the lines of a node: the dry run's work and its first moment, the tasks that are
--- known, the node with its lines, how the nodes stand while it is open, the work behind its first line, and the
--- first failure.
+-- What stands round the lines of a node: the dry run's work and its first moment, the tasks that
+-- are known, the node with its lines, how the nodes stand while it is open, the work behind its
+-- first line, and the first failure.
 pub record Scene : Type 0 where
   pub start : Work
   pub first : Moment
@@ -168,7 +170,8 @@ abbrev pub is_ready : Rules → List NodeState → ℕ → Bool
 is_ready rules nodes node =
     is_undecided (get_or nodes node Failed) && all_settled nodes (preds_of rules.before node)
 
--- The nodes up to a place were gone through: none of them is ready, and those from there on are undecided.
+-- The nodes up to a place were gone through: none of them is ready, and those from there on are
+-- undecided.
 pub record IsGoneThrough (rules : Rules) (nodes : List NodeState) (failure : Option Failure)
     (place : ℕ) : Type 0 where
   pub long : length nodes ≡ length rules.before
@@ -206,7 +209,8 @@ SeenAt meaning start made flags history course place seen first out =
     (IsAt course.nodes.items seen (work_in course made flags) course.failure)
 
 -- a node was decided, and stands so, which the driver does not yet keep
-abbrev pub IsAfter : Meaning → Work → Made → Flags → Option History → Course → ℕ → NodeState → Moment
+abbrev pub IsAfter : Meaning → Work → Made → Flags → Option History → Course → ℕ → NodeState
+    → Moment
     → Option (List ℕ) → Type 0
 IsAfter meaning start made flags history course place stands first out =
     (rules_of start ≡ rules_of (work_in course made flags))

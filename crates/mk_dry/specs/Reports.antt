@@ -1,5 +1,6 @@
 -- The report of a dry run, as that of a build.
-use Rattle.std.specs.Prelude.{◌≡◌, ℕ, List, [], ◌∷◌, ◌++◌, Option, Some, None, Bool, true, false, if◌then◌else◌}
+use Rattle.std.specs.Prelude.{◌≡◌, ℕ, List, [], ◌∷◌, ◌++◌, Option, Some, None, Bool, true, false}
+use Rattle.std.specs.Prelude.{if◌then◌else◌}
 use Rattle.mk_plan.specs.Deciding.{Rules}
 use Rattle.mk_trace.specs.Runs.{IsCutRun, IsLegalRun, Tasks, line_of}
 use Rattle.mk_trace.specs.declared.event.Event.{Event}
@@ -14,8 +15,8 @@ abbrev pub starts_line : Option TaskLine → Bool
 starts_line None = false
 starts_line (Some one) = is_started one
 
--- What stands in a build for an event: for a line that is shown and not started its start and an end with
--- status 0. That a line is shown which is started is passed over.
+-- What stands in a build for an event: for a line that is shown and not started its start and an
+-- end with status 0. That a line is shown which is started is passed over.
 abbrev pub stands_for : Tasks → Event → List Event
 stands_for tasks (Shown node number) =
     if starts_line (line_of (tasks node) number) then []
@@ -30,8 +31,8 @@ abbrev pub as_build : Tasks → List Event → List Event
 as_build tasks [] = []
 as_build tasks (event ∷ events) = stands_for tasks event ++ as_build tasks events
 
--- Each line that is started has `+`, and was shown directly before. The line that was shown last stands
--- first, where nothing is reported since.
+-- Each line that is started has `+`, and was shown directly before. The line that was shown last
+-- stands first, where nothing is reported since.
 abbrev pub AreAnnounced : Tasks → Option (ℕ × ℕ) → List Event → Type 0
 AreAnnounced tasks shown [] = Unit {0}
 AreAnnounced tasks shown (Start node number ∷ events) =

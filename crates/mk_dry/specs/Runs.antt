@@ -1,12 +1,14 @@
 -- What may follow in a dry run, and why each node is kept, refused or shown.
-use Rattle.std.specs.Prelude.{◌≡◌, ℕ, ◌==◌, List, [], ◌∷◌, ◌++◌, Option, Some, None, Bool, true, false, if◌then◌else◌}
+use Rattle.std.specs.Prelude.{◌≡◌, ℕ, ◌==◌, List, [], ◌∷◌, ◌++◌, Option, Some, None, Bool, true}
+use Rattle.std.specs.Prelude.{false, if◌then◌else◌}
 use Rattle.mk_decision.specs.Decisions.{Work, IsKept, IsBegun, IsRefused}
 use Rattle.mk_plan.specs.AsNew.{as_new}
 use Rattle.mk_plan.specs.Deciding.{Rules}
 use Rattle.mk_sched.specs.Schedule.{predecessors}
 use Rattle.mk_trace.specs.Builds.{IsCommandOf, failure_after}
 use Rattle.mk_trace.specs.Items as build
-use Rattle.mk_trace.specs.Items.{Item, looks, keeps, refuses, starts, passes, waits, steps, ends, changes, leaves}
+use Rattle.mk_trace.specs.Items.{Item, looks, keeps, refuses, starts, passes, waits, steps, ends}
+use Rattle.mk_trace.specs.Items.{changes, leaves}
 use Rattle.mk_trace.specs.Runs as run
 use Rattle.mk_trace.specs.declared.result.Failure.{Failure}
 use Rattle.mk_world.specs.Looks.{Seen}
@@ -21,8 +23,8 @@ rules_of work = record {
   keep_going = work.flags.keep_going;
 }
 
--- How a dry run stands: its run, what was seen since the last decision, what the next nodes are decided
--- by, the ticket of the last child, the first failure, and the line that was announced.
+-- How a dry run stands: its run, what was seen since the last decision, what the next nodes are
+-- decided by, the ticket of the last child, the first failure, and the line that was announced.
 pub record Dry : Type 0 where
   pub run : run.State
   pub seen : List Seen
@@ -123,8 +125,8 @@ dry_after_all rules tasks dry [] = dry
 dry_after_all rules tasks dry (item ∷ items) =
     dry_after_all rules tasks (dry_after rules tasks dry item) items
 
--- A line of a node may be shown where none is announced: its first one for the reason that the node is
--- out of date. It is one that is started, or is not.
+-- A line of a node may be shown where none is announced: its first one for the reason that the node
+-- is out of date. It is one that is started, or is not.
 pub record MayShow (tasks : run.Tasks) (dry : Dry) (node number : ℕ) (started : Bool) : Type 0 where
   pub free : dry.announced ≡ None
   pub reason : number ≡ 1 → IsBegun dry.work node dry.seen (tasks node)
@@ -132,8 +134,8 @@ pub record MayShow (tasks : run.Tasks) (dry : Dry) (node number : ℕ) (started 
   pub line : run.line_of (tasks node) number ≡ Some one
   pub is : is_started one ≡ started
 
--- Make looks only for the node that may be decided. A line is started directly behind its announcement,
--- with its command and for no owner. Make changes nothing itself.
+-- Make looks only for the node that may be decided. A line is started directly behind its
+-- announcement, with its command and for no owner. Make changes nothing itself.
 abbrev pub MayDo : Rules → run.Tasks → Dry → Item → Type 0
 MayDo rules tasks dry (looks node seen) = (dry.announced ≡ None) × run.MayDecide rules dry.run node
 MayDo rules tasks dry (keeps node) =

@@ -10,7 +10,8 @@ use Rattle.mk_world.specs.History.{state_of}
 use Rattle.mk_world.specs.Lawful.{IsLawful}
 use Rattle.mk_world.specs.Talks.{Meaning}
 use Rattle.mk_world.specs.declared.history.Happening.{Happening}
-use Rattle.mk_world.specs.declared.history.Happening.TheVariants.{Edit, Look, Stamp, Put, Gone, Ask, Start, Step, End, Left}
+use Rattle.mk_world.specs.declared.history.Happening.TheVariants.{Edit, Look, Stamp, Put, Gone, Ask}
+use Rattle.mk_world.specs.declared.history.Happening.TheVariants.{Start, Step, End, Left}
 use Rattle.mk_world.specs.declared.history.History.{History}
 use Rattle.mk_dry.specs.Items.{DryItem, in_build_all}
 use Rattle.mk_dry.specs.Runs.{Makes, first_dry, rules_of}
@@ -29,8 +30,8 @@ LeavesMetaFiles (Start ticket owner cmd) = Unit {0}
 LeavesMetaFiles (End ticket owner) = Unit {0}
 LeavesMetaFiles (Left ticket owner) = Unit {0}
 
--- Where meta files tell what happened before these items, they do so at every moment of them up to which no
--- child has changed a meta file.
+-- Where meta files tell what happened before these items, they do so at every moment of them up to
+-- which no child has changed a meta file.
 abbrev pub StaysTrue : Meaning → List DryItem → History → Type 0
 StaysTrue meaning items old =
     IsLawful meaning old → (state_of old).children ≡ [] → IsTrueHistory meaning.next old
@@ -41,5 +42,6 @@ StaysTrue meaning items old =
 abbrev pub DryRunsStayTrue : Type 0
 DryRunsStayTrue =
     (meaning : Meaning) (work : Work) (tasks : Tasks) (items : List DryItem) (old new : History)
-    → Makes (rules_of work) tasks (first_dry work) items → Happened meaning (in_build_all items) old new
+    → Makes (rules_of work) tasks (first_dry work) items
+    → Happened meaning (in_build_all items) old new
     → StaysTrue meaning items old

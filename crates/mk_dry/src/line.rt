@@ -40,7 +40,8 @@ fn is_started(line: &TaskLine) -> bool
     line.always && !line.text.is_empty()
 }
 
-// Starts a line that was announced, waits for its child, and writes what that has printed. Gives its status.
+// Starts a line that was announced, waits for its child, and writes what that has printed. Gives
+// its status.
 fn run_line<W: World, S: Sink>(
     alloc: Global,
     made: &Made,
@@ -71,7 +72,8 @@ fn run_line<W: World, S: Sink>(
     Ok(ended.status)
 }
 
-// Shows a line, and runs it where it always runs. Gives its status, which is 0 where it was not started.
+// Shows a line, and runs it where it always runs. Gives its status, which is 0 where it was not
+// started.
 fn show_line<W: World, S: Sink>(
     alloc: Global,
     made: &Made,
@@ -99,7 +101,8 @@ fn show_line<W: World, S: Sink>(
     Ok(0)
 }
 
-/// Shows the lines of a node in order, up to the first one that fails. Gives how the node then stands.
+/// Shows the lines of a node in order, up to the first one that fails. Gives how the node then
+/// stands.
 pub fn show_lines<W: World, S: Sink>(
     alloc: Global,
     made: &Made,

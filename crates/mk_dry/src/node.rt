@@ -1,7 +1,8 @@
 //! Nodes: each is decided, and is kept, refused or shown.
 ghost use Rattle.std.specs.Prelude.{◌≡◌, ◌+◌, ◌&&◌, length, get_or, not, IfOk, OnOk};
 ghost use Rattle.mk_child.specs.declared.halt.Halt.TheVariants as halts;
-ghost use Rattle.mk_dry.specs.Parts.{CarriesOut, IsAlone, IsCarriedOut, IsDue, IsGoneTo, IsNext, Passes, point};
+ghost use Rattle.mk_dry.specs.Parts.{CarriesOut, IsAlone, IsCarriedOut, IsDue, IsGoneTo, IsNext};
+ghost use Rattle.mk_dry.specs.Parts.{Passes, point};
 ghost use Rattle.mk_dry.specs.Progress.{is_there};
 ghost use Rattle.mk_plan.specs.Deciding as spec;
 ghost use Rattle.mk_plan.specs.declared.plan.NodeState.TheVariants as states;
@@ -124,8 +125,8 @@ fn make_node<W: World, S: Sink>(
     Ok(())
 }
 
-/// Goes through the next node: it is decided where all that it waits for is settled, and passed over where
-/// not.
+/// Goes through the next node: it is decided where all that it waits for is settled, and passed
+/// over where not.
 pub fn pass_node<W: World, S: Sink>(
     alloc: Global,
     made: &Made,

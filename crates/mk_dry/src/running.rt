@@ -123,18 +123,18 @@ fn no_memory(alloc: Global) -> BuildEnd
     }
 }
 
-/// Shows what a build of this plan would do. In the order of the plan each node is decided as a build decides
-/// it, behind those that it waits for, and the lines of one that is out of date are printed. A node that was shown
-/// counts as new for all that is made from it. Only a line with `+` is started, directly behind its
-/// printing; it is waited for, and what it printed is written. Make itself changes no file. Behind the
-/// first line that fails or cannot be expanded nothing more is shown, or, with `-k`, nothing of what
-/// depends on it.
+/// Shows what a build of this plan would do. In the order of the plan each node is decided as a
+/// build decides it, behind those that it waits for, and the lines of one that is out of date are
+/// printed. A node that was shown counts as new for all that is made from it. Only a line with `+`
+/// is started, directly behind its printing; it is waited for, and what it printed is written. Make
+/// itself changes no file. Behind the first line that fails or cannot be expanded nothing more is
+/// shown, or, with `-k`, nothing of what depends on it.
 ///
-/// With a line that is not started as one that has ended well, the report's events are a cut run with one
-/// job, and a legal run where the outside did not end the dry run. There is one list of items, of which the
-/// events are one side, and what happened in the world, where it tells, the other; each item has its
-/// reason. Standard output gains what is shown and what the children print. `World` and `Sink` come only where
-/// that object's count of faults rose.
+/// With a line that is not started as one that has ended well, the report's events are a cut run
+/// with one job, and a legal run where the outside did not end the dry run. There is one list of
+/// items, of which the events are one side, and what happened in the world, where it tells, the
+/// other; each item has its reason. Standard output gains what is shown and what the children
+/// print. `World` and `Sink` come only where that object's count of faults rose.
 pub fn dry_run<W: World, S: Sink>(
     alloc: Global,
     plan: Plan,

@@ -25,8 +25,9 @@ makefile = codes ".MAKE.MODE=meta curdirOk=yes missing-meta=yes missing-filemon=
 abbrev pub env : Env
 env = record { vars = []; cwd = codes "/w"; program = codes "bmake" }
 
--- Before a run the makefile and its source stand, no child runs, the history is one that may have come about, and each
--- meta file that stands tells what happened. Anything else may stand, and anything may have been built and edited.
+-- Before a run the makefile and its source stand, no child runs, the history is one that may have
+-- come about, and each meta file that stands tells what happened. Anything else may stand, and
+-- anything may have been built and edited.
 pub record IsReady (bytes : List ℕ) (old : History) : Type 0 where
   pub makefile_is : files_of old (codes "makefile") ≡ Some makefile
   pub source_is : files_of old (codes "a") ≡ Some bytes
@@ -34,8 +35,8 @@ pub record IsReady (bytes : List ℕ) (old : History) : Type 0 where
   pub idle : (state_of old).children ≡ []
   pub truth : IsTrueHistory language.next old
 
--- Behind a run the target is a copy of the source, the makefile and the source are as they were, the history is one that
--- may have come about, and each meta file that stands tells what happened.
+-- Behind a run the target is a copy of the source, the makefile and the source are as they were,
+-- the history is one that may have come about, and each meta file that stands tells what happened.
 pub record IsCopied (bytes : List ℕ) (new : History) : Type 0 where
   pub target_is : files_of new (codes "t") ≡ Some bytes
   pub makefile_is : files_of new (codes "makefile") ≡ Some makefile
@@ -66,19 +67,22 @@ NewWorldsAreReady = (bytes : List ℕ) → IsReady bytes (new_world bytes)
 abbrev pub edited : History → List ℕ → ℕ → History
 edited new newer time = longer new (Edit (codes "a") (Some newer) time ∷ [])
 
--- Where the source is changed behind a run, and not earlier than all else was, the world is ready for the next one.
+-- Where the source is changed behind a run, and not earlier than all else was, the world is ready
+-- for the next one.
 abbrev pub EditedWorldsAreReady : Type 0
 EditedWorldsAreReady =
-    (bytes newer : List ℕ) (new : History) (time : ℕ) → IsCopied bytes new → (state_of new).children ≡ []
+    (bytes newer : List ℕ) (new : History) (time : ℕ) → IsCopied bytes new
+    → (state_of new).children ≡ []
     → (state_of new).clock ≤ time → IsReady newer (edited new newer time)
 
--- So a run, a change of the source and a second run leave a copy of the source as it was changed, at whatever time: also
--- at that of the last write of the first run.
+-- So a run, a change of the source and a second run leave a copy of the source as it was changed,
+-- at whatever time: also at that of the last write of the first run.
 abbrev pub CopiesAreRightAgain : Type 0
 CopiesAreRightAgain =
     (bytes newer : List ℕ) (old mid new : History) (time : ℕ) (out out_mid out_again out_after : Option (List ℕ))
     (err err_again : Held) (report again : Report) → IsReady bytes old
-    → IsRun language [] env (point (Some old) out) (point (Some mid) out_mid) err report → report.end ≡ Done
+    → IsRun language [] env (point (Some old) out) (point (Some mid) out_mid) err report
+    → report.end ≡ Done
     → (state_of mid).children ≡ [] → (state_of mid).clock ≤ time
     → IsRun language [] env (point (Some (edited mid newer time)) out_again) (point (Some new) out_after) err_again again
     → again.end ≡ Done → IsCopied newer new
@@ -97,8 +101,10 @@ one_time bytes = record {
 abbrev pub ChangesMayShareATime : Type 0
 ChangesMayShareATime = (bytes : List ℕ) → IsLawful language (one_time bytes)
 
--- Where the makefile and its source stand, the files are plain, and so they are sound, whatever else stands there.
+-- Where the makefile and its source stand, the files are plain, and so they are sound, whatever
+-- else stands there.
 abbrev pub CopiedFilesAreSound : Type 0
 CopiedFilesAreSound =
-    (bytes : List ℕ) (files : Store) → files (codes "makefile") ≡ Some makefile → files (codes "a") ≡ Some bytes
+    (bytes : List ℕ) (files : Store) → files (codes "makefile") ≡ Some makefile
+    → files (codes "a") ≡ Some bytes
     → AreSound language env no_order files

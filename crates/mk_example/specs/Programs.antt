@@ -1,5 +1,6 @@
--- A makefile of a program with a phony target, a header that is generated, two objects, a scratch file, a job of two
--- lines and one that looks for a file which is missing; and what its runs with four jobs at once leave.
+-- A makefile of a program with a phony target, a header that is generated, two objects, a scratch
+-- file, a job of two lines and one that looks for a file which is missing; and what its runs with
+-- four jobs at once leave.
 use Rattle.std.specs.Prelude.{◌≡◌, ℕ, ◌≤◌, List, [], ◌∷◌, ◌++◌, Option, Some, None, codes}
 use Rattle.mk_cli.specs.Orders.{no_order}
 use Rattle.mk_cli.specs.declared.order.Order.{Order}
@@ -58,10 +59,11 @@ pub record HasSources (s : Sources) (files : Store) : Type 0 where
 
 -- All that is asked of makefiles and files holds of these.
 abbrev pub SourcesAreSound : Type 0
-SourcesAreSound = (s : Sources) (files : Store) → HasSources s files → AreSound language env order files
+SourcesAreSound = (s : Sources) (files : Store) → HasSources s files
+    → AreSound language env order files
 
--- Before a run: the files stand, and the history is one that may have come about, in which no child runs and each meta
--- file that stands tells what happened. Anything may have been built and edited.
+-- Before a run: the files stand, and the history is one that may have come about, in which no child
+-- runs and each meta file that stands tells what happened. Anything may have been built and edited.
 pub record MayRun (s : Sources) (old : History) : Type 0 where
   pub files : HasSources s (files_of old)
   pub start : IsTrueStart language old
@@ -117,10 +119,12 @@ with_edit old which bytes time = longer old (Edit (path_of which) (Some bytes) t
 abbrev pub ProgramEditsMayFollow : Type 0
 ProgramEditsMayFollow =
     (s : Sources) (which : Source) (bytes : List ℕ) (old : History) (time : ℕ) → MayRun s old
-    → (state_of old).clock ≤ time → MayRun (with_source which bytes s) (with_edit old which bytes time)
+    → (state_of old).clock ≤ time
+    → MayRun (with_source which bytes s) (with_edit old which bytes time)
 
--- So a run with whatever end, an edit of a source at whatever later time, and a run that ends with all made leave the
--- program of the sources as they were edited: nothing is asked of them but their bytes.
+-- So a run with whatever end, an edit of a source at whatever later time, and a run that ends with
+-- all made leave the program of the sources as they were edited: nothing is asked of them but their
+-- bytes.
 abbrev pub ProgramsAreRightAgain : Type 0
 ProgramsAreRightAgain =
     (s : Sources) (which : Source) (bytes : List ℕ) (mid new : History) (time : ℕ)

@@ -1,5 +1,6 @@
-//! Two makefiles in the world in memory, of one target and of a program, for which all that is asked of a run is shown: so
-//! what runs of them leave follows from the contract of the top call alone, whatever was edited and built before.
+//! Two makefiles in the world in memory, of one target and of a program, for which all that is
+//! asked of a run is shown: so what runs of them leave follows from the contract of the top call
+//! alone, whatever was edited and built before.
 //!
 //! No code stands here but the laws, each the contract of a function.
 #![tactic(auto)]

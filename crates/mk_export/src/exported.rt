@@ -6,8 +6,8 @@ use mk_world::SharedPairs;
 use std::alloc::Global;
 use std::marker::Model;
 
-/// Exported variables with their values, in the order of their names, each name once. Contracts see the
-/// list of pairs.
+/// Exported variables with their values, in the order of their names, each name once. Contracts see
+/// the list of pairs.
 #[derive(Drop)]
 pub struct Exported {
     pairs: SharedPairs,

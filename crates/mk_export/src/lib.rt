@@ -1,5 +1,5 @@
-//! Exported variables, which commands find in their environment (make(1), `.export`): the names so far,
-//! and the values that commands are given.
+//! Exported variables, which commands find in their environment (make(1), `.export`): the names so
+//! far, and the values that commands are given.
 #![tactic(auto)]
 
 mod exported;

@@ -184,8 +184,8 @@ lines_logged cwd dirs (line ∷ lines) =
 abbrev pub all_logged : List ℕ → List ℕ → List Op
 all_logged cwd log = lines_logged cwd no_directories (slice_split is_newline log)
 
--- What a path takes: its bytes, those of its directory where it is relative, and what stands around a
--- path in the records of a meta file.
+-- What a path takes: its bytes, those of its directory where it is relative, and what stands around
+-- a path in the records of a meta file.
 abbrev pub path_size : List ℕ → List ℕ → ℕ
 path_size dir path = length (against dir path) + 16
 
@@ -223,7 +223,7 @@ abbrev pub records_within : List ℕ → List ℕ → Option (List Op)
 records_within cwd log =
     if nat_le (size_of cwd log) max_size then Some (all_logged cwd log) else None
 
--- The records of a log, which is none where a recorder's part of it is not whole, or where its lines
--- take too much.
+-- The records of a log, which is none where a recorder's part of it is not whole, or where its
+-- lines take too much.
 abbrev pub logged : List ℕ → List ℕ → Option (List Op)
 logged cwd log = if is_whole log then records_within cwd log else None

@@ -1,6 +1,7 @@
 -- The parts of a log that recorders write, each between a line that names its recorder and one that
 -- counts its lines, after the end of filemon(4)'s logs.
-use Rattle.std.specs.Prelude.{ℕ, Bool, true, false, not, ◌&&◌, ◌||◌, ◌==◌, ◌+◌, nat_eq, List, [], ◌∷◌}
+use Rattle.std.specs.Prelude.{ℕ, Bool, true, false, not, ◌&&◌, ◌||◌, ◌==◌, ◌+◌, nat_eq, List, []}
+use Rattle.std.specs.Prelude.{◌∷◌}
 use Rattle.std.specs.Prelude.{Option, Some, None, option_and_then, drop, codes, if◌then◌else◌}
 use Rattle.std.specs.List.{slice_split, starts_with}
 use Rattle.std.specs.Str.{bytes_eq}
@@ -64,8 +65,9 @@ are_whole part [] = true
 are_whole part (last ∷ []) = may_end part last
 are_whole part (line ∷ next ∷ lines) = are_whole (after_line part line) (next ∷ lines)
 
--- A log is whole where something stands in it, and each part that a recorder began in it has its end,
--- with the count of its lines. Lines outside of such parts, as in a log without any, are as they are.
+-- A log is whole where something stands in it, and each part that a recorder began in it has its
+-- end, with the count of its lines. Lines outside of such parts, as in a log without any, are as
+-- they are.
 abbrev pub is_whole : List ℕ → Bool
 is_whole log =
     not (bytes_eq log []) && are_whole Outside (slice_split is_newline log)

@@ -1,5 +1,6 @@
 -- The records of steps against the steps themselves.
-use Rattle.std.specs.Prelude.{◌≡◌, ◌↔◌, ℕ, Bool, true, false, List, [], ◌∷◌, map, Option, Some, None}
+use Rattle.std.specs.Prelude.{◌≡◌, ◌↔◌, ℕ, Bool, true, false, List, [], ◌∷◌, map, Option, Some}
+use Rattle.std.specs.Prelude.{None}
 use Rattle.std.specs.List.{Contains}
 use Rattle.mk_world.specs.Records.{op_of, EachLook, Tell}
 use Rattle.mk_world.specs.Deeds.{Store}
@@ -34,8 +35,8 @@ abbrev pub IsToldBy : List Op → List ℕ → Option (List ℕ) → Type 0
 IsToldBy records path (Some bytes) = Contains (outer_found records) path
 IsToldBy records path None = Contains (outer_missed records) path
 
--- By records that tell of steps each look of the steps at a path that no earlier one of them has changed is
--- among the outer reads, as it was.
+-- By records that tell of steps each look of the steps at a path that no earlier one of them has
+-- changed is among the outer reads, as it was.
 abbrev pub TellLooks : Type 0
 TellLooks =
     (records : List Op) (deeds : List Deed) → Tell records deeds

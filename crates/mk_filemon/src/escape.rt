@@ -1,5 +1,6 @@
 //! Texts on one line, with escapes.
-ghost use Rattle.std.specs.Prelude.{◌≡◌, ◌<◌, ◌≤◌, ◌++◌, ◌==◌, length, take, take_while, drop, true, false, position, IfOk};
+ghost use Rattle.std.specs.Prelude.{◌≡◌, ◌<◌, ◌≤◌, ◌++◌, ◌==◌, length, take, take_while, drop};
+ghost use Rattle.std.specs.Prelude.{true, false, position, IfOk};
 ghost use Rattle.std.specs.Prelude.{IfSome, OnOk, OnErr};
 ghost use Rattle.std.specs.Option.{option_map};
 ghost use Rattle.mk_filemon.specs.Escapes as spec;

@@ -4,9 +4,9 @@ ghost use Rattle.mk_filemon.specs.Steps.{TellOuterReads, TellLooks, TellWritten,
 use mk_world::{World, same_doing};
 
 /// The outer reads of the records of steps are what the steps took from outside themselves. By all
-/// records that tell of steps each look at a path that no earlier step had changed is among those that
-/// were found, where a file stood there, and among those that were missed, where none did. A path is
-/// left written by the records of steps exactly where the steps left a file there.
+/// records that tell of steps each look at a path that no earlier step had changed is among those
+/// that were found, where a file stood there, and among those that were missed, where none did. A
+/// path is left written by the records of steps exactly where the steps left a file there.
 pub fn records_tell_of_steps()
     ensures outer { TellOuterReads }
     ensures looks { TellLooks }

@@ -16,8 +16,8 @@
 //! | `C p path` | its directory is now this one |
 //! | `F p q` | it started process q, which has its directory |
 //!
-//! A recorder may write its part of a log between two lines of its own, so that a log which was cut is
-//! never taken for a whole one:
+//! A recorder may write its part of a log between two lines of its own, so that a log which was cut
+//! is never taken for a whole one:
 //!
 //! | Line | Meaning |
 //! |---|---|

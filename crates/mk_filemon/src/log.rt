@@ -240,12 +240,12 @@ fn read_all(alloc: Global, log: &[u8], cwd: &[u8]) -> Result<Option<Ops>, NoMemo
 ///
 /// `None` where the log is empty, or not whole: a part of it that begins with a line that names its
 /// recorder, as `# recorder NAME`, ends with `# Bye bye PROCESS STATUS COUNT` and a newline, where
-/// COUNT is the number of lines between these two, and no log counts that was cut inside of one. Logs
-/// without such a line, as plain ones of filemon(4), are taken as they are.
+/// COUNT is the number of lines between these two, and no log counts that was cut inside of one.
+/// Logs without such a line, as plain ones of filemon(4), are taken as they are.
 ///
 /// `None` also where the log's paths take more than 33,554,432 bytes: each its own, those of the
-/// directory of its process where it is relative, and 16 more. The two of a move and of a link count as
-/// long as both together.
+/// directory of its process where it is relative, and 16 more. The two of a move and of a link
+/// count as long as both together.
 pub fn read_log(alloc: Global, log: &[u8], cwd: &[u8]) -> Result<Option<Ops>, NoMemory>
     ensures { IfOk result (λ ops. ops ≡ spec.logged cwd.now log.now) }
 {

@@ -123,8 +123,9 @@ fn are_whole(log: &[u8]) -> bool
 }
 
 /// Whether a log is whole: something stands in it, and each part that a recorder began in it, by a
-/// line `# recorder NAME`, has its end, a line `# Bye bye PROCESS STATUS COUNT` with the number of the
-/// lines between these two. A log without such parts is whole. Takes no memory; the time is linear.
+/// line `# recorder NAME`, has its end, a line `# Bye bye PROCESS STATUS COUNT` with the number of
+/// the lines between these two. A log without such parts is whole. Takes no memory; the time is
+/// linear.
 pub fn is_whole(log: &[u8]) -> bool
     ensures { result ≡ spec.is_whole log.now }
 {

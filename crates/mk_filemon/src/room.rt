@@ -27,8 +27,8 @@ fn behind_path(room: usize, directory: &[u8], path: &[u8]) -> Option<usize>
     behind(left, directory, 1)
 }
 
-/// What is left of a room behind a line of a process with this directory; `None` where the line takes
-/// more.
+/// What is left of a room behind a line of a process with this directory; `None` where the line
+/// takes more.
 pub fn behind_line(room: usize, kind: Kind, directory: &[u8], text: &[u8]) -> Option<usize>
     ensures fits { IfSome result (λ left. left + spec.size_by kind directory.now text.now ≡ room) }
     ensures not { IfNone result (room < spec.size_by kind directory.now text.now) }

@@ -98,8 +98,8 @@ fn tells(asked: Asked, trace: Trace) -> bool
     }
 }
 
-/// The paths that records name, in the order of first record, each with its trace. The paths are lent
-/// by the records. One more record takes about constant time.
+/// The paths that records name, in the order of first record, each with its trace. The paths are
+/// lent by the records. One more record takes about constant time.
 #[derive(Drop)]
 pub struct Traces<'r> {
     traces: IndexMap<&'r [u8], Trace>,

@@ -1,5 +1,6 @@
 -- What is told of a run inside: how many targets it has started and kept.
-use Rattle.std.specs.Prelude.{ℕ, Bool, false, ◌==◌, ◌&&◌, List, [], ◌∷◌, ◌++◌, length, map, get_or, unwrap_or, count_by, sum_by, codes, decimal}
+use Rattle.std.specs.Prelude.{ℕ, Bool, false, ◌==◌, ◌&&◌, List, [], ◌∷◌, ◌++◌, length, map, get_or}
+use Rattle.std.specs.Prelude.{unwrap_or, count_by, sum_by, codes, decimal}
 use Rattle.mk_modes.specs.declared.report.Report.{Report}
 use Rattle.mk_trace.specs.declared.event.Event.{Event}
 use Rattle.mk_trace.specs.declared.event.Event.TheVariants.{Kept, Refused, Shown, Start, End, Wait}

@@ -35,8 +35,8 @@ pub record TellsNothing (n : ℕ) (out : Held) (end : End) : Type 0 where
 abbrev pub Generates : ℕ → Held → End → Type 0
 Generates n out end = TellsNothing n out end ⊎ Tells n out end
 
--- A run that builds nothing but in a generated world: that which it was given stays as it was. Standard error
--- gains the line of the end.
+-- A run that builds nothing but in a generated world: that which it was given stays as it was.
+-- Standard error gains the line of the end.
 pub record IsGenerated (n : ℕ) (words : List (List ℕ)) (first last : Point) (err : Held)
     (report : Report) : Type 0
   where

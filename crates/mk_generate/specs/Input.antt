@@ -1,5 +1,5 @@
--- The files of a generated world: a makefile with so many targets, each made from two sources, and the
--- sources.
+-- The files of a generated world: a makefile with so many targets, each made from two sources, and
+-- the sources.
 use Rattle.std.specs.Prelude.{ℕ, ◌+◌, ◌*◌, ◌%◌, List, [], ◌∷◌, ◌++◌, map, codes, decimal}
 use Rattle.std.specs.List.{concat, range_with_len}
 use Rattle.mk_bytes.specs.Bytes.{newline, space, tab}

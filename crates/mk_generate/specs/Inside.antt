@@ -41,15 +41,15 @@ env = record { vars = []; cwd = codes "/w"; program = codes "bmake" }
 abbrev pub request : Request
 request = record { words = words; order = order; env = env }
 
--- A world with the generated files, in which nothing has happened, children run one after the other, and no
--- call is to fail.
+-- A world with the generated files, in which nothing has happened, children run one after the
+-- other, and no call is to fail.
 pub record IsNew (n : ℕ) (world : MemWorld) : Type 0 where
   pub history : world.chronicle ≡ record { base = base_of (files_of n); events = [] }
   pub outages : world.outages ≡ first_outages []
   pub schedule : world.schedule ≡ record { numbers = []; ended = [] }
 
--- A run inside, with sinks of its own, which hold nothing before it. It ends with a fault of the outside
--- only where the count of this world or of one of these sinks rose.
+-- A run inside, with sinks of its own, which hold nothing before it. It ends with a fault of the
+-- outside only where the count of this world or of one of these sinks rose.
 pub record RunsInside (old new : MemWorld) (report : Report) : Type 0 where
   pub out : MemSink
   pub err : MemSink

@@ -33,9 +33,10 @@ fn tell<S: Sink>(alloc: Global, n: u32, twice: &Twice, out: &mut S) -> End
     End::Done
 }
 
-/// Runs twice in a world in memory with `n` generated targets, of which a source is changed in between, and tells on
-/// `out` what was done there. `Done` where all is told; else the end of what did not come to that: `NoMemory`, an end
-/// of a run inside, `WorldFault` where the source cannot be changed, and `SinkFault` where a write on `out` failed.
+/// Runs twice in a world in memory with `n` generated targets, of which a source is changed in
+/// between, and tells on `out` what was done there. `Done` where all is told; else the end of what
+/// did not come to that: `NoMemory`, an end of a run inside, `WorldFault` where the source cannot
+/// be changed, and `SinkFault` where a write on `out` failed.
 pub fn generate<S: Sink>(alloc: Global, n: u32, out: &mut S) -> End
     ensures generates { Generates n
         (record { before = S.held out.old; after = S.held out.new }) result }

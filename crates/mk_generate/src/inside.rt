@@ -2,7 +2,8 @@
 ghost use Rattle.std.specs.Prelude.{◌≡◌, ◌⊎◌, [], IfOk, IfErr, OnOk};
 ghost use Rattle.mk_world.specs.History.{state_of, tickets_of};
 ghost use Rattle.mk_generate.specs.Inside as spec;
-ghost use Rattle.mk_modes.specs.declared.report.End.TheVariants.{Done as done, NoMemory as no_memory};
+ghost use Rattle.mk_modes.specs.declared.report.End.TheVariants.{Done as done};
+ghost use Rattle.mk_modes.specs.declared.report.End.TheVariants.{NoMemory as no_memory};
 
 use crate::input::files;
 use mk_bytes::{Items, NoMemory, Text, Texts};

@@ -1,5 +1,5 @@
-//! The runs that `--generate` asks for: a world in memory with generated targets, in which all is built, a source is
-//! changed, and all is built again; and what is told of these runs.
+//! The runs that `--generate` asks for: a world in memory with generated targets, in which all is
+//! built, a source is changed, and all is built again; and what is told of these runs.
 #![tactic(auto)]
 
 mod counts;

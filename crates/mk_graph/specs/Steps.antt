@@ -82,7 +82,8 @@ pub record IsFit (count : ℕ) (state : State) : Type 0 where
   pub below : AreBelow count state.rest
 
 -- what is left of a walk, where these nodes are done, comes to the same as the whole walk
-pub record Leads (preds : List (List ℕ)) (done : List ℕ) (state : State) (whole : Walked) : Type 0 where
+pub record Leads (preds : List (List ℕ)) (done : List ℕ) (state : State) (whole : Walked)
+    : Type 0 where
   pub room : ℕ
   pub rooms : room + length state.path ≡ suc (length preds)
   pub apart : AreApart state.path

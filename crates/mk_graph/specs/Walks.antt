@@ -1,5 +1,6 @@
 -- A depth-first walk from nodes to their predecessors, and the first closed walk that it meets.
-use Rattle.std.specs.Prelude.{ℕ, zero, suc, Bool, List, [], ◌∷◌, ◌++◌, length, get_or, nat_eq, reverse}
+use Rattle.std.specs.Prelude.{ℕ, zero, suc, Bool, List, [], ◌∷◌, ◌++◌, length, get_or, nat_eq}
+use Rattle.std.specs.Prelude.{reverse}
 use Rattle.std.specs.Prelude.{Option, Some, None, Result, Ok, Err, if◌then◌else◌}
 use Rattle.std.specs.List.{list_any}
 use Rattle.mk_bytes.specs.Agrees.{◌>>=◌}

@@ -40,7 +40,7 @@ pub enum Attr {
 }
 
 /// The attributes of a node, each by itself.
-#[derive(Clone, Copy)]
+#[derive(Clone, Copy, PartialEq, Eq)]
 pub struct Marks {
     pub phony: bool,
     pub exec: bool,

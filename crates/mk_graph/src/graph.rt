@@ -1,4 +1,5 @@
-ghost use Rattle.std.specs.Prelude.{◌≡◌, ◌↔◌, ◌<◌, [], ◌∷◌, ◌++◌, false, length, is_some, Some, IsTrue, IsOk, IfOk, IfSome, OnOk, OnErr, IsErrOf};
+ghost use Rattle.std.specs.Prelude.{◌≡◌, ◌↔◌, ◌<◌, [], ◌∷◌, ◌++◌, false, length, is_some, Some};
+ghost use Rattle.std.specs.Prelude.{IsTrue, IsOk, IfOk, IfSome, OnOk, OnErr, IsErrOf};
 ghost use Rattle.mk_graph.specs.Macros.{graph_with_macros};
 ghost use Rattle.mk_graph.specs.Marks.{has};
 ghost use Rattle.mk_graph.specs.Nodes as spec;
@@ -35,7 +36,8 @@ impl Model for Graph {
     ghost invariant = { λ graph. IsHeld graph.names graph.nodes.items };
 }
 
-// Adds a text at the end. The first one takes room for itself alone, since most nodes have no other.
+// Adds a text at the end. The first one takes room for itself alone, since most nodes have no
+// other.
 fn add_text(alloc: Global, texts: &mut Texts, text: Text) -> Result<(), NoMemory>
     ensures ok { OnOk result (texts.new ≡ texts.old ++ text ∷ []) }
     ensures err { OnErr result (texts.new ≡ texts.old) }

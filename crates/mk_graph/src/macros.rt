@@ -1,5 +1,6 @@
 //! Macros, the nodes with `.USE` or `.USEBEFORE` (make(1), "SPECIAL SOURCES (ATTRIBUTES)").
-ghost use Rattle.std.specs.Prelude.{◌≡◌, ◌+◌, ◌<◌, ◌≤◌, ℕ, suc, [], ◌++◌, length, get_or, is_some, IfOk, OnOk, OnErr};
+ghost use Rattle.std.specs.Prelude.{◌≡◌, ◌+◌, ◌<◌, ◌≤◌, ℕ, suc, [], ◌++◌, length, get_or, is_some};
+ghost use Rattle.std.specs.Prelude.{IfOk, OnOk, OnErr};
 ghost use Rattle.std.specs.List.{list_any};
 ghost use Rattle.mk_graph.specs.Macros as macros;
 ghost use Rattle.mk_graph.specs.Numbers.{AreBelow};

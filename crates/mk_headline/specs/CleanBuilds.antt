@@ -10,8 +10,9 @@ use Rattle.mk_trace.specs.declared.result.BuildResult.TheVariants.{Done}
 use Rattle.mk_world.specs.Talks.{Meaning}
 use Rattle.mk_world.specs.Told.{Told}
 
--- A build with this result, whose meta files stay true. Where it began in meta mode, with what its jobs read
--- and change declared, and all is made, it leaves what the clean build of its plan and tasks leaves.
+-- A build with this result, whose meta files stay true. Where it began in meta mode, with what its
+-- jobs read and change declared, and all is made, it leaves what the clean build of its plan and
+-- tasks leaves.
 pub record IsCleanBuild (meaning : Meaning) (work : Work) (result : BuildResult) (first last : Moment)
     : Type 0
   where

@@ -11,7 +11,8 @@ use Rattle.mk_trace.specs.Builds.{IsBuild, Makes, Moment, first_build, build_aft
 use Rattle.mk_trace.specs.Calls.{GivesUpLast}
 use Rattle.mk_trace.specs.Ends.{IsOver}
 use Rattle.mk_decision.specs.Makers.{jobs_of}
-use Rattle.mk_trace.specs.Items.{Item, looks, keeps, refuses, starts, passes, waits, steps, ends, changes, leaves, Happened}
+use Rattle.mk_trace.specs.Items.{Item, looks, keeps, refuses, starts, passes, waits, steps, ends}
+use Rattle.mk_trace.specs.Items.{changes, leaves, Happened}
 use Rattle.mk_trace.specs.Runs.{Tasks}
 use Rattle.mk_trace.specs.TrueBuilds.{IsApart}
 use Rattle.mk_world.specs.History.{files_of, state_of}
@@ -27,8 +28,8 @@ use Rattle.mk_plan.specs.declared.plan.NodeState.TheVariants.{Settled}
 use Rattle.mk_headline.specs.Premises.{IsWellMade, GoesByMetaMode}
 use Rattle.mk_headline.specs.Turned.{AreTurned}
 
--- the turns of a build, each of which may follow those before it, and which leave the files as the build
--- does
+-- the turns of a build, each of which may follow those before it, and which leave the files as the
+-- build does
 pub record IsBuildOfTurns (meaning : Meaning) (work : Work) (tasks : Tasks) (items : List Item)
     (old new : History) : Type 0
   where
@@ -37,18 +38,20 @@ pub record IsBuildOfTurns (meaning : Meaning) (work : Work) (tasks : Tasks) (ite
     pub may : MayTurns meaning (clean_plan work tasks) (turn.first_build (files_of old)) turns
     pub files : (turn.after_turns (clean_plan work tasks) (turn.first_build (files_of old)) turns).files
         ≡ files_of new
-    -- a node that is settled in the build is so in the turns, unless a failure has stopped the run, behind
-    -- which a job ends with its next line
+    -- a node that is settled in the build is so in the turns, unless a failure has stopped the run,
+    -- behind which a job ends with its next line
     pub settled_are : is_stopped (rules_of work)
         (build_after_all work tasks (first_build work) items).run.nodes ≡ false → (node : ℕ)
-        → slice_get (build_after_all work tasks (first_build work) items).run.nodes node ≡ Some Settled
+        → slice_get (build_after_all work tasks (first_build work) items).run.nodes node
+        ≡ Some Settled
         → (turn.after_turns (clean_plan work tasks) (turn.first_build (files_of old)) turns).stage node
         ≡ turn.settled
 
 -- no node with commands is kept
 abbrev pub KeepsNoJob : Work → List Item → Type 0
 KeepsNoJob work [] = Unit {0}
-KeepsNoJob work (keeps node ∷ items) = (has_job (node_at work.plan node) ≡ false) × KeepsNoJob work items
+KeepsNoJob work (keeps node ∷ items) = (has_job (node_at work.plan node) ≡ false)
+    × KeepsNoJob work items
 KeepsNoJob work (looks node seen ∷ items) = KeepsNoJob work items
 KeepsNoJob work (refuses node number what ∷ items) = KeepsNoJob work items
 KeepsNoJob work (starts node number ticket owner cmd ∷ items) = KeepsNoJob work items
@@ -67,8 +70,8 @@ FirstBuildsAreTurns =
     → Makes work tasks (first_build work) items → Happened meaning items old new → GivesUpLast items
     → IsBuildOfTurns meaning work tasks items old new
 
--- A build in meta mode is one of turns, whichever nodes it has kept, whatever has failed so far, and
--- whichever children were given up.
+-- A build in meta mode is one of turns, whichever nodes it has kept, whatever has failed so far,
+-- and whichever children were given up.
 abbrev pub BuildsAreTurns : Type 0
 BuildsAreTurns =
     (meaning : Meaning) (work : Work) (tasks : Tasks) (items : List Item) (old new : History)
@@ -78,10 +81,11 @@ BuildsAreTurns =
     → Makes work tasks (first_build work) items → Happened meaning items old new → GivesUpLast items
     → IsBuildOfTurns meaning work tasks items old new
 
--- A build begins so: where no child runs, in a history that may have come about, in which each meta file that
--- stands tells what happened. The plan is well made, the build goes by meta mode, and what the jobs of the
--- clean build read and change is declared.
-pub record IsReadyBuild (meaning : Meaning) (work : Work) (tasks : Tasks) (old : History) : Type 0 where
+-- A build begins so: where no child runs, in a history that may have come about, in which each meta
+-- file that stands tells what happened. The plan is well made, the build goes by meta mode, and
+-- what the jobs of the clean build read and change is declared.
+pub record IsReadyBuild (meaning : Meaning) (work : Work) (tasks : Tasks) (old : History)
+    : Type 0 where
   pub lawful : IsLawful meaning old
   pub idle : (state_of old).children ≡ []
   pub truth : IsTrueHistory meaning.next old
@@ -90,24 +94,25 @@ pub record IsReadyBuild (meaning : Meaning) (work : Work) (tasks : Tasks) (old :
   pub declared : IsDeclared (clean_plan work tasks)
       (clean_build meaning (clean_plan work tasks) (files_of old))
 
--- In a build jobs have kept apart, whatever has failed so far, and whichever children were given up.
+-- In a build jobs have kept apart, whatever has failed so far, and whichever children were given
+-- up.
 abbrev pub BuildsKeepApart : Type 0
 BuildsKeepApart =
     (meaning : Meaning) (work : Work) (tasks : Tasks) (items : List Item) (old new : History)
     → IsReadyBuild meaning work tasks old → Makes work tasks (first_build work) items
     → Happened meaning items old new → GivesUpLast items → IsApart work tasks items
 
--- So meta files tell what happened behind the items of a build, at whatever moment, whatever has failed, and
--- however it ends.
+-- So meta files tell what happened behind the items of a build, at whatever moment, whatever has
+-- failed, and however it ends.
 abbrev pub BuildsStayTrue : Type 0
 BuildsStayTrue =
     (meaning : Meaning) (work : Work) (tasks : Tasks) (items : List Item) (old new : History)
     → IsReadyBuild meaning work tasks old → Makes work tasks (first_build work) items
     → Happened meaning items old new → GivesUpLast items → IsTrueHistory meaning.next new
 
--- A build leaves what the clean build leaves: that goes well, each file that its nodes make has the bytes
--- that it gives it, and each step of the build is a step of the same node in it. Its jobs have kept apart,
--- and so each meta file that stands behind it tells what happened.
+-- A build leaves what the clean build leaves: that goes well, each file that its nodes make has the
+-- bytes that it gives it, and each step of the build is a step of the same node in it. Its jobs
+-- have kept apart, and so each meta file that stands behind it tells what happened.
 pub record IsClean (meaning : Meaning) (work : Work) (tasks : Tasks) (items : List Item)
     (old new : History) : Type 0
   where
@@ -128,8 +133,8 @@ BuildsAreClean =
     → IsOver work None (build_after_all work tasks (first_build work) items)
     → IsClean meaning work tasks items old new
 
--- A build of the driver that is over, and in which nothing failed, leaves what the clean build leaves, where the
--- world tells its history.
+-- A build of the driver that is over, and in which nothing failed, leaves what the clean build
+-- leaves, where the world tells its history.
 abbrev pub DoneBuildsAreClean : Type 0
 DoneBuildsAreClean =
     (meaning : Meaning) (work : Work) (cut : Bool) (first last : Moment)
@@ -146,6 +151,7 @@ HasJudgedLines work tasks node =
 -- Each node that is settled in a build has such lines.
 abbrev pub SettledHaveJudgedLines : Type 0
 SettledHaveJudgedLines =
-    (work : Work) (tasks : Tasks) (items : List Item) → Makes work tasks (first_build work) items → (node : ℕ)
+    (work : Work) (tasks : Tasks) (items : List Item) → Makes work tasks (first_build work) items
+    → (node : ℕ)
     → slice_get (build_after_all work tasks (first_build work) items).run.nodes node ≡ Some Settled
     → HasJudgedLines work tasks node

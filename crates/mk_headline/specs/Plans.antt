@@ -1,5 +1,7 @@
--- The plan of a build as the clean build goes by it: the nodes, their lines, and which paths are what.
-use Rattle.std.specs.Prelude.{ℕ, ◌+◌, Bool, false, not, ◌&&◌, ◌||◌, List, [], ◌∷◌, codes, if◌then◌else◌}
+-- The plan of a build as the clean build goes by it: the nodes, their lines, and which paths are
+-- what.
+use Rattle.std.specs.Prelude.{ℕ, ◌+◌, Bool, false, not, ◌&&◌, ◌||◌, List, [], ◌∷◌, codes}
+use Rattle.std.specs.Prelude.{if◌then◌else◌}
 use Rattle.std.specs.List.{list_any}
 use Rattle.std.specs.Str.{bytes_eq}
 use Rattle.mk_clean.specs.Clean.{Node, Plan}

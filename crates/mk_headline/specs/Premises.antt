@@ -10,16 +10,16 @@ use Rattle.mk_trace.specs.Runs.{Tasks}
 use Rattle.mk_world.specs.declared.command.TaskLine.{TaskLine}
 use Rattle.mk_headline.specs.Plans.{has_job, makes_file, is_meta_path}
 
--- Each node stands behind its predecessors, its sources are among these, and no two nodes have one path.
--- This holds of all plans of makefiles.
+-- Each node stands behind its predecessors, its sources are among these, and no two nodes have one
+-- path. This holds of all plans of makefiles.
 pub record IsWellMade (work : Work) : Type 0 where
   pub ordered : are_ordered 0 work.plan ≡ true
   pub sourced : are_sourced work.plan ≡ true
   pub distinct : AreDistinct (plan_names work.plan)
 
 -- In meta mode with `curdirOk`, `missing-meta` and `missing-filemon`, and without `nofilemon` and
--- `ignore-cmd`, no path is ignored, no made file is marked `.NOMETA` or `.NOMETA_CMP`, and each line of
--- its task is compared. No node with commands has the path of a meta file.
+-- `ignore-cmd`, no path is ignored, no made file is marked `.NOMETA` or `.NOMETA_CMP`, and each
+-- line of its task is compared. No node with commands has the path of a meta file.
 pub record GoesByMetaMode (work : Work) (tasks : Tasks) : Type 0 where
   pub by_records : (node : ℕ) → makes_file (node_at work.plan node) ≡ true
       → GoesByRecords (mode_at work node)

@@ -1,10 +1,13 @@
 -- A build as turns: what each item of it is beside the clean build.
-use Rattle.std.specs.Prelude.{◌≡◌, ◌⊎◌, ℕ, ◌==◌, nat_le, Bool, true, false, List, [], ◌∷◌, ◌++◌, length, Some, if◌then◌else◌}
+use Rattle.std.specs.Prelude.{◌≡◌, ◌⊎◌, ℕ, ◌==◌, nat_le, Bool, true, false, List, [], ◌∷◌, ◌++◌}
+use Rattle.std.specs.Prelude.{length, Some, if◌then◌else◌}
 use Rattle.mk_clean.specs.Turns as turn
 use Rattle.mk_clean.specs.Turns.{Turn}
 use Rattle.mk_decision.specs.Decisions.{Work}
 use Rattle.mk_trace.specs.Builds.{Build, build_after}
-use Rattle.mk_trace.specs.Items.{Change, gone, head, whole, cut_head, cut_whole, Item, looks, keeps, refuses, starts, passes, waits, steps, ends, changes, leaves, path_of}
+use Rattle.mk_trace.specs.Items.{Change, gone, head, whole, cut_head, cut_whole, Item, looks, keeps}
+use Rattle.mk_trace.specs.Items.{refuses, starts, passes, waits, steps, ends, changes, leaves}
+use Rattle.mk_trace.specs.Items.{path_of}
 use Rattle.mk_trace.specs.Runs.{Tasks, fails, line_of}
 use Rattle.mk_trace.specs.Together.{HasChild}
 
@@ -30,8 +33,8 @@ put_by node (whole path bytes time) = turn.puts_meta path (Some bytes) ∷ []
 put_by node (cut_head path part time) = turn.puts_meta path (Some part) ∷ []
 put_by node (cut_whole path part time) = turn.puts_meta path (Some part) ∷ []
 
--- The turns of an item. A look for a decision may count; a step is that of the node whose child does it. A node
--- that is refused and a child that is given up have none.
+-- The turns of an item. A look for a decision may count; a step is that of the node whose child
+-- does it. A node that is refused and a child that is given up have none.
 abbrev pub IsTurned : Tasks → Build → Item → List Turn → Type 0
 IsTurned tasks build (looks node seen) turns =
     (turns ≡ []) ⊎ (turns ≡ turn.looks_at node (path_of seen) ∷ [])

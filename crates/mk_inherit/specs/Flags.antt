@@ -1,5 +1,6 @@
 -- The text of words, as one make hands them to another.
-use Rattle.std.specs.Prelude.{ℕ, Bool, ◌==◌, ◌||◌, List, [], ◌∷◌, ◌++◌, Option, Some, None, if◌then◌else◌, codes}
+use Rattle.std.specs.Prelude.{ℕ, Bool, ◌==◌, ◌||◌, List, [], ◌∷◌, ◌++◌, Option, Some, None}
+use Rattle.std.specs.Prelude.{if◌then◌else◌, codes}
 use Rattle.std.specs.List.{flat_map}
 use Rattle.std.specs.Str.{bytes_eq}
 use Rattle.mk_bytes.specs.Bytes.{tab, space, backslash}
@@ -43,8 +44,8 @@ taken_in s Quoted byte =
     if byte == apostrophe then record s { mode = Inside }
     else record s { word = s.word ++ byte ∷ [] }
 
--- One more byte of a text: blanks part its words, a backslash stands before a byte that means nothing
--- else than itself, and between quotes all bytes do.
+-- One more byte of a text: blanks part its words, a backslash stands before a byte that means
+-- nothing else than itself, and between quotes all bytes do.
 abbrev pub taken : Split → ℕ → Split
 taken s byte = taken_in s s.mode byte
 

@@ -1,5 +1,6 @@
 -- Which words of a command line reach the makes below (make(1), "OPTIONS").
-use Rattle.std.specs.Prelude.{ℕ, ◌==◌, ◌&&◌, not, Bool, List, [], ◌∷◌, ◌++◌, drop, if◌then◌else◌, codes}
+use Rattle.std.specs.Prelude.{ℕ, ◌==◌, ◌&&◌, not, Bool, List, [], ◌∷◌, ◌++◌, drop, if◌then◌else◌}
+use Rattle.std.specs.Prelude.{codes}
 use Rattle.std.specs.List.{list_any, starts_with}
 use Rattle.std.specs.Str.{bytes_eq}
 use Rattle.std.specs.Prelude.{nat_eq}
@@ -15,8 +16,8 @@ is_in letters letter = list_any (λ other. letter == other) letters
 abbrev pub takes_argument : ℕ → Bool
 takes_argument letter = is_in (codes "DfIjmVv") letter
 
--- The letters that reach the makes below: which makefile is read, how many jobs run and what is printed
--- does not.
+-- The letters that reach the makes below: which makefile is read, how many jobs run and what is
+-- printed does not.
 abbrev pub reaches_below : ℕ → Bool
 reaches_below letter = is_in (codes "kSisnqeBrDIm") letter
 
@@ -32,7 +33,8 @@ argument_passed letter argument =
 abbrev pub flag_passed : ℕ → List (List ℕ)
 flag_passed letter = if reaches_below letter then option_word letter ∷ [] else []
 
--- the letters of one word; the argument of one of them is the rest of the word, if that is not empty
+-- the letters of one word; the argument of one of them is the rest of the word, if that is not
+-- empty
 abbrev pub letters_passed : List ℕ → List (List ℕ)
 letters_passed [] = []
 letters_passed (letter ∷ rest) =
@@ -48,7 +50,8 @@ behind_letters (letter ∷ rest) =
     then (if bytes_eq rest [] then ArgumentOf letter else Any)
     else behind_letters rest
 
--- An assignment reaches them, behind a blank where it would be taken for an option; a target does not.
+-- An assignment reaches them, behind a blank where it would be taken for an option; a target does
+-- not.
 abbrev pub begins_as_option : List ℕ → Bool
 begins_as_option word = starts_with nat_eq word (minus ∷ [])
 

@@ -165,9 +165,9 @@ impl Split {
     }
 }
 
-/// The words of a text, as `flags_of` writes it: blanks part them, a backslash stands before a byte that
-/// means nothing else than itself, and between quotes all bytes do. `None` exactly where a quote is not
-/// closed, or nothing stands behind a backslash.
+/// The words of a text, as `flags_of` writes it: blanks part them, a backslash stands before a byte
+/// that means nothing else than itself, and between quotes all bytes do. `None` exactly where a
+/// quote is not closed, or nothing stands behind a backslash.
 pub fn words_in(alloc: Global, text: &[u8]) -> Result<Option<Texts>, NoMemory>
     ensures { IfOk result (λ words. words ≡ spec.words_in text.now) }
 {

@@ -155,9 +155,9 @@ fn pass_word(
     }
 }
 
-/// The words of a command line that reach the makes below, in their order: the options `-k -S -i -s -n -q
-/// -e -B -r`, `-D`, `-I` and `-m` with their arguments, and the assignments; not makefiles, the number of
-/// jobs, prints and targets.
+/// The words of a command line that reach the makes below, in their order: the options `-k -S -i -s
+/// -n -q -e -B -r`, `-D`, `-I` and `-m` with their arguments, and the assignments; not makefiles,
+/// the number of jobs, prints and targets.
 pub fn passed_on(alloc: Global, words: &Texts) -> Result<Texts, NoMemory>
     ensures { IfOk result (λ passed. passed ≡ spec.passed words.now) }
 {

@@ -85,8 +85,8 @@ fn check_each(zeros: bool, text: &[u8]) -> Result<(), LineFault>
     Ok(())
 }
 
-// Checks the logical line that begins with the physical line just taken, and passes over it. Without
-// `zeros` no line holds a zero byte.
+// Checks the logical line that begins with the physical line just taken, and passes over it.
+// Without `zeros` no line holds a zero byte.
 fn check_line<'t>(
     lines: &mut PhysicalLines<'t>,
     zeros: bool,

@@ -6,10 +6,11 @@ use Rattle.mk_blocks.specs.Acts.{Act, wrote, looked, dated, listed, ran}
 use Rattle.mk_values.specs.declared.facts.Asked.{Asked}
 use Rattle.mk_world.specs.Sinks.{Begins, Gains}
 use Rattle.mk_world.proofs.SinkLemmas.{Gains-nothing, Gains-then}
-use Rattle.mk_makefile.specs.Questions.{Question, AreTimes, bytes_of, time_of, names_of, output_of, cut, times_in}
+use Rattle.mk_makefile.specs.Questions.{Question, AreTimes, bytes_of, time_of, names_of, output_of}
+use Rattle.mk_makefile.specs.Questions.{cut, times_in}
 
--- The files, times, listings and commands that questions ask for, each an act, in order. A command that was not
--- answered is one of them.
+-- The files, times, listings and commands that questions ask for, each an act, in order. A command
+-- that was not answered is one of them.
 abbrev pub acts_of : List Question → List Act
 acts_of [] = []
 acts_of (bytes_of path found ∷ more) = looked path ∷ acts_of more
@@ -56,10 +57,10 @@ IsBegun piece (dated path ∷ acts) = piece ≡ []
 IsBegun piece (listed dir ∷ acts) = piece ≡ []
 IsBegun piece (ran cmd ∷ acts) = piece ≡ []
 
--- One first part of the acts was done, of messages, files, times, listings and commands alike, and of a message
--- behind it perhaps a beginning. Behind it there may be further times: those that the last evaluation asked for
--- before the outside failed in it, or memory ran out. So whatever call of the outside fails, the messages before it
--- are written, and none behind it.
+-- One first part of the acts was done, of messages, files, times, listings and commands alike, and
+-- of a message behind it perhaps a beginning. Behind it there may be further times: those that the
+-- last evaluation asked for before the outside failed in it, or memory ran out. So whatever call of
+-- the outside fails, the messages before it are written, and none behind it.
 pub record DidPart (before after : Option (List ℕ)) (asked asked_now acts : List Act) : Type 0 where
   pub part : List Act
   pub rest : List Act
@@ -137,7 +138,8 @@ begun-nothing (dated path ∷ acts) = refl
 begun-nothing (listed dir ∷ acts) = refl
 begun-nothing (ran cmd ∷ acts) = refl
 
-begun-more : (piece : List ℕ) (acts more : List Act) → IsBegun piece acts → IsBegun piece (acts ++ more)
+begun-more : (piece : List ℕ) (acts more : List Act) → IsBegun piece acts
+    → IsBegun piece (acts ++ more)
 begun-more piece [] more none = subst (λ l. IsBegun l more) (sym none) (begun-nothing more)
 begun-more piece (wrote message ∷ acts) more begun = begun
 begun-more piece (looked path ∷ acts) more begun = begun
@@ -158,7 +160,8 @@ module _ (a b c : Option (List ℕ)) (k l m first second : List Act) where
         ∙ ap (λ s. k ++ s) (sym (asked_in-append first second));
   }
 
-  pub DidPart-behind : Did a b k l first → DidPart b c l m second → DidPart a c k m (first ++ second)
+  pub DidPart-behind : Did a b k l first → DidPart b c l m second
+      → DidPart a c k m (first ++ second)
   DidPart-behind did more = record {
     part = first ++ more.part;
     rest = more.rest;

@@ -21,7 +21,8 @@ use Rattle.mk_makefile.specs.Moments.{Doing, Moment, given}
 use Rattle.mk_makefile.specs.Questions.{Answers}
 use Rattle.mk_makefile.specs.Values.{truth, value}
 use Rattle.mk_makefile.specs.declared.fault.What.{What}
-use Rattle.mk_makefile.specs.declared.fault.What.TheVariants.{Cond as CondAt, Count, Expand, ForForm}
+use Rattle.mk_makefile.specs.declared.fault.What.TheVariants.{Cond as CondAt, Count, Expand}
+use Rattle.mk_makefile.specs.declared.fault.What.TheVariants.{ForForm}
 
 -- the form of a directive's condition; every other line has that of `.if`
 abbrev pub form_of : Directive → Form

@@ -1,5 +1,6 @@
 -- Dependency lines (make(1), "FILE DEPENDENCY SPECIFICATIONS"), and the commands on them.
-use Rattle.std.specs.Prelude.{ℕ, zero, suc, ◌+◌, ◌==◌, nat_le, List, map, length, take, drop, get_or}
+use Rattle.std.specs.Prelude.{ℕ, zero, suc, ◌+◌, ◌==◌, nat_le, List, map, length, take, drop}
+use Rattle.std.specs.Prelude.{get_or}
 use Rattle.std.specs.Prelude.{Option, Some, None, Result, Ok, Err, if◌then◌else◌}
 use Rattle.mk_ast.specs.References.{end_of_form}
 use Rattle.mk_ast.specs.declared.fault.AstFault.{AstFault}

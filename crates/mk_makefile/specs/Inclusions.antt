@@ -1,6 +1,7 @@
 -- Files that are included (make(1), "INCLUDE STATEMENTS, CONDITIONALS AND FOR LOOPS").
 use Rattle.std.specs.Prelude.{◌≡◌, ◌⊎◌, ◌||◌, is_some, Result, Ok, Err}
-use Rattle.std.specs.Prelude.{ℕ, ◌-◌, Bool, true, false, List, [], ◌∷◌, ◌++◌, length, map, take, not, Option}
+use Rattle.std.specs.Prelude.{ℕ, ◌-◌, Bool, true, false, List, [], ◌∷◌, ◌++◌, length, map, take}
+use Rattle.std.specs.Prelude.{not, Option}
 use Rattle.std.specs.Prelude.{Some, None, if◌then◌else◌}
 use Rattle.std.specs.List.{suffix_len}
 use Rattle.mk_blocks.specs.Outcomes.{refused, ◌>>=◌}
@@ -58,7 +59,8 @@ abbrev pub found_at : Answers → List ℕ → Moment → Doing (Option Included
 found_at answers path s = contents answers path s >>= opened path
 
 -- the first of these paths at which a file is
-abbrev pub or_next : (Moment → Doing (Option IncludedFile)) → Option IncludedFile × Moment → Doing (Option IncludedFile)
+abbrev pub or_next : (Moment → Doing (Option IncludedFile)) → Option IncludedFile × Moment
+    → Doing (Option IncludedFile)
 or_next others (None, s) = others s
 or_next others (Some file, s) = given (Some file) s
 
@@ -81,7 +83,8 @@ required optional name (Some file, s) = given (Some file) s
 required true name (None, s) = given None s
 required false name (None, s) = refused (Include name)
 
-abbrev pub wanted_in : Answers → List ℕ → Bool → Option Wanted → Moment → Doing (Option IncludedFile)
+abbrev pub wanted_in : Answers → List ℕ → Bool → Option Wanted → Moment
+    → Doing (Option IncludedFile)
 wanted_in answers file optional None s = refused IncludeForm
 wanted_in answers file optional (Some wanted) s =
     sought answers (candidates s.order s.made.scopes.cwd file wanted) s
@@ -101,7 +104,8 @@ abbrev pub included : Answers → List ℕ → List ℕ → Moment → Doing (Op
 included answers file line s = file_on answers file (plain_text line) s
 
 -- The answer to a file that was found or not.
-abbrev pub IsRequired : Bool → List ℕ → Option IncludedFile → Result (Option IncludedFile) Refusal → Type 0
+abbrev pub IsRequired : Bool → List ℕ → Option IncludedFile → Result (Option IncludedFile) Refusal
+    → Type 0
 IsRequired optional name found (Ok file) =
     (file ≡ found) × (is_some found || optional ≡ true)
 IsRequired optional name found (Err fault) =

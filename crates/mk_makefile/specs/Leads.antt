@@ -6,11 +6,12 @@ use Rattle.mk_world.specs.Talks.{Meaning}
 use Rattle.mk_world.specs.Told.{Told}
 use Rattle.mk_world.specs.declared.history.History.{History}
 use Rattle.mk_makefile.specs.Notes.{question_of, questions_in}
-use Rattle.mk_makefile.specs.Questions.{Question, AreAsked, AreTimes, bytes_of, cut, names_of, output_of, time_of}
+use Rattle.mk_makefile.specs.Questions.{Question, AreAsked, AreTimes, bytes_of, cut, names_of}
+use Rattle.mk_makefile.specs.Questions.{output_of, time_of}
 use Rattle.mk_makefile.specs.declared.note.Note.{Note}
 
--- The questions that were noted in addition are those of `exists` alone. They were asked, and nothing
--- else happened, where no child runs.
+-- The questions that were noted in addition are those of `exists` alone. They were asked, and
+-- nothing else happened, where no child runs.
 pub record Led (meaning : Meaning) (idle : Type 0) (before after : Option History)
     (old new : List Note) : Type 0
   where

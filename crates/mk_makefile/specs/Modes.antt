@@ -30,8 +30,8 @@ mode_with answers words s =
     words_in answers (codes "${.MAKE.META.IGNORE_PATHS}") s
     >>= λ ignored. mode_exporting answers words ignored.0 ignored.1
 
--- How a build goes: first the words of `.MAKE.MODE`, then those of `.MAKE.META.IGNORE_PATHS`, and then
--- the values of the exported variables.
+-- How a build goes: first the words of `.MAKE.MODE`, then those of `.MAKE.META.IGNORE_PATHS`, and
+-- then the values of the exported variables.
 abbrev pub mode_read : Answers → Moment → Doing Mode
 mode_read answers s =
     words_in answers (codes "${.MAKE.MODE}") s >>= λ words. mode_with answers words.0 words.1

@@ -11,8 +11,8 @@ use Rattle.mk_makefile.specs.declared.fault.What.{What}
 use Rattle.mk_makefile.specs.declared.state.State.{State}
 
 -- What the lines so far leave under the orders of a command line, and how much was asked: the
--- questions of `exists`, and the numbers of files that were read, of directories that were listed and of
--- commands that were run.
+-- questions of `exists`, and the numbers of files that were read, of directories that were listed
+-- and of commands that were run.
 pub record Moment : Type 0 where
   pub made : Draft
   pub in_group : Bool

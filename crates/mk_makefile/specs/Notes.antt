@@ -1,7 +1,8 @@
 -- What the notes of a reading tell.
 use Rattle.std.specs.Prelude.{List, map}
 use Rattle.mk_values.specs.declared.facts.Asked.{Asked}
-use Rattle.mk_makefile.specs.Questions.{Question, bytes_of, time_of, names_of, output_of, cut, times_in}
+use Rattle.mk_makefile.specs.Questions.{Question, bytes_of, time_of, names_of, output_of, cut}
+use Rattle.mk_makefile.specs.Questions.{times_in}
 use Rattle.mk_makefile.specs.declared.note.Note.{Note}
 use Rattle.mk_makefile.specs.declared.note.Note.TheVariants as note
 

@@ -145,7 +145,8 @@ cuts_in-append (time_of path when ∷ more) second = cuts_in-append more second
 cuts_in-append (names_of dir names ∷ more) second = cuts_in-append more second
 cuts_in-append (output_of cmd ended ∷ more) second = cuts_in-append more second
 
--- What the outside answers: each sort of question by the number of those before it, and what is asked.
+-- What the outside answers: each sort of question by the number of those before it, and what is
+-- asked.
 pub record Answers : Type 0 where
   pub exists : expand.Answers
   pub contents : ℕ → List ℕ → Option (List ℕ)

@@ -17,7 +17,8 @@ use Rattle.mk_makefile.specs.declared.fault.Fault.TheVariants as fault
 use Rattle.mk_makefile.specs.declared.fault.Outside.{Outside}
 use Rattle.mk_makefile.specs.declared.fault.Outside.TheVariants as outside
 use Rattle.mk_makefile.specs.declared.fault.ReadFault.{ReadFault}
-use Rattle.mk_makefile.specs.declared.fault.ReadFault.TheVariants.{NoFile, Bad, Limit, World, Sink, NoMemory}
+use Rattle.mk_makefile.specs.declared.fault.ReadFault.TheVariants.{NoFile, Bad, Limit, World, Sink}
+use Rattle.mk_makefile.specs.declared.fault.ReadFault.TheVariants.{NoMemory}
 use Rattle.mk_makefile.specs.declared.fault.Refusal.{Refusal}
 use Rattle.mk_makefile.specs.declared.fault.Refusal.TheVariants as refusal
 use Rattle.mk_makefile.specs.declared.fault.Stop.{Stop}

@@ -88,8 +88,8 @@ mode_ended answers s = outcome_as (of_end s.made.file) (mode_read answers s)
 abbrev pub run_read : Answers → Run Moment → Reads (Mode × Moment)
 run_read answers r = all_read answers r >>= λ last. mode_ended answers last.state
 
--- What the words of the command line and the makefiles of a run leave, or the first fault, and what is
--- done outside until then.
+-- What the words of the command line and the makefiles of a run leave, or the first fault, and what
+-- is done outside until then.
 abbrev pub reading : Answers → Env → Order → Reads Made
 reading answers env order =
     run_read answers (run_at (first_moment env order) 0) >>= λ end. done (made_at end.0 end.1)

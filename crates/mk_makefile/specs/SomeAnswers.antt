@@ -1,5 +1,5 @@
--- For all questions there are answers that were given to them: what is said under all answers that agree
--- with the questions so far is never said of none.
+-- For all questions there are answers that were given to them: what is said under all answers that
+-- agree with the questions so far is never said of none.
 use Rattle.std.specs.Prelude.{ℕ, Bool, false, List, [], Option, Some, None, slice_get}
 use Rattle.std.proofs.Common.{refl}
 use Rattle.mk_values.specs.declared.facts.Asked.{Asked}

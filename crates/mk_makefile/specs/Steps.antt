@@ -1,10 +1,12 @@
 -- What one logical line of a makefile does that is none of the blocks'.
-use Rattle.std.specs.Prelude.{ℕ, true, false, List, [], ◌∷◌, Option, Some, None, Result, Ok, Err, codes}
+use Rattle.std.specs.Prelude.{ℕ, true, false, List, [], ◌∷◌, Option, Some, None, Result, Ok, Err}
+use Rattle.std.specs.Prelude.{codes}
 use Rattle.std.specs.Prelude.{if◌then◌else◌}
 use Rattle.mk_blocks.specs.Outcomes.{refused, ◌>>=◌}
 use Rattle.mk_directive.specs.Directives.{Directed, directive_on}
 use Rattle.mk_directive.specs.declared.directive.Directive.{Directive}
-use Rattle.mk_directive.specs.declared.directive.Directive.TheVariants.{Undef, Error, Warning, Info, Export, Unexport}
+use Rattle.mk_directive.specs.declared.directive.Directive.TheVariants.{Undef, Error, Warning, Info}
+use Rattle.mk_directive.specs.declared.directive.Directive.TheVariants.{Export, Unexport}
 use Rattle.mk_ast.specs.declared.fault.AstFault.{AstFault}
 use Rattle.mk_depline.specs.Lines.{dep_line}
 use Rattle.mk_depline.specs.declared.fault.DepFault.{DepFault}
@@ -32,8 +34,8 @@ with_rules s rules = record s { made = record s.made { rules = rules } }
 abbrev pub with_command : Moment → List ℕ → Moment
 with_command s command = with_rules s (commanded s.made.rules command)
 
--- A command line, without its tab, belongs to the group of the last dependency line; white space alone is
--- passed over.
+-- A command line, without its tab, belongs to the group of the last dependency line; white space
+-- alone is passed over.
 abbrev pub command_read : List ℕ → Moment → Doing (Unit {0})
 command_read command s =
     if is_only_white command then stands s
@@ -85,7 +87,8 @@ directed answers file number Export text s = exported_by answers text s
 directed answers file number Unexport text s = unexported_by answers text s
 directed answers file number _ text s = stands s
 
-abbrev pub by_directive : Answers → List ℕ → ℕ → List ℕ → Option Directed → Moment → Doing (Unit {0})
+abbrev pub by_directive : Answers → List ℕ → ℕ → List ℕ → Option Directed → Moment
+    → Doing (Unit {0})
 by_directive answers file number line None s = by_assignment answers line (assignment line) s
 by_directive answers file number line (Some found) s = directed answers file number found.0 found.1 s
 

@@ -1,5 +1,6 @@
 -- What reading asks of the outside.
-use Rattle.std.specs.Prelude.{ℕ, ◌+◌, Bool, false, List, [], ◌∷◌, ◌++◌, drop, length, Option, Result}
+use Rattle.std.specs.Prelude.{ℕ, ◌+◌, Bool, false, List, [], ◌∷◌, ◌++◌, drop, length, Option}
+use Rattle.std.specs.Prelude.{Result}
 use Rattle.std.specs.Prelude.{Ok, Err}
 use Rattle.mk_blocks.specs.Acts.{Act, looked, ran}
 use Rattle.mk_blocks.specs.Outcomes.{refused, ◌>>=◌}
@@ -24,8 +25,8 @@ use Rattle.mk_makefile.specs.declared.fault.What.TheVariants.{Expand}
 abbrev pub lists_at : Moment → Lists
 lists_at s = lists_of s.made.rules s.order.flags.requested
 
--- the times that are asked for where these are the questions of `exists` behind an evaluation: those
--- behind the questions before it
+-- the times that are asked for where these are the questions of `exists` behind an evaluation:
+-- those behind the questions before it
 abbrev pub newly_dated : Moment → List Asked → List Act
 newly_dated s asked = dates (drop (length s.asked) asked)
 
@@ -34,8 +35,8 @@ abbrev pub found_by : {A : Type 0} → Moment → Result (A × List Asked) Expan
 found_by s (Ok found) = Ok (found.0, record s { asked = found.1 })
 found_by s (Err fault) = Err (Expand fault)
 
--- What an evaluation gives, behind the times that it asks for, in order. It asks for them where it ends
--- with a fault too.
+-- What an evaluation gives, behind the times that it asks for, in order. It asks for them where it
+-- ends with a fault too.
 abbrev pub expanded : {A : Type 0} → Moment → evaluation.Answer A → Doing A
 expanded s found = record {
   acts = newly_dated s (expand.questions_of found);

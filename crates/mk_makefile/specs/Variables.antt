@@ -1,5 +1,6 @@
 -- How assignments change variables (make(1), "VARIABLE ASSIGNMENTS").
-use Rattle.std.specs.Prelude.{ℕ, ◌-◌, ◌==◌, ◌&&◌, Bool, true, false, not, is_some, nat_eq, nat_le, List, [], ◌∷◌, length, map, take}
+use Rattle.std.specs.Prelude.{ℕ, ◌-◌, ◌==◌, ◌&&◌, Bool, true, false, not, is_some, nat_eq, nat_le}
+use Rattle.std.specs.Prelude.{List, [], ◌∷◌, length, map, take}
 use Rattle.std.specs.Prelude.{if◌then◌else◌}
 use Rattle.std.specs.List.{ends_with}
 use Rattle.mk_blocks.specs.Outcomes.{refused, ◌>>=◌}

@@ -1,10 +1,10 @@
 -- Wildcards in the names of dependency lines (make(1), "FILE DEPENDENCY SPECIFICATIONS").
 --
--- A name whose last component holds `*`, `?` or `[` is a pattern. It stands for the files of its directory
--- that match, in the order of their bytes, and for nothing where none does; every other name stands for
--- itself. The targets come first and then the sources, in their order, and for each pattern its directory
--- is listed once, at that moment. Where no target is left the line is refused, before its sources are
--- looked at. A rule from one suffix to another stands as it is.
+-- A name whose last component holds `*`, `?` or `[` is a pattern. It stands for the files of its
+-- directory that match, in the order of their bytes, and for nothing where none does; every other
+-- name stands for itself. The targets come first and then the sources, in their order, and for each
+-- pattern its directory is listed once, at that moment. Where no target is left the line is
+-- refused, before its sources are looked at. A rule from one suffix to another stands as it is.
 use Rattle.std.specs.Prelude.{ℕ, ◌+◌, List, [], ◌∷◌, ◌++◌, Option, Some, None, if◌then◌else◌}
 use Rattle.mk_blocks.specs.Acts.{listed}
 use Rattle.mk_blocks.specs.Outcomes.{refused, ◌>>=◌}

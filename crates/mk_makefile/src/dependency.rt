@@ -30,8 +30,8 @@ fn first_semicolon(alloc: Global, line: &[u8]) -> Result<Option<usize>, AstFault
     Ok(None)
 }
 
-/// A line, and the command behind its first `;` that stands in no reference, without leading blanks.
-/// A fault of a reference before it comes first.
+/// A line, and the command behind its first `;` that stands in no reference, without leading
+/// blanks. A fault of a reference before it comes first.
 pub fn parted<'t>(alloc: Global, line: &'t [u8]) -> Result<(&'t [u8], Option<&'t [u8]>), AstFault>
     ensures { Agrees no_memory parts_seen result (spec.parted line.now) }
 {
@@ -41,7 +41,8 @@ pub fn parted<'t>(alloc: Global, line: &'t [u8]) -> Result<(&'t [u8], Option<&'t
     }
 }
 
-/// Adds what a line says, with the first command of its group. After a refusal the rules are given up.
+/// Adds what a line says, with the first command of its group. After a refusal the rules are given
+/// up.
 pub fn add_line(rules: &mut Rules, command: Option<&[u8]>, line: &DepLine) -> Result<(), Refusal>
     ensures done { OnOk result
         (spec.ruled rules.old (option_copied command.entry) line.now ≡ Ok rules.new) }

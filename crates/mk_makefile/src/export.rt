@@ -1,5 +1,5 @@
-//! Which variables are exported (make(1), the directives `.export` and `.unexport`), and references to
-//! them.
+//! Which variables are exported (make(1), the directives `.export` and `.unexport`), and references
+//! to them.
 ghost use Rattle.std.specs.Prelude.{◌≡◌, true, IfOk, OnOk};
 ghost use Rattle.std.specs.List.{list_all};
 ghost use Rattle.mk_makefile.specs.Exports as spec;

@@ -20,9 +20,9 @@ use mk_world::World;
 use std::alloc::Global;
 use std::snapshot::Snapshot;
 
-/// What conditions ask while makefiles are read: `make` of the requested names, or of the main targets
-/// so far where there are none, `target` and `commands` of the lines so far, and `exists` of the world,
-/// where it is asked for the time of a path.
+/// What conditions ask while makefiles are read: `make` of the requested names, or of the main
+/// targets so far where there are none, `target` and `commands` of the lines so far, and `exists`
+/// of the world, where it is asked for the time of a path.
 #[derive(Drop)]
 pub struct ReadFacts<'a, W: World> {
     pub rules: &'a Rules,

@@ -44,8 +44,8 @@ pub enum What {
     IncludeForm,
     /// The file of this name is missing.
     Include(Text),
-    /// An `.export` or `.unexport` has no word, or one that is no name of letters, digits and `_` with
-    /// no digit first.
+    /// An `.export` or `.unexport` has no word, or one that is no name of letters, digits and `_`
+    /// with no digit first.
     ExportForm,
     /// A dependency line has no operator.
     NoOperator,

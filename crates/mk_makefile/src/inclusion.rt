@@ -1,5 +1,7 @@
-//! Where files that are included are sought (make(1), "INCLUDE STATEMENTS, CONDITIONALS AND FOR LOOPS").
-ghost use Rattle.std.specs.Prelude.{◌≡◌, ◌≤◌, ◌∷◌, ◌++◌, [], length, reverse, take_while, IfOk, OnOk};
+//! Where files that are included are sought (make(1), "INCLUDE STATEMENTS, CONDITIONALS AND FOR
+//! LOOPS").
+ghost use Rattle.std.specs.Prelude.{◌≡◌, ◌≤◌, ◌∷◌, ◌++◌, [], length, reverse, take_while, IfOk};
+ghost use Rattle.std.specs.Prelude.{OnOk};
 ghost use Rattle.mk_bytes.specs.Paths as paths;
 ghost use Rattle.mk_makefile.specs.Dependencies.{cleaned};
 ghost use Rattle.mk_makefile.specs.Inclusions as spec;

@@ -1,5 +1,5 @@
-//! What makefiles mean (make(1)): what each line is, its parts, what it does by the answers of the outside, and
-//! what can be wrong with it; and so all makefiles of a run (`specs/Reading.antt`).
+//! What makefiles mean (make(1)): what each line is, its parts, what it does by the answers of the
+//! outside, and what can be wrong with it; and so all makefiles of a run (`specs/Reading.antt`).
 //!
 //! The definitions are all here, with the calls that need no reader; mk_reader reads by them.
 #![tactic(auto)]

@@ -2,8 +2,8 @@ use mk_bytes::{Text, Texts};
 use mk_world::{Cmd, Ended, When};
 use std::snapshot::Snapshot;
 
-/// A note of a question that reading asked of the world, and of the answer. It keeps neither: of more
-/// than the kind of the question proofs alone know.
+/// A note of a question that reading asked of the world, and of the answer. It keeps neither: of
+/// more than the kind of the question proofs alone know.
 #[derive(Drop)]
 pub enum Note {
     /// The bytes of a path were read.

@@ -1,5 +1,6 @@
 -- Which calls fail, and how the failures are counted.
-use Rattle.std.specs.Prelude.{◌≡◌, ◌⊎◌, ℕ, ◌+◌, min, Bool, true, false, List, [], ◌∷◌, Result, Ok, Err, if◌then◌else◌}
+use Rattle.std.specs.Prelude.{◌≡◌, ◌⊎◌, ℕ, ◌+◌, min, Bool, true, false, List, [], ◌∷◌, Result, Ok}
+use Rattle.std.specs.Prelude.{Err, if◌then◌else◌}
 use Rattle.mk_world.specs.Causes.{last_count}
 use Rattle.mk_world.specs.declared.fault.WorldFault.{WorldFault}
 use Rattle.mk_world.specs.declared.fault.WorldFault.TheVariants.{Failed, NoMemory}

@@ -6,7 +6,8 @@
 -- start, does its next step. A child comes to its end with its last step, and one that has none at
 -- its first turn. `wait_any` takes a second number, and with it one of the children that have come
 -- to their end; where none has, it takes the oldest child, which does all its remaining steps.
-use Rattle.std.specs.Prelude.{ℕ, zero, suc, ◌%◌, not, List, [], ◌∷◌, ◌++◌, length, map, drop, Option, Some, None, nat_eq, slice_get, if◌then◌else◌}
+use Rattle.std.specs.Prelude.{ℕ, zero, suc, ◌%◌, not, List, [], ◌∷◌, ◌++◌, length, map, drop}
+use Rattle.std.specs.Prelude.{Option, Some, None, nat_eq, slice_get, if◌then◌else◌}
 use Rattle.std.specs.List.{filter, list_any}
 use Rattle.mk_world.specs.History.{State, child_in, contents, state_of, tickets_of}
 use Rattle.mk_world.specs.Talks.{answer}

@@ -5,7 +5,8 @@ use Rattle.mk_world.specs.declared.history.History.{History}
 use Rattle.mk_commands.specs.Clock.{last_number}
 use Rattle.mk_memworld.specs.Endings.{numbers_left}
 use Rattle.mk_memworld.specs.Going.{IsTurn}
-use Rattle.mk_memworld.specs.Schedule.{after_turn, course_after, gone_on, next_child, next_taken, with_ended, with_number_taken}
+use Rattle.mk_memworld.specs.Schedule.{after_turn, course_after, gone_on, next_child, next_taken}
+use Rattle.mk_memworld.specs.Schedule.{with_ended, with_number_taken}
 use Rattle.mk_memworld.specs.declared.going.Going.{Going}
 use Rattle.mk_memworld.specs.declared.world.MemWorld.{MemWorld}
 

@@ -1,5 +1,6 @@
 -- What `stamp` and `put` do: make writes a whole file, later than a given time.
-use Rattle.std.specs.Prelude.{◌≡◌, ◌⊎◌, ℕ, ◌+◌, ◌==◌, Bool, true, false, ◌&&◌, List, [], ◌∷◌, Option, Some, None, max, take, if◌then◌else◌}
+use Rattle.std.specs.Prelude.{◌≡◌, ◌⊎◌, ℕ, ◌+◌, ◌==◌, Bool, true, false, ◌&&◌, List, [], ◌∷◌}
+use Rattle.std.specs.Prelude.{Option, Some, None, max, take, if◌then◌else◌}
 use Rattle.mk_world.specs.Calls.{OwnPart}
 use Rattle.mk_world.specs.History.{State, state_of}
 use Rattle.mk_world.specs.declared.history.Happening.{Happening}

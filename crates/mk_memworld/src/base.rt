@@ -39,8 +39,8 @@ fn is_clean(alloc: Global, cwd: &Text, path: &Text) -> Result<bool, NoMemory>
     Ok(clean.bytes() == path.bytes())
 }
 
-/// Whether the paths of these files are clean, as they are named from a directory, and differ. Each path
-/// is looked up among those behind it, which a set holds.
+/// Whether the paths of these files are clean, as they are named from a directory, and differ. Each
+/// path is looked up among those behind it, which a set holds.
 pub fn are_clean(alloc: Global, cwd: &Text, files: &Pairs) -> Result<bool, NoMemory>
     ensures { IfOk result (λ are. are ≡ spec.are_clean cwd.now files.now) }
 {

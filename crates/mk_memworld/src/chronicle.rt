@@ -1,11 +1,14 @@
 //! A history, with the present state beside it.
-ghost use Rattle.std.specs.Prelude.{◌≡◌, ◌↔◌, ◌+◌, ◌^◌, ◌<◌, ◌≤◌, ◌==◌, [], ◌∷◌, ◌++◌, Some, length, position, vec_len, IsSome, IsTrue, IfOk, OnOk, OnErr};
+ghost use Rattle.std.specs.Prelude.{◌≡◌, ◌↔◌, ◌+◌, ◌^◌, ◌<◌, ◌≤◌, ◌==◌, [], ◌∷◌, ◌++◌, Some};
+ghost use Rattle.std.specs.Prelude.{length, position, vec_len, IsSome, IsTrue, IfOk, OnOk, OnErr};
 ghost use Rattle.std.specs.Option.{option_copied};
 ghost use Rattle.mk_world.specs.Deeds.{changes};
-ghost use Rattle.mk_world.specs.History.{at_time, child_in, effected_all, files_of, state_of, stepped, tickets_of, without_child};
+ghost use Rattle.mk_world.specs.History.{at_time, child_in, effected_all, files_of, state_of};
+ghost use Rattle.mk_world.specs.History.{stepped, tickets_of, without_child};
 ghost use Rattle.mk_world.specs.Listings.{Lists};
 ghost use Rattle.mk_world.specs.Talks.{does};
-ghost use Rattle.mk_world.specs.declared.history.Happening.TheVariants.{Ask, Edit, End, Gone, Look, Start};
+ghost use Rattle.mk_world.specs.declared.history.Happening.TheVariants.{Ask, Edit, End, Gone, Look};
+ghost use Rattle.mk_world.specs.declared.history.Happening.TheVariants.{Start};
 ghost use Rattle.mk_commands.specs.Clock.{last_number, numbers, numbers_of, timed};
 ghost use Rattle.mk_commands.specs.Files.{as_filed, files_in};
 ghost use Rattle.mk_commands.specs.Meaning.{language};
@@ -216,7 +219,8 @@ impl Chronicle {
         }
     }
 
-    /// What a command does from its beginning to its end, on the files as they stand after the turn.
+    /// What a command does from its beginning to its end, on the files as they stand after the
+    /// turn.
     pub fn doing(&self, going: &Going, cmd: &Cmd) -> Result<Rest, NoMemory>
         requires { IsTurn self.now going.now }
         ensures { IfOk result (λ rest. doing_of rest
@@ -339,8 +343,8 @@ impl Chronicle {
         }
     }
 
-    /// Whether the clock has enough numbers for the step of the turn, and for so many changes behind
-    /// it.
+    /// Whether the clock has enough numbers for the step of the turn, and for so many changes
+    /// behind it.
     pub fn has_numbers(&self, going: &Going, more: u64) -> bool
         requires { IsTurn self.now going.now }
         ensures { IsTrue result ↔ ((state_of (gone_on self.now going.now.ticket)).clock + more

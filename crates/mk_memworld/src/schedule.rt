@@ -30,7 +30,8 @@ impl Model for Schedule {
 }
 
 impl Schedule {
-    ghost use Rattle.mk_memworld.specs.Schedule.{chosen, first_number, taken_in, with_ended, with_number_taken};
+    ghost use Rattle.mk_memworld.specs.Schedule.{chosen, first_number, taken_in, with_ended};
+    ghost use Rattle.mk_memworld.specs.Schedule.{with_number_taken};
 
     /// No number was taken yet, and no child runs.
     pub fn new(alloc: Global, numbers: Turns) -> Schedule
@@ -86,8 +87,8 @@ impl Schedule {
     }
 
     /// The child that the next number chooses among those that have come to their end and this one
-    /// behind them, where there is one, counted from 0 and round; `None` where there is none at all.
-    /// The number is not taken.
+    /// behind them, where there is one, counted from 0 and round; `None` where there is none at
+    /// all. The number is not taken.
     pub fn chosen(&self, ended: Option<u32>) -> Option<u32>
         ensures { result ≡ chosen (first_number self.now.numbers)
             (with_ended self.now.ended ended) }

@@ -1,8 +1,10 @@
-ghost use Rattle.std.specs.Prelude.{◌≡◌, ◌⊎◌, ◌↔◌, ◌+◌, ◌<◌, ◌≤◌, [], Some, Err, length, take, vec_capacity, vec_len, IfOk, OnOk, OnErr};
+ghost use Rattle.std.specs.Prelude.{◌≡◌, ◌⊎◌, ◌↔◌, ◌+◌, ◌<◌, ◌≤◌, [], Some, Err, length, take};
+ghost use Rattle.std.specs.Prelude.{vec_capacity, vec_len, IfOk, OnOk, OnErr};
 ghost use Rattle.mk_world.specs.Causes.{HasCause};
 ghost use Rattle.mk_world.specs.Sinks.{Gains};
 ghost use Rattle.mk_world.specs.declared.fault.SinkFault.TheVariants.{Failed};
-ghost use Rattle.mk_memworld.specs.Outages.{IsStruck, first_outages, made_of, with_call, with_fault};
+ghost use Rattle.mk_memworld.specs.Outages.{IsStruck, first_outages, made_of, with_call};
+ghost use Rattle.mk_memworld.specs.Outages.{with_fault};
 ghost use Rattle.mk_memworld.specs.declared.outage.CallKind.TheVariants.{Write};
 ghost use Rattle.mk_memworld.specs.declared.sink.TheConstants.{ROOM};
 

@@ -1,9 +1,13 @@
-ghost use Rattle.std.specs.Prelude.{◌≡◌, ◌↔◌, ◌⊎◌, ◌+◌, ◌<◌, ℕ, List, [], ◌∷◌, ◌++◌, Some, false, drop, length, nat_eq, remove, slice_get, slice_index, IsTrue, IfOk, IfSome, OnOk, OnErr};
+ghost use Rattle.std.specs.Prelude.{◌≡◌, ◌↔◌, ◌⊎◌, ◌+◌, ◌<◌, ℕ, List, [], ◌∷◌, ◌++◌, Some, false};
+ghost use Rattle.std.specs.Prelude.{drop, length, nat_eq, remove, slice_get, slice_index, IsTrue};
+ghost use Rattle.std.specs.Prelude.{IfOk, IfSome, OnOk, OnErr};
 ghost use Rattle.std.specs.List.{list_any};
 ghost use Rattle.std.specs.Option.{option_copied};
 ghost use Rattle.mk_bytes.specs.Paths.{is_clean_directory};
 ghost use Rattle.mk_world.specs.Calls as spec;
-ghost use Rattle.mk_world.specs.Calls.{Adds, AddsEvents, OwnAsk, OwnEnd, OwnGone, OwnLeft, OwnList, OwnNothing, OwnPut, OwnPutPart, OwnRead, OwnStamp, OwnStampPart, OwnStart, OwnTime, OwnUnanswered, TakenOut};
+ghost use Rattle.mk_world.specs.Calls.{Adds, AddsEvents, OwnAsk, OwnEnd, OwnGone, OwnLeft, OwnList};
+ghost use Rattle.mk_world.specs.Calls.{OwnNothing, OwnPut, OwnPutPart, OwnRead, OwnStamp};
+ghost use Rattle.mk_world.specs.Calls.{OwnStampPart, OwnStart, OwnTime, OwnUnanswered, TakenOut};
 ghost use Rattle.mk_world.specs.Causes.{HasCause};
 ghost use Rattle.mk_world.specs.History.{files_of, state_of, tickets_of};
 ghost use Rattle.mk_world.specs.Lawful.{IsLawful};
@@ -11,7 +15,8 @@ ghost use Rattle.mk_world.specs.Listings.{AreInOrder};
 ghost use Rattle.mk_world.specs.Runs.{Run};
 ghost use Rattle.mk_world.specs.Talks.{does};
 ghost use Rattle.mk_world.specs.declared.fault.WorldFault.TheVariants.{Failed};
-ghost use Rattle.mk_world.specs.declared.history.Happening.TheVariants.{Ask, Edit, Gone, Look, Put, Stamp, Start};
+ghost use Rattle.mk_world.specs.declared.history.Happening.TheVariants.{Ask, Edit, Gone, Look, Put};
+ghost use Rattle.mk_world.specs.declared.history.Happening.TheVariants.{Stamp, Start};
 ghost use Rattle.mk_commands.specs.Clock.{last_number, numbers, timed};
 ghost use Rattle.mk_commands.specs.Files.{as_filed};
 ghost use Rattle.mk_commands.specs.Meaning.{language};
@@ -21,12 +26,17 @@ ghost use Rattle.mk_memworld.specs.Children.{without_first};
 ghost use Rattle.mk_memworld.specs.Chronicle.{with_event};
 ghost use Rattle.mk_memworld.specs.Endings.{ended_by, told_by};
 ghost use Rattle.mk_memworld.specs.Going.{IsTurn};
-ghost use Rattle.mk_memworld.specs.Outages.{FailsWhere, IsStruck, OnFailed, OnNoMemory, first_outages, made_of, with_answer, with_call};
+ghost use Rattle.mk_memworld.specs.Outages.{FailsWhere, IsStruck, OnFailed, OnNoMemory};
+ghost use Rattle.mk_memworld.specs.Outages.{first_outages, made_of, with_answer, with_call};
 ghost use Rattle.mk_memworld.specs.Running.{AddsSteps};
-ghost use Rattle.mk_memworld.specs.Schedule.{course_after, gone_on, next_taken, or_oldest, taken_in, with_ended, with_number_taken};
+ghost use Rattle.mk_memworld.specs.Schedule.{course_after, gone_on, next_taken, or_oldest};
+ghost use Rattle.mk_memworld.specs.Schedule.{taken_in, with_ended, with_number_taken};
 ghost use Rattle.mk_memworld.specs.ToldChildren.{told_children};
-ghost use Rattle.mk_memworld.specs.Turned.{HasFailed, HasGoneOn, HasRefused, HasStood, HasTurned, IsNext, IsOldOrTurned, IsTooShort, IsTurnShort, changes_to_end, turned};
-ghost use Rattle.mk_memworld.specs.Writes.{HasFailedToWrite, HasNoTime, OwnPartOf, event_of, kind_of, write_time};
+ghost use Rattle.mk_memworld.specs.Turned.{HasFailed, HasGoneOn, HasRefused, HasStood, HasTurned};
+ghost use Rattle.mk_memworld.specs.Turned.{IsNext, IsOldOrTurned, IsTooShort, IsTurnShort};
+ghost use Rattle.mk_memworld.specs.Turned.{changes_to_end, turned};
+ghost use Rattle.mk_memworld.specs.Writes.{HasFailedToWrite, HasNoTime, OwnPartOf, event_of};
+ghost use Rattle.mk_memworld.specs.Writes.{kind_of, write_time};
 ghost use Rattle.mk_memworld.specs.declared.outage.CallKind.TheVariants as kind;
 ghost use Rattle.mk_memworld.specs.declared.writing.Writing.TheVariants as writing;
 
@@ -51,7 +61,8 @@ pub struct MemWorld {
 
 impl MemWorld {
     /// A world with these files, which get the times 1, 2, 3 and so on, in which children go on as
-    /// this schedule says, and in which these calls fail. The paths are clean, as they are named from `cwd`, and differ (`are_clean`).
+    /// this schedule says, and in which these calls fail. The paths are clean, as they are named
+    /// from `cwd`, and differ (`are_clean`).
     pub fn new(
         alloc: Global,
         cwd: Text,
@@ -164,8 +175,8 @@ impl MemWorld {
     }
 
     // The child whose turn it is goes on in a call that makes so many changes behind it. `Failed`,
-    // which is counted, comes exactly where the clock has too few numbers for these, and nobody goes
-    // on then, and where the call is to fail.
+    // which is counted, comes exactly where the clock has too few numbers for these, and nobody
+    // goes on then, and where the call is to fail.
     fn proceed(&mut self, going: Going, changes: u64, is_struck: bool) -> Result<(), WorldFault>
         requires turn { IsTurn self.old.chronicle going }
         ensures went_on { OnOk result (HasGoneOn going self.old self.new) }
@@ -213,8 +224,8 @@ impl MemWorld {
     }
 
     // A call that writes a file, at a time later than `after`, begins: it is counted, takes its
-    // number, and lets the child go on that this names. `Failed` comes exactly where there is no such
-    // time, and nobody goes on then. Else it is told whether the call is to fail.
+    // number, and lets the child go on that this names. `Failed` comes exactly where there is no
+    // such time, and nobody goes on then. Else it is told whether the call is to fail.
     fn begin_write(&mut self, writing: Writing, after: u64) -> Result<bool, WorldFault>
         ensures turned { OnOk result (HasTurned self.old self.new) }
         ensures struck { IfOk result
@@ -243,8 +254,8 @@ impl MemWorld {
         Ok(is_struck)
     }
 
-    // Writes a whole file at a time later than `after`. This is one change, for which the clock needs
-    // a number, beside that for the step of the child that goes on.
+    // Writes a whole file at a time later than `after`. This is one change, for which the clock
+    // needs a number, beside that for the step of the child that goes on.
     fn write(
         &mut self,
         writing: Writing,
@@ -418,7 +429,8 @@ impl World for MemWorld {
         Ok(when)
     }
 
-    /// The time of a file: here it is that of its last change, and the call counts as one for its time.
+    /// The time of a file: here it is that of its last change, and the call counts as one for its
+    /// time.
     fn changed(&mut self, alloc: Global, path: &[u8]) -> Result<When, WorldFault>
         ensures done { IfOk result (λ when. Adds language (Some self.old.chronicle)
             (Some self.new.chronicle) (OwnTime path.now when)) }
@@ -472,12 +484,12 @@ impl World for MemWorld {
         Ok(names)
     }
 
-    /// Writes the head of a meta file at the next time; where this is not later than `after`, at the
-    /// time behind `after`, from which the clock goes on. This is one change, for which the clock
-    /// needs a number, beside that for the step of the child that goes on; and it is too short as
-    /// well where `after` is the greatest number. A call that is to fail else leaves as many bytes
-    /// of the head, at the time that it would have had, as the first entry says that names it, or
-    /// the old file.
+    /// Writes the head of a meta file at the next time; where this is not later than `after`, at
+    /// the time behind `after`, from which the clock goes on. This is one change, for which the
+    /// clock needs a number, beside that for the step of the child that goes on; and it is too
+    /// short as well where `after` is the greatest number. A call that is to fail else leaves as
+    /// many bytes of the head, at the time that it would have had, as the first entry says that
+    /// names it, or the old file.
     fn stamp(
         &mut self,
         _: Global,
@@ -654,8 +666,9 @@ impl World for MemWorld {
 
     /// Takes in a child. Behind the turn a second number is taken, which chooses one of those that
     /// have come to their end; where none has, the oldest child is taken in. It does all its
-    /// remaining steps first, and no other child does any. The clock needs numbers for these, beside
-    /// that for the step of the child that goes on. A call that fails takes no second number.
+    /// remaining steps first, and no other child does any. The clock needs numbers for these,
+    /// beside that for the step of the child that goes on. A call that fails takes no second
+    /// number.
     fn wait_any(
         &mut self,
         _: Global,
@@ -710,8 +723,8 @@ impl World for MemWorld {
         Ok(ended)
     }
 
-    /// Gives up all children, each after the steps that it has done. Nobody goes on, and no number is
-    /// taken.
+    /// Gives up all children, each after the steps that it has done. Nobody goes on, and no number
+    /// is taken.
     fn abandon(&mut self, kids: &mut Kids<()>)
         requires exact { tickets_of (state_of self.old.chronicle).children ≡ kids.old.tickets }
         ensures done { Adds language (Some self.old.chronicle) (Some self.new.chronicle) OwnLeft }

@@ -92,8 +92,10 @@ many one (suc most) text = first_of text (many one most) (one text)
 abbrev pub all_of : {A : Type 0} → (List ℕ → Read A) → List ℕ → Many A
 all_of one text = many one (length text) text
 
--- an item that was read stands behind those before it, and what follows it is left; or there was none
-abbrev pub IsTaken : {A : Type 0} → Option (A × Bor (List ℕ)) → List A → List A → Option (Bor (List ℕ)) → Type 0
+-- an item that was read stands behind those before it, and what follows it is left; or there was
+-- none
+abbrev pub IsTaken : {A : Type 0} → Option (A × Bor (List ℕ)) → List A → List A
+    → Option (Bor (List ℕ)) → Type 0
 IsTaken None old new rest = (new ≡ old) × (rest ≡ None)
 IsTaken (Some (item, after)) old new rest = (new ≡ old ++ item ∷ []) × (rest ≡ Some after)
 

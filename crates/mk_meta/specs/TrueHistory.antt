@@ -14,7 +14,8 @@ use Rattle.mk_world.specs.Talks.{Doing, NextOf, Talks}
 use Rattle.mk_world.specs.declared.command.Cmd.{Cmd}
 use Rattle.mk_world.specs.declared.command.TaskLine.{TaskLine}
 use Rattle.mk_world.specs.declared.history.Happening.{Happening}
-use Rattle.mk_world.specs.declared.history.Happening.TheVariants.{Edit, Look, Stamp, Put, Gone, Ask, Start, Step, End, Left}
+use Rattle.mk_world.specs.declared.history.Happening.TheVariants.{Edit, Look, Stamp, Put, Gone, Ask}
+use Rattle.mk_world.specs.declared.history.Happening.TheVariants.{Start, Step, End, Left}
 use Rattle.mk_world.specs.declared.history.History.{History}
 use Rattle.mk_world.specs.declared.step.Deed.{Deed}
 use Rattle.mk_world.specs.declared.step.Op.{Op}
@@ -82,8 +83,10 @@ pub record WentWell (next : NextOf) (meta : Meta) (line : TaskLine) (doing : Doi
 abbrev pub ops_of_children : List Doing → List (List Op)
 ops_of_children doings = map (λ doing. map op_of doing.deeds) doings
 
--- These are the records of a job with these lines: what each of its children recorded tells of its steps.
-pub record AreOfJob (lines : List TaskLine) (doings : List Doing) (records : List Rec) : Type 0 where
+-- These are the records of a job with these lines: what each of its children recorded tells of its
+-- steps.
+pub record AreOfJob (lines : List TaskLine) (doings : List Doing) (records : List Rec)
+    : Type 0 where
   pub children : List (List Op)
   pub tell : AllZip (λ ops doing. Tell ops doing.deeds) children doings
   pub all : records ≡ records_of_job lines children
@@ -114,7 +117,8 @@ pub record IsTrue (next : NextOf) (meta : Meta) (events : List Happening) : Type
   pub alone : Alone meta.stamp.0 (meta.target ∷ changed_paths (deeds_of_job doings)) during
 
 -- The records of a true meta file are exact: those of its job's steps, one for each, in order.
-abbrev pub HasExactRecords : {next : NextOf} {meta : Meta} {events : List Happening} → IsTrue next meta events
+abbrev pub HasExactRecords : {next : NextOf} {meta : Meta} {events : List Happening}
+    → IsTrue next meta events
     → Type 0
 HasExactRecords {meta = meta} is =
     IfSome meta.records (λ records. records ≡ records_of_job meta.lines (ops_of_children is.doings))

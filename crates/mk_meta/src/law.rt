@@ -14,8 +14,8 @@ pub fn the_head_is_no_text()
     ensures { HeadIsNone }
 {}
 
-/// The value that a job leaves, by its stamp, its task, its output and what its children recorded, has
-/// a meta file.
+/// The value that a job leaves, by its stamp, its task, its output and what its children recorded,
+/// has a meta file.
 pub fn jobs_are_lawful()
     ensures { JobsAreLawful }
 {}

@@ -184,7 +184,8 @@ fn is_head(alloc: Global, target: &Text, first: &[u8]) -> Result<bool, NoMemory>
     Ok(head.bytes() == first)
 }
 
-// Reads what stands behind the middle, where the first line names the target: else this is no meta file.
+// Reads what stands behind the middle, where the first line names the target: else this is no meta
+// file.
 fn read_end<'t>(
     alloc: Global,
     first: &[u8],

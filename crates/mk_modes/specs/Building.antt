@@ -84,4 +84,5 @@ pub record IsBuilt (meaning : Meaning) (made : Made) (flags : Flags) (first last
 -- a run that builds what these makefiles say
 abbrev pub Builds : Meaning → Made → Flags → Point → Point → Went → Type 0
 Builds meaning made flags first last went =
-    IsUnplanned made flags.requested flags.query first last went ⊎ IsBuilt meaning made flags first last went
+    IsUnplanned made flags.requested flags.query first last went
+    ⊎ IsBuilt meaning made flags first last went

@@ -13,7 +13,10 @@ use Rattle.mk_makefile.specs.declared.fault.ReadFault.TheVariants as read
 use Rattle.mk_query.specs.declared.result.QueryResult.{QueryResult}
 use Rattle.mk_query.specs.declared.result.QueryResult.TheVariants as query
 use Rattle.mk_modes.specs.declared.report.End.{End}
-use Rattle.mk_modes.specs.declared.report.End.TheVariants.{Done, Usage, NoFile, Bad, Print, NoTarget, NoRule, Cycle, Limit, Expand, JobFailed, NotUpToDate, WorldFault, SinkFault, NoMemory}
+use Rattle.mk_modes.specs.declared.report.End.TheVariants.{Done, Usage, NoFile, Bad, Print}
+use Rattle.mk_modes.specs.declared.report.End.TheVariants.{NoTarget, NoRule, Cycle, Limit, Expand}
+use Rattle.mk_modes.specs.declared.report.End.TheVariants.{JobFailed, NotUpToDate, WorldFault}
+use Rattle.mk_modes.specs.declared.report.End.TheVariants.{SinkFault, NoMemory}
 
 -- the exit status
 abbrev pub status_of : End → ℕ

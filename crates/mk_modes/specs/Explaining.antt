@@ -1,4 +1,5 @@
--- Explanations: a plan of the targets that are asked for is made, and why its nodes are out of date is told.
+-- Explanations: a plan of the targets that are asked for is made, and why its nodes are out of date
+-- is told.
 use Rattle.std.specs.Prelude.{◌≡◌, ◌⊎◌, ℕ, false, List, [], ◌∷◌, ◌++◌, Option, Result, Ok, Err}
 use Rattle.mk_decision.specs.Decisions.{Work}
 use Rattle.mk_decision.specs.Makers.{work_on}
@@ -26,13 +27,16 @@ lines_of [] = []
 lines_of (reason ∷ reasons) = reason.line ++ lines_of reasons
 
 -- what an explanation gave: all reasons, or why it was stopped
-abbrev pub Explains : Meaning → Work → Option History → Option History → Result (List Reason) ExplainFault
+abbrev pub Explains : Meaning → Work → Option History → Option History
+    → Result (List Reason) ExplainFault
     → Type 0
 Explains meaning work before after (Ok reasons) = IsExplained (SawFiles meaning before after) work reasons
 Explains meaning work before after (Err fault) = IsStoppedBy (SawFiles meaning before after) work fault
 
--- Where all was explained, its lines are printed, or a part of them where a write fails. Else nothing is.
-abbrev pub Tells : List PlanNode → Result (List Reason) ExplainFault → Option (List ℕ) → Option (List ℕ)
+-- Where all was explained, its lines are printed, or a part of them where a write fails. Else
+-- nothing is.
+abbrev pub Tells : List PlanNode → Result (List Reason) ExplainFault → Option (List ℕ)
+    → Option (List ℕ)
     → End → Type 0
 Tells nodes (Ok reasons) before after end =
     ((end ≡ Done) × Gains before after (lines_of reasons))
@@ -40,8 +44,8 @@ Tells nodes (Ok reasons) before after end =
 Tells nodes (Err fault) before after end =
     ((end ≡ of_explain nodes fault) ⊎ (end ≡ NoMemory)) × Gains before after []
 
--- A plan was made by looks alone, with `.BEGIN` and `.END`, and it was explained by looks alone; it was not
--- built.
+-- A plan was made by looks alone, with `.BEGIN` and `.END`, and it was explained by looks alone; it
+-- was not built.
 pub record IsExplainedRun (meaning : Meaning) (made : Made) (flags : Flags) (first last : Point) (went : Went)
     : Type 0
   where

@@ -48,7 +48,8 @@ shown s asked print =
     then value s.variables no_locals s.lists s.answers false asked (name_tree print.text)
     else Ok (unwrap_or (known s.variables print.text) [], asked))
 
--- the end at a print's fault; want of memory and a fault of the outside are what they are everywhere
+-- the end at a print's fault; want of memory and a fault of the outside are what they are
+-- everywhere
 abbrev pub print_end : ℕ → ExpandFault → End
 print_end i expand.NoMemory = end.NoMemory
 print_end i expand.Failed = end.WorldFault
@@ -76,7 +77,8 @@ pub data Meant : Type 0 where
   shows : (made : Made) → (flags : Flags) → Meant
   builds : (made : Made) → (flags : Flags) → Meant
 
--- what is done with the makefiles: prints, where there are some, and else an explanation, a query or a build
+-- what is done with the makefiles: prints, where there are some, and else an explanation, a query
+-- or a build
 abbrev pub by_mode : Made → Order → List Print → Meant
 by_mode made order [] =
     if order.explain then explains made order.flags

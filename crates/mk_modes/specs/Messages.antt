@@ -11,7 +11,10 @@ use Rattle.mk_makefile.specs.declared.fault.What.{What}
 use Rattle.mk_makefile.specs.declared.fault.What.TheVariants as what
 use Rattle.mk_modes.specs.Words.{word_at}
 use Rattle.mk_modes.specs.declared.report.End.{End}
-use Rattle.mk_modes.specs.declared.report.End.TheVariants.{Done, Usage, NoFile, Bad, Print, NoTarget, NoRule, Cycle, Limit, Expand, JobFailed, NotUpToDate, WorldFault, SinkFault, NoMemory}
+use Rattle.mk_modes.specs.declared.report.End.TheVariants.{Done, Usage, NoFile, Bad, Print}
+use Rattle.mk_modes.specs.declared.report.End.TheVariants.{NoTarget, NoRule, Cycle, Limit, Expand}
+use Rattle.mk_modes.specs.declared.report.End.TheVariants.{JobFailed, NotUpToDate, WorldFault}
+use Rattle.mk_modes.specs.declared.report.End.TheVariants.{SinkFault, NoMemory}
 
 -- a fault of the grammar, with its place
 abbrev pub tree_text : TreeFault → List ℕ
@@ -113,8 +116,8 @@ text_of words SinkFault = []
 abbrev pub as_line : List ℕ → List ℕ
 as_line text = codes "bmake: " ++ text ++ newline ∷ []
 
--- The line of an end. A run that went well has none, and neither has a query of what is out of date or a run
--- that could not write.
+-- The line of an end. A run that went well has none, and neither has a query of what is out of date
+-- or a run that could not write.
 abbrev pub line_of : List (List ℕ) → End → List ℕ
 line_of words Done = []
 line_of words (NotUpToDate name) = []

@@ -24,7 +24,8 @@ use Rattle.mk_world.specs.declared.history.History.{History}
 use Rattle.mk_modes.specs.Building.{Point, point, Builds, unbuilt}
 use Rattle.mk_modes.specs.Ends.{IsOutside}
 use Rattle.mk_modes.specs.Explaining.{Explanation}
-use Rattle.mk_modes.specs.Meaning.{Outcome, Meant, only, prints, explains, queries, shows, builds, printed as all_printed, by_reading}
+use Rattle.mk_modes.specs.Meaning.{Outcome, Meant, only, prints, explains, queries, shows, builds}
+use Rattle.mk_modes.specs.Meaning.{printed as all_printed, by_reading}
 use Rattle.mk_modes.specs.Querying.{Queries}
 use Rattle.mk_modes.specs.Showing.{Shows}
 use Rattle.mk_modes.specs.declared.building.Went.{Went}
@@ -108,8 +109,8 @@ Goes meaning (queries made flags) first last went = Queries made flags first las
 Goes meaning (shows made flags) first last went = Shows meaning made flags first last went
 Goes meaning (builds made flags) first last went = Builds meaning made flags first last went
 
--- Reading asks the world its questions in order and writes messages on standard error, as is defined
--- by the answers; what follows depends on what it gave.
+-- Reading asks the world its questions in order and writes messages on standard error, as is
+-- defined by the answers; what follows depends on what it gave.
 pub record Followed (meaning : Meaning) (env : Env) (order : Order) (first last : Point) (err : Held)
     (went : Went) : Type 0
   where

@@ -1,4 +1,5 @@
--- Queries: a plan of the targets that are asked for is made, and it is asked whether they are up to date.
+-- Queries: a plan of the targets that are asked for is made, and it is asked whether they are up to
+-- date.
 use Rattle.std.specs.Prelude.{◌≡◌, ◌⊎◌, Bool, true, false, List, [], Option, Ok}
 use Rattle.mk_decision.specs.Makers.{work_on}
 use Rattle.mk_flags.specs.declared.Flags.{Flags}
@@ -45,4 +46,5 @@ pub record IsQueried (made : Made) (flags : Flags) (first last : Point) (went : 
 -- a run that asks whether what these makefiles say is up to date
 abbrev pub Queries : Made → Flags → Point → Point → Went → Type 0
 Queries made flags first last went =
-    IsUnplanned made flags.requested flags.query first last went ⊎ IsQueried made flags first last went
+    IsUnplanned made flags.requested flags.query first last went
+    ⊎ IsQueried made flags first last went

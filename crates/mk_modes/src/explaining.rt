@@ -128,8 +128,8 @@ fn explain_plan<W: World, S: Sink>(
     }
 }
 
-/// Makes a plan of the targets that are asked for, with `.BEGIN` and `.END`, and tells on `out` why its nodes
-/// are out of date. Where a line of a task cannot be expanded, nothing is told.
+/// Makes a plan of the targets that are asked for, with `.BEGIN` and `.END`, and tells on `out` why
+/// its nodes are out of date. Where a line of a task cannot be expanded, nothing is told.
 pub fn explain_targets<W: World, S: Sink>(
     alloc: Global,
     made: &Made,

@@ -1,4 +1,5 @@
-//! What a run does before the line of its end is written: it reads, and then prints, explains, asks, shows or builds.
+//! What a run does before the line of its end is written: it reads, and then prints, explains,
+//! asks, shows or builds.
 ghost use Rattle.std.specs.Prelude.{◌≡◌, [], IsTrue};
 ghost use Rattle.mk_bytes.specs.Paths.{is_clean_directory};
 ghost use Rattle.mk_plan.specs.Facts.{lists_of};
@@ -61,8 +62,8 @@ fn print_made<W: World, S: Sink>(
     unbuilt(alloc, end_of(went))
 }
 
-// Does with the makefiles what the words ask for: prints, where there are some, and else an explanation, a
-// query, a dry run or a build.
+// Does with the makefiles what the words ask for: prints, where there are some, and else an
+// explanation, a query, a dry run or a build.
 fn by_mode<W: World, S: Sink>(
     alloc: Global,
     made: &Made,
@@ -95,12 +96,14 @@ fn by_mode<W: World, S: Sink>(
     build_targets(alloc, made, &order.flags, world, out)
 }
 
-/// What a run does whose words ask for this, up to the line of its end: it reads the makefiles, whose messages it
-/// writes on `err`, and then prints, explains, asks, shows or builds. The environment's directory is absolute and
-/// clean. Out come the end, the names of the nodes in plan order, and what the build did.
+/// What a run does whose words ask for this, up to the line of its end: it reads the makefiles,
+/// whose messages it writes on `err`, and then prints, explains, asks, shows or builds. The
+/// environment's directory is absolute and clean. Out come the end, the names of the nodes in plan
+/// order, and what the build did.
 ///
-/// The end is that of the reading where this is refused. It is `WorldFault` where a call of the world failed,
-/// `SinkFault` where a write to `out` or `err` did, and `NoMemory` where memory ran out.
+/// The end is that of the reading where this is refused. It is `WorldFault` where a call of the
+/// world failed, `SinkFault` where a write to `out` or `err` did, and `NoMemory` where memory ran
+/// out.
 pub fn follow<W: World, S: Sink>(
     alloc: Global,
     order: &Order,

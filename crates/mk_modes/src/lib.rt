@@ -1,5 +1,5 @@
-//! What a run does before the line of its end is written: it reads the makefiles, and then prints from them,
-//! explains, asks, shows or builds; and the texts of its ends.
+//! What a run does before the line of its end is written: it reads the makefiles, and then prints
+//! from them, explains, asks, shows or builds; and the texts of its ends.
 #![tactic(auto)]
 
 mod building;

@@ -158,7 +158,8 @@ fn write_text<'t, S: Sink>(
     write_all(sink, &[b"bmake: ", before, name, after, b"\n"])
 }
 
-// Writes the line of a file, a number in decimal, and what is wrong there, with its numbers in decimal.
+// Writes the line of a file, a number in decimal, and what is wrong there, with its numbers in
+// decimal.
 fn write_place<'t, S: Sink>(
     sink: &mut S,
     file: &'t [u8],
@@ -327,8 +328,9 @@ fn write_failed<S: Sink>(sink: &mut S, name: &[u8], line: u32, status: u8) -> Re
     write_command(sink, name, number, b"status ", text, b"")
 }
 
-/// Writes the line of an end of a run with these words, if it has one: `Done`, `NotUpToDate` and `SinkFault` have
-/// none. `SinkFault` where a write failed; a part of the line may stand then. Takes no memory.
+/// Writes the line of an end of a run with these words, if it has one: `Done`, `NotUpToDate` and
+/// `SinkFault` have none. `SinkFault` where a write failed; a part of the line may stand then.
+/// Takes no memory.
 pub fn write_line<S: Sink>(sink: &mut S, words: &Texts, end: &End) -> Result<(), SinkFault>
     ensures done { OnOk result
         (Gains (S.held sink.old) (S.held sink.new) (spec.line_of words.now end.now)) }

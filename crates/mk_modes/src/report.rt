@@ -32,7 +32,8 @@ pub enum End {
     Expand(Text, u32, ExpandFault),
     /// This command line of this node, counted from 1, ended with this status. Status 1.
     JobFailed(Text, u32, u8),
-    /// This node, the first in the plan that is not kept, is out of date, which was asked. Status 1.
+    /// This node, the first in the plan that is not kept, is out of date, which was asked. Status
+    /// 1.
     NotUpToDate(Text),
     /// A call of the world failed. Status 3.
     WorldFault,
@@ -42,8 +43,8 @@ pub enum End {
     NoMemory,
 }
 
-/// What a run answers: its exit status, how it ended, the names of the nodes in plan order, and what
-/// the build did. Both lists are empty where there was no build.
+/// What a run answers: its exit status, how it ended, the names of the nodes in plan order, and
+/// what the build did. Both lists are empty where there was no build.
 #[derive(Drop)]
 pub struct Report {
     pub status: u8,

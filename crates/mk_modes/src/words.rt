@@ -22,8 +22,8 @@ pub fn word_at(words: &Texts, i: u32) -> &[u8]
     }
 }
 
-/// What the words ask for, in a directory that is absolute and clean. `Usage` has the place of the first word that
-/// is refused, and `NoMemory` may stand in place of any answer.
+/// What the words ask for, in a directory that is absolute and clean. `Usage` has the place of the
+/// first word that is refused, and `NoMemory` may stand in place of any answer.
 pub fn asked(alloc: Global, words: &Texts, cwd: &[u8]) -> Result<Order, End>
     requires { IsTrue (is_clean_directory cwd.now) }
     ensures value { Agrees no_memory (λ order. order) result (meaning.asked cwd.now words.now) }

@@ -16,7 +16,11 @@ use Rattle.mk_pieces.specs.declared.fault.ModFault.{ModFault}
 use Rattle.mk_mods.specs.declared.val.Separator.{Separator as Sign}
 use Rattle.mk_mods.specs.declared.val.Separator.TheVariants.{Byte, Nothing}
 use Rattle.mk_mods.specs.declared.modifier.Mod.{Mod}
-use Rattle.mk_mods.specs.declared.modifier.Mod.TheVariants.{Keep, Without, Subst, Suffix, Head, Tail, Root, Extension, Sort, SortBack, Unique, Lower, Upper, Quote, QuoteDollar, Separator, OneWord, ManyWords, Select, Range}
+use Rattle.mk_mods.specs.declared.modifier.Mod.TheVariants.{Keep, Without, Subst, Suffix, Head}
+use Rattle.mk_mods.specs.declared.modifier.Mod.TheVariants.{Tail, Root, Extension, Sort, SortBack}
+use Rattle.mk_mods.specs.declared.modifier.Mod.TheVariants.{Unique, Lower, Upper, Quote}
+use Rattle.mk_mods.specs.declared.modifier.Mod.TheVariants.{QuoteDollar, Separator, OneWord}
+use Rattle.mk_mods.specs.declared.modifier.Mod.TheVariants.{ManyWords, Select, Range}
 
 -- the words of a state, each changed, or some of them, or in another order
 abbrev pub on_words : (List (List ℕ) → List (List ℕ)) → State → Option State

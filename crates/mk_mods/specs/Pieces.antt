@@ -5,7 +5,9 @@ use Rattle.mk_pieces.specs.Pieces.{texts_of, furthest}
 use Rattle.mk_mods.specs.State.{State}
 use Rattle.mk_mods.specs.declared.val.Val.{Val}
 use Rattle.mk_mods.specs.declared.modifier.Mod.{Mod}
-use Rattle.mk_mods.specs.declared.modifier.Mod.TheVariants.{Keep, Without, Head, Tail, Root, Extension, Sort, SortBack, Unique, Separator, ManyWords, Select}
+use Rattle.mk_mods.specs.declared.modifier.Mod.TheVariants.{Keep, Without, Head, Tail, Root}
+use Rattle.mk_mods.specs.declared.modifier.Mod.TheVariants.{Extension, Sort, SortBack, Unique}
+use Rattle.mk_mods.specs.declared.modifier.Mod.TheVariants.{Separator, ManyWords, Select}
 
 -- the greatest end of its items
 abbrev pub end_of : Val → ℕ

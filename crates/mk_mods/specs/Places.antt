@@ -1,6 +1,7 @@
 -- The choice of words by their places, `:[..]` of make(1), and the numbers of `:range`.
 use Rattle.std.specs.Prelude.{ℕ, ◌+◌, ◌-◌, ◌==◌, Bool, not, ◌&&◌, nat_le, nat_eq, List, [], ◌∷◌}
-use Rattle.std.specs.Prelude.{length, take, drop, map, reverse, decimal, position, Option, Some, None}
+use Rattle.std.specs.Prelude.{length, take, drop, map, reverse, decimal, position, Option, Some}
+use Rattle.std.specs.Prelude.{None}
 use Rattle.std.specs.Prelude.{option_map, option_and_then, if◌then◌else◌, codes}
 use Rattle.std.specs.List.{range_with_len, starts_with}
 use Rattle.std.specs.Str.{bytes_eq}

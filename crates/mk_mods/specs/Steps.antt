@@ -15,7 +15,11 @@ use Rattle.mk_mods.specs.Places.{chosen, counted}
 use Rattle.mk_pieces.specs.Substitution.{substituted, suffixed, words_changed}
 use Rattle.mk_mods.specs.Order.{sorted}
 use Rattle.mk_mods.specs.declared.modifier.Mod.{Mod}
-use Rattle.mk_mods.specs.declared.modifier.Mod.TheVariants.{Keep, Without, Subst, Suffix, Head, Tail, Root, Extension, Sort, SortBack, Unique, Lower, Upper, Quote, QuoteDollar, Separator, OneWord, ManyWords, Select, Range}
+use Rattle.mk_mods.specs.declared.modifier.Mod.TheVariants.{Keep, Without, Subst, Suffix, Head}
+use Rattle.mk_mods.specs.declared.modifier.Mod.TheVariants.{Tail, Root, Extension, Sort, SortBack}
+use Rattle.mk_mods.specs.declared.modifier.Mod.TheVariants.{Unique, Lower, Upper, Quote}
+use Rattle.mk_mods.specs.declared.modifier.Mod.TheVariants.{QuoteDollar, Separator, OneWord}
+use Rattle.mk_mods.specs.declared.modifier.Mod.TheVariants.{ManyWords, Select, Range}
 
 -- whether a word matches a pattern, or with `false` whether it does not
 abbrev pub is_wanted : List ℕ → Bool → List ℕ → Bool

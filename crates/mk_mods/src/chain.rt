@@ -81,8 +81,8 @@ fn words_or_text(
     cut_words(alloc, region, val.pieces.as_slice())
 }
 
-/// The words of [`words_of`](crate::words_of), as pieces: a printed text that is one word is placed in the
-/// region where it is no piece yet. No word is copied.
+/// The words of [`words_of`](crate::words_of), as pieces: a printed text that is one word is placed
+/// in the region where it is no piece yet. No word is copied.
 pub fn word_pieces(alloc: Global, region: &mut Region, val: &Val) -> Result<Vec<Piece>, NoMemory>
     requires { end_of val.now ≤ length region.old.bytes }
     ensures shown { IfOk result (λ words. Shows region.new.bytes words.items

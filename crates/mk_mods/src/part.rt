@@ -44,10 +44,10 @@ fn before(region: &Region, word: Piece, at: usize) -> Piece
     ensures shown { bytes_of region.now.bytes result ≡ take at (bytes_of region.now.bytes word) }
     ensures within { result.end ≤ length region.now.bytes }
 {
-    prove!(word.end <= region.len());
+    prove!(word.end as usize <= region.len());
     Piece {
         start: word.start,
-        end: word.start + at,
+        end: word.start + at as u32,
     }
 }
 
@@ -59,9 +59,9 @@ fn behind(region: &Region, word: Piece, at: usize) -> Piece
         ≡ drop (at + 1) (bytes_of region.now.bytes word) }
     ensures within { result.end ≤ length region.now.bytes }
 {
-    prove!(word.end <= region.len());
+    prove!(word.end as usize <= region.len());
     Piece {
-        start: word.start + at + 1,
+        start: word.start + at as u32 + 1,
         end: word.end,
     }
 }

@@ -44,8 +44,8 @@ fn push_words(region: &Region, item: Piece, words: &mut Vec<Piece>) -> Result<()
     let mut from = 0;
     'words: while let Some(word) = next_word(text, from) {
         words.push(Piece {
-            start: item.start + word.start,
-            end: item.start + word.end,
+            start: item.start + word.start as u32,
+            end: item.start + word.end as u32,
         })?;
         from = word.end;
     }

@@ -57,8 +57,8 @@ impl Results {
         })
     }
 
-    /// Takes in a result: an item, or none where it is empty and the text is not one word. `TooLong`
-    /// exactly where the printed text would pass 4,194,304 bytes.
+    /// Takes in a result: an item, or none where it is empty and the text is not one word.
+    /// `TooLong` exactly where the printed text would pass 4,194,304 bytes.
     pub fn add(&mut self, text: Text) -> Result<(), ModFault>
         ensures { Agrees no_memory (λ done. self.new) result (spec.with_result self.old text) }
     {

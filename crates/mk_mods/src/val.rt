@@ -1,4 +1,5 @@
-ghost use Rattle.std.specs.Prelude.{◌≡◌, ◌≤◌, ◌+◌, ◌-◌, ◌++◌, length, take, option_to_list, SomeIff};
+ghost use Rattle.std.specs.Prelude.{◌≡◌, ◌≤◌, ◌+◌, ◌-◌, ◌++◌, length, take, option_to_list};
+ghost use Rattle.std.specs.Prelude.{SomeIff};
 ghost use Rattle.std.specs.Prelude.{IfOk, OnOk};
 ghost use Rattle.mk_mods.specs.State as spec;
 ghost use Rattle.mk_mods.specs.Limits.{fits};
@@ -8,7 +9,7 @@ ghost use Rattle.mk_mods.specs.Pieces.{seen, end_of};
 
 use crate::piece::{cut_words, place_all, texts};
 use mk_bytes::{Items, NoMemory, Text, Texts};
-use mk_pieces::{MAX_TEXT, place, shown};
+use mk_pieces::{MAX_TEXT, piece_between, place, shown};
 use mk_pool::{Piece, Region};
 use std::alloc::Global;
 
@@ -54,7 +55,7 @@ impl Val {
     {
         let mut end = 0;
         for piece in self.pieces.as_slice() {
-            end = end.max(piece.end);
+            end = end.max(piece.end as usize);
         }
         end
     }
@@ -203,7 +204,7 @@ fn lined_up(
         let start = len + bytes.len();
         bytes.push(text)?;
         let end = len + bytes.len();
-        moved.push(Piece { start, end })?;
+        moved.push(piece_between(start, end)?)?;
     }
     Ok((bytes, moved))
 }

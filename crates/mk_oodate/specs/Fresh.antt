@@ -42,9 +42,9 @@ AreTheSame = AllZip
     (λ line other. line.compared ≡ true
     → (line.text ≡ other.text) × (line.ignore ≡ other.ignore))
 
--- A target is fresh by a meta file: it was left alone since that was written; the exported variables,
--- the directory and the commands are those of its job; what the job found outside is older than the
--- job, what it missed is missing, and what it left written stands.
+-- A target is fresh by a meta file: it was left alone since that was written; the exported
+-- variables, the directory and the commands are those of its job; what the job found outside is
+-- older than the job, what it missed is missing, and what it left written stands.
 pub record IsFresh (meta : Meta) (task : Task) (times : Times) : Type 0 where
   pub standing : times.target ≢ when.Missing
   pub target : meta.target ≡ task.target

@@ -10,8 +10,8 @@ use mk_filemon::Recs;
 use mk_meta::Meta;
 use mk_world::{Task, Time, When};
 
-/// Whether a source is newer than a target: it is new, or was changed strictly later. A time that is not
-/// known is later than all.
+/// Whether a source is newer than a target: it is new, or was changed strictly later. A time that
+/// is not known is later than all.
 pub fn is_newer(target: When, source: Age) -> bool
     ensures { result ≡ spec.is_newer target source }
 {

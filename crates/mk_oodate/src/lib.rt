@@ -17,7 +17,8 @@
 //! 9. `Appeared(i)`: what the job missed is there.
 //! 10. `Left(i)`: what the job left written is missing.
 //!
-//! Parts 4 to 10 count in meta mode alone, and 7 to 10 only where records count. An unknown time counts as later than all.
+//! Parts 4 to 10 count in meta mode alone, and 7 to 10 only where records count. An unknown time
+//! counts as later than all.
 #![tactic(auto)]
 
 mod decision;

@@ -6,8 +6,8 @@ use mk_bytes::Pair;
 use mk_meta::Meta;
 use mk_world::{Task, TaskLine};
 
-/// Whether two lines are the same for a target: where the first one is compared, they have one text, and
-/// their failures are either both ignored or both not.
+/// Whether two lines are the same for a target: where the first one is compared, they have one
+/// text, and their failures are either both ignored or both not.
 pub fn same_line(line: &TaskLine, other: &TaskLine) -> bool
     ensures { result ≡ spec.same_line line.now other.now }
 {

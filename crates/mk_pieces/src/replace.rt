@@ -14,7 +14,7 @@ ghost use Rattle.mk_pieces.specs.declared.fault.ModFault.TheVariants.{
 use crate::fault::ModFault;
 use crate::fresh::{push, push_both, push_three};
 use crate::letters::recased;
-use crate::piece::{place, shown};
+use crate::piece::{piece_between, place, shown};
 use memchr::memchr;
 use memchr::memmem::Finder;
 use mk_pool::{Piece, Region};
@@ -23,9 +23,9 @@ use std::alloc::Global;
 /// How a word is changed. A word that does not match stays.
 #[derive(Clone, Copy)]
 pub enum Change<'m> {
-    /// `from` becomes `to`: at its first place, or with `all` at each from the left; with `at_start`
-    /// only at the start of the word, with `at_end` only at its end. An empty `from` is at no place
-    /// within a word.
+    /// `from` becomes `to`: at its first place, or with `all` at each from the left; with
+    /// `at_start` only at the start of the word, with `at_end` only at its end. An empty `from` is
+    /// at no place within a word.
     Subst {
         from: &'m [u8],
         to: &'m [u8],
@@ -313,7 +313,7 @@ fn changed_piece(
         return Ok((word, false));
     }
     let end = region.len() + out.len();
-    Ok((Piece { start, end }, true))
+    Ok((piece_between(start, end)?, true))
 }
 
 fn is_ready_for_more(ready: bool, once: bool, is_changed: bool) -> bool
@@ -322,10 +322,11 @@ fn is_ready_for_more(ready: bool, once: bool, is_changed: bool) -> bool
     ready && !(once && is_changed)
 }
 
-/// Changes each word that matches, or with `once` the first one, and gives the pieces of all words in
-/// order. Words that stay keep their pieces; the others are placed in the region behind its old bytes,
-/// which stay its beginning, after refusals too. `TooLong` comes only where the words that it would give
-/// have more than 4,194,304 bytes together, `NoMemory` where memory runs out, and `BadPlace` never.
+/// Changes each word that matches, or with `once` the first one, and gives the pieces of all words
+/// in order. Words that stay keep their pieces; the others are placed in the region behind its old
+/// bytes, which stay its beginning, after refusals too. `TooLong` comes only where the words that
+/// it would give have more than 4,194,304 bytes together, `NoMemory` where memory runs out, and
+/// `BadPlace` never.
 pub fn change_words(
     alloc: Global,
     region: &mut Region,

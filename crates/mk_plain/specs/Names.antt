@@ -1,5 +1,7 @@
--- When a name is made in the same way by two maps of files, as by those that stand and by those where made files are away.
-use Rattle.std.specs.Prelude.{◌≡◌, ◌⊎◌, ℕ, Bool, true, List, [], ◌∷◌, ◌++◌, map, Option, Some, None, Ok, is_some}
+-- When a name is made in the same way by two maps of files, as by those that stand and by those
+-- where made files are away.
+use Rattle.std.specs.Prelude.{◌≡◌, ◌⊎◌, ℕ, Bool, true, List, [], ◌∷◌, ◌++◌, map, Option, Some, None}
+use Rattle.std.specs.Prelude.{Ok, is_some}
 use Rattle.std.specs.List.{AllByRecursion}
 use Rattle.mk_clean.specs.Clean.{IsAmong}
 use Rattle.mk_closure.specs.Means.{chain_for, has_commands, is_phony}
@@ -16,11 +18,13 @@ use Rattle.mk_suffix.specs.Found.{is_marked}
 use Rattle.mk_suffix.specs.Names.{suffix_of, without_end}
 use Rattle.mk_world.specs.Deeds.{Store}
 
--- the paths at which a file of this name is sought: itself, and below the directories that are searched
+-- the paths at which a file of this name is sought: itself, and below the directories that are
+-- searched
 abbrev pub sought : Made → List ℕ → List (List ℕ)
 sought made name = name ∷ map (λ dir. below made.scopes.cwd dir name) made.paths
 
--- A name has the same place: it is a target of the makefiles, or the same stands wherever it is sought.
+-- A name has the same place: it is a target of the makefiles, or the same stands wherever it is
+-- sought.
 abbrev pub IsPlacedAlike : Store → Store → Made → List ℕ → Type 0
 IsPlacedAlike files other made name =
     (is_marked made.graph name Target ≡ true)
@@ -33,8 +37,9 @@ AreSourcesAlike files other made name (Some own) =
     AllByRecursion (λ chain. IsPlacedAlike files other made (without_end name own ++ first_of chain))
     (chains_to made.graph made.suffixes own)
 
--- A node is made in the same way. It has commands of its own. Or the names from which suffix rules may lead to it, which
--- are not sought for a phony one, have the same places; and it has, too, where no rule makes it.
+-- A node is made in the same way. It has commands of its own. Or the names from which suffix rules
+-- may lead to it, which are not sought for a phony one, have the same places; and it has, too,
+-- where no rule makes it.
 abbrev pub IsMadeAlike : Store → Store → Made → List ℕ → ℕ → Type 0
 IsMadeAlike files other made name n =
     (has_commands made.graph n ≡ true)

@@ -1,5 +1,6 @@
 -- A region of bytes that begins with `./`.
-use Rattle.std.specs.Prelude.{◌≡◌, ℕ, ◌+◌, ◌≤◌, ◌<◌, ◌^◌, List, [], length, take, codes, if◌then◌else◌, ◌==◌}
+use Rattle.std.specs.Prelude.{◌≡◌, ℕ, ◌+◌, ◌≤◌, ◌<◌, ◌^◌, List, [], length, take, codes}
+use Rattle.std.specs.Prelude.{if◌then◌else◌, ◌==◌}
 
 -- its bytes, and how many more it takes without asking for memory
 pub record Contents : Type 0 where

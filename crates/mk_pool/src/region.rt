@@ -1,4 +1,5 @@
-ghost use Rattle.std.specs.Prelude.{◌≡◌, ◌+◌, ◌-◌, ◌^◌, ◌<◌, ◌≤◌, ◌++◌, length, take, slice_range, codes, IsOk, IfOk, OnOk, OnErr};
+ghost use Rattle.std.specs.Prelude.{◌≡◌, ◌+◌, ◌-◌, ◌^◌, ◌<◌, ◌≤◌, ◌++◌, length, take, slice_range};
+ghost use Rattle.std.specs.Prelude.{codes, IsOk, IfOk, OnOk, OnErr};
 
 use mk_bytes::NoMemory;
 use std::alloc::Global;
@@ -9,11 +10,12 @@ const MAX_LEN: usize = 0xffff_ffff;
 // The bytes that every region begins with.
 const START: &[u8] = b"./";
 
-/// Where a text lies in a region: from the byte at `start` to before the byte at `end`.
+/// Where a text lies in a region, which stays below 2^32 bytes: from the byte at `start` to before
+/// the byte at `end`.
 #[derive(Clone, Copy, PartialEq, Eq)]
 pub struct Piece {
-    pub start: usize,
-    pub end: usize,
+    pub start: u32,
+    pub end: u32,
 }
 
 /// One region of bytes, in which all texts of one expansion lie. It begins with the bytes `./`, so
@@ -83,7 +85,7 @@ impl Region {
         requires within { piece.end ≤ length self.now.bytes }
         ensures { result.now ≡ slice_range self.now.bytes piece.start piece.end }
     {
-        &self.as_slice()[piece.start..piece.end]
+        &self.as_slice()[piece.start as usize..piece.end as usize]
     }
 
     /// Makes room for `n` more bytes. It is refused where memory runs out or the region could reach
@@ -126,8 +128,8 @@ impl Region {
         self.bytes.extend_from_slice(bytes).unwrap();
         self.spare -= bytes.len();
         Piece {
-            start,
-            end: start + bytes.len(),
+            start: start as u32,
+            end: (start + bytes.len()) as u32,
         }
     }
 

@@ -1,11 +1,13 @@
 -- What a query answers.
-use Rattle.std.specs.Prelude.{◌≡◌, ℕ, ◌<◌, ◌≤◌, ◌+◌, List, [], ◌∷◌, ◌++◌, length, Option, Result, Ok, Err}
+use Rattle.std.specs.Prelude.{◌≡◌, ℕ, ◌<◌, ◌≤◌, ◌+◌, List, [], ◌∷◌, ◌++◌, length, Option, Result}
+use Rattle.std.specs.Prelude.{Ok, Err}
 use Rattle.mk_decision.specs.Decisions.{Work, IsBegun, IsKept, IsRefused}
 use Rattle.mk_decision.specs.Looks.{LooksAt}
 use Rattle.mk_plan.specs.Plans.{node_at}
 use Rattle.mk_query.specs.Looks.{Saw}
 use Rattle.mk_query.specs.declared.result.QueryResult.{QueryResult}
-use Rattle.mk_query.specs.declared.result.QueryResult.TheVariants.{UpToDate, OutOfDate, Expand, World, NoMemory}
+use Rattle.mk_query.specs.declared.result.QueryResult.TheVariants.{UpToDate, OutOfDate, Expand}
+use Rattle.mk_query.specs.declared.result.QueryResult.TheVariants.{World, NoMemory}
 use Rattle.mk_trace.specs.declared.event.Event.{Event}
 use Rattle.mk_trace.specs.declared.event.Event.TheVariants.{Kept, Refused}
 use Rattle.mk_world.specs.Looks.{Seen}
@@ -57,8 +59,8 @@ pub record IsOutOfDate (work : Work) (node : ℕ) (seen : List Seen) : Type 0 wh
   pub lines : List TaskLine
   pub begun : IsBegun work node seen lines
 
--- How a query ends behind so many nodes that are kept: there is no more node, or the next one, by what was
--- seen of it, is out of date or is refused.
+-- How a query ends behind so many nodes that are kept: there is no more node, or the next one, by
+-- what was seen of it, is out of date or is refused.
 abbrev pub StandsBy : Work → ℕ → List Seen → QueryResult → Type 0
 StandsBy work place seen UpToDate = (place ≡ length work.plan) × (seen ≡ [])
 StandsBy work place seen (OutOfDate node) = (node ≡ place) × IsOutOfDate work place seen
@@ -83,7 +85,8 @@ Answered meaning work before after result events =
     (answer : Answer work result events)
     × LooksAt meaning before after (all_seen answer.kept ++ answer.last)
 
--- A query: its answer goes by looks at the files as they stood at its beginning, and nothing else happened.
+-- A query: its answer goes by looks at the files as they stood at its beginning, and nothing else
+-- happened.
 abbrev pub IsAnswer : Work → Option History → Option History → QueryResult → List Event → Type 0
 IsAnswer work before after result events =
     (answer : Answer work result events)

@@ -11,8 +11,8 @@ use Rattle.mk_world.specs.declared.history.History.{History}
 abbrev pub look_of : Seen → Happening
 look_of one = Look (path_of one)
 
--- Make looked at these files, one after the other, and nothing else happened: each look tells what stood
--- there at the beginning.
+-- Make looked at these files, one after the other, and nothing else happened: each look tells what
+-- stood there at the beginning.
 pub record Saw (seen : List Seen) (old new : History) : Type 0 where
   pub base : new.base ≡ old.base
   pub events : new.events ≡ old.events ++ map look_of seen

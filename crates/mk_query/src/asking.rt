@@ -16,8 +16,8 @@ use mk_trace::{Event, Events};
 use mk_world::{Time, World, WorldFault};
 use std::alloc::Global;
 
-// Goes through the nodes up to the first that is not kept. Tells of those that are, and of one that is
-// refused.
+// Goes through the nodes up to the first that is not kept. Tells of those that are, and of one that
+// is refused.
 fn first_not_kept<W: World>(
     maker: &Maker,
     world: &mut W,
@@ -63,10 +63,10 @@ fn ended_by(went: Result<QueryResult, WorldFault>) -> QueryResult
     }
 }
 
-/// Whether the nodes of a plan are up to date. They are looked at in plan order, up to the first that is
-/// out of date or has a line that cannot be expanded; the answer is that node, and the report tells of those
-/// before it, which are kept. A node is out of date as it is for a build. Nothing is started, and no file
-/// is changed.
+/// Whether the nodes of a plan are up to date. They are looked at in plan order, up to the first
+/// that is out of date or has a line that cannot be expanded; the answer is that node, and the
+/// report tells of those before it, which are kept. A node is out of date as it is for a build.
+/// Nothing is started, and no file is changed.
 ///
 /// `World` comes only where the world's count of faults rose.
 pub fn query<W: World>(

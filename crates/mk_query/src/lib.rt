@@ -1,4 +1,5 @@
-//! Queries: whether the targets are up to date (NetBSD make(1), `-q`). Nothing is started or changed.
+//! Queries: whether the targets are up to date (NetBSD make(1), `-q`). Nothing is started or
+//! changed.
 #![tactic(auto)]
 
 mod asking;

@@ -17,7 +17,8 @@ pub enum QueryResult {
     NoMemory,
 }
 
-/// How a query ended, and what was found of the nodes: those that are kept, and one that is refused.
+/// How a query ended, and what was found of the nodes: those that are kept, and one that is
+/// refused.
 #[derive(Drop)]
 pub struct QueryEnd {
     pub result: QueryResult,

@@ -3,7 +3,8 @@ use Rattle.std.specs.Prelude.{◌≡◌, ℕ, List, [], ◌∷◌, Option, Some,
 use Rattle.mk_cli.specs.declared.order.Order.{Order}
 use Rattle.mk_graph.specs.declared.Made.{Made}
 use Rattle.mk_makefile.specs.Acts.{acts_of}
-use Rattle.mk_makefile.specs.Questions.{Answers, Listing, Running, cuts_in, listings_in, runnings_in}
+use Rattle.mk_makefile.specs.Questions.{Answers, Listing, Running, cuts_in, listings_in}
+use Rattle.mk_makefile.specs.Questions.{runnings_in}
 use Rattle.mk_makefile.specs.ReadFaults.{Reads}
 use Rattle.mk_makefile.specs.Reading.{reading}
 use Rattle.mk_makefile.specs.declared.fault.ReadFault.{ReadFault}

@@ -56,9 +56,9 @@ abbrev pub failure_in : {A : Type 0} → Result A ReadFault → Option Outside
 failure_in (Ok given) = None
 failure_in (Err fault) = failure_by fault
 
--- A fault of the reading, behind all that is done before it: the same messages, files, times, listings
--- and commands. Before a fault of the outside or want of memory a first part of that was done, and behind
--- it the last evaluation may have asked for times.
+-- A fault of the reading, behind all that is done before it: the same messages, files, times,
+-- listings and commands. Before a fault of the outside or want of memory a first part of that was
+-- done, and behind it the last evaluation may have asked for times.
 abbrev pub Refused : {A : Type 0} → Option (List ℕ) → Option (List ℕ) → List Act → ReadFault
     → Reads A → Type 0
 Refused before after asked World defined = DidPart before after [] asked defined.acts
@@ -67,19 +67,21 @@ Refused before after asked NoMemory defined = DidPart before after [] asked defi
 Refused before after asked fault defined =
     (defined.answer ≡ Err fault) × Did before after [] asked defined.acts
 
--- An answer is what is defined, and exactly that was done outside which is defined: standard error has
--- gained the messages, and these files, times, listings and commands were asked for, in this order.
+-- An answer is what is defined, and exactly that was done outside which is defined: standard error
+-- has gained the messages, and these files, times, listings and commands were asked for, in this
+-- order.
 abbrev pub Gave : {A : Type 0} → Option (List ℕ) → Option (List ℕ) → List Act
     → Result A ReadFault → Reads A → Type 0
 Gave before after asked (Ok given) defined =
     (defined.answer ≡ Ok given) × Did before after [] asked defined.acts
 Gave before after asked (Err fault) defined = Refused before after asked fault defined
 
--- The world was asked these questions in order, each answered with what stood there at its moment, and
--- nothing else happened in it. What is given is defined by the answers, whatever other questions would
--- be answered, and the questions are those of the definition, of files, times, listings and commands
--- alike: no more, no fewer, in its order. So they are behind a fault of the makefiles too. Where the outside
--- failed, or memory ran out, the last question may be that of a command without an answer.
+-- The world was asked these questions in order, each answered with what stood there at its moment,
+-- and nothing else happened in it. What is given is defined by the answers, whatever other
+-- questions would be answered, and the questions are those of the definition, of files, times,
+-- listings and commands alike: no more, no fewer, in its order. So they are behind a fault of the
+-- makefiles too. Where the outside failed, or memory ran out, the last question may be that of a
+-- command without an answer.
 pub record ReadBy {A : Type 0} (meaning : Meaning) (before after : Option History)
     (held held_after : Option (List ℕ)) (answer : Result A ReadFault)
     (defined : Answers → Reads A) : Type 0

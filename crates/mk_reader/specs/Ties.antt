@@ -1,5 +1,6 @@
 -- How the calls of a reader are tied to the meaning of lines.
-use Rattle.std.specs.Prelude.{◌≡◌, ℕ, ◌<◌, ◌≤◌, List, [], ◌∷◌, ◌++◌, Option, Some, None, Result, Ok, Err, slice_get}
+use Rattle.std.specs.Prelude.{◌≡◌, ℕ, ◌<◌, ◌≤◌, List, [], ◌∷◌, ◌++◌, Option, Some, None, Result, Ok}
+use Rattle.std.specs.Prelude.{Err, slice_get}
 use Rattle.std.specs.Prelude.{zero, suc}
 use Rattle.std.proofs.Common.{refl, sym, ap, subst, ◌∙◌, append_assoc, arith}
 use Rattle.std.proofs.lemmas.List.{append-nil, map-append}
@@ -11,7 +12,8 @@ use Rattle.mk_values.specs.Facts.{Means, RefusedBehind}
 use Rattle.mk_values.specs.Facts as expand
 use Rattle.mk_values.specs.Value.{questions_of, with_asked}
 use Rattle.mk_values.specs.declared.fault.ExpandFault.{ExpandFault}
-use Rattle.mk_makefile.specs.Acts.{Did, Did-both, Did-nothing, DidPart, DidPart-behind, DidPart-more, DidPart-whole, acts_of}
+use Rattle.mk_makefile.specs.Acts.{Did, Did-both, Did-nothing, DidPart, DidPart-behind}
+use Rattle.mk_makefile.specs.Acts.{DidPart-more, DidPart-whole, acts_of}
 use Rattle.mk_makefile.specs.Kinds.{line_kind}
 use Rattle.mk_makefile.specs.Languages.{meaning}
 use Rattle.mk_makefile.specs.Leads.{Led, told-none, told_both}
@@ -19,8 +21,10 @@ use Rattle.mk_makefile.specs.Moments.{Doing, Moment, moment_of}
 use Rattle.mk_makefile.specs.Notes.{asked_by, question_of, questions_in}
 use Rattle.mk_makefile.specs.Questions.{Answered, Answers, AreAsked, Question}
 use Rattle.mk_makefile.specs.Questions.{bytes_of, cut, names_of, output_of, time_of}
-use Rattle.mk_makefile.specs.Questions.{cuts_in, cuts_in-append, listings_in, readings_in, runnings_in, times_in}
-use Rattle.mk_makefile.specs.Questions.{listings_in-append, readings_in-append, runnings_in-append, times_in-append}
+use Rattle.mk_makefile.specs.Questions.{cuts_in, cuts_in-append, listings_in, readings_in}
+use Rattle.mk_makefile.specs.Questions.{runnings_in, times_in}
+use Rattle.mk_makefile.specs.Questions.{listings_in-append, readings_in-append, runnings_in-append}
+use Rattle.mk_makefile.specs.Questions.{times_in-append}
 use Rattle.mk_makefile.specs.Refusals.{sorted}
 use Rattle.mk_makefile.specs.SomeAnswers.{answers_to, are_answered}
 use Rattle.mk_makefile.specs.declared.fault.Outside.{Outside}
@@ -50,8 +54,8 @@ IsCutLast [] = Unit {0}
 IsCutLast (last ∷ []) = Unit {0}
 IsCutLast (first ∷ next ∷ more) = (cuts_in (first ∷ []) ≡ []) × IsCutLast (next ∷ more)
 
--- Where nothing failed, each command was answered. Else the last question alone may be that of a command
--- without an answer.
+-- Where nothing failed, each command was answered. Else the last question alone may be that of a
+-- command without an answer.
 abbrev pub IsWhole : Option Outside → List Question → Type 0
 IsWhole None questions = cuts_in questions ≡ []
 IsWhole (Some failure) questions = IsCutLast questions
@@ -278,8 +282,8 @@ Gave outer x y view answer question =
     (λ answers found. done (view found, moment_of y.state.now y.order.now)) answer
     (λ answers. question answers (moment_of x.state.now x.order.now))
 
--- What evaluating a text or a condition gives, what it asks for, behind a fault of its own too, and what
--- it leaves of what was read and of the world.
+-- What evaluating a text or a condition gives, what it asks for, behind a fault of its own too, and
+-- what it leaves of what was read and of the world.
 pub record Evaluated {A B : Type 0} (meaning : Meaning) (idle then_idle : Type 0)
     (before after : Option History) (old new : State) (view : A → B)
     (answer : Result A ExpandFault)

@@ -3,8 +3,8 @@ ghost use Rattle.std.specs.Prelude.{◌≡◌};
 use mk_cli::Order;
 use mk_makefile::State;
 
-/// What reads makefiles: the world that it asks, the sink of its messages, what the lines so far leave,
-/// and what the command line orders.
+/// What reads makefiles: the world that it asks, the sink of its messages, what the lines so far
+/// leave, and what the command line orders.
 #[derive(Drop)]
 pub struct Reader<'a, W, S> {
     pub world: &'a mut W,

@@ -208,13 +208,13 @@ impl<'a, W: World, S: Sink> Reader<'a, W, S> {
 /// command line.
 ///
 /// Read are the files of `-f` in order, or else the first of `makefile` and `Makefile` that exists.
-/// `NoFile` names the first missing file of `-f`, or `makefile` where both default ones are missing.
-/// `Bad` names the first thing that is wrong, with its file and line; the faults of a file's lines
-/// come before those of its blocks, and both before any of its lines is processed. `Limit` comes
-/// exactly where a line or turn more than 4,194,304 would be processed, or an included file more
-/// than 64 be open. Messages are written to `err` when their lines are reached. `World` comes only
-/// where the world's count of faults rose in this call or is at its end, and `Sink` only where that
-/// of `err` did.
+/// `NoFile` names the first missing file of `-f`, or `makefile` where both default ones are
+/// missing. `Bad` names the first thing that is wrong, with its file and line; the faults of a
+/// file's lines come before those of its blocks, and both before any of its lines is processed.
+/// `Limit` comes exactly where a line or turn more than 4,194,304 would be processed, or an
+/// included file more than 64 be open. Messages are written to `err` when their lines are reached.
+/// `World` comes only where the world's count of faults rose in this call or is at its end, and
+/// `Sink` only where that of `err` did.
 pub fn read<W: World, S: Sink>(
     alloc: Global,
     world: &mut W,

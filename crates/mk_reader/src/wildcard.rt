@@ -118,8 +118,8 @@ impl<'a, W: World, S: Sink> Reader<'a, W, S> {
         Ok(())
     }
 
-    /// Puts in place of the names of a line the files that they stand for, its targets first. A line of
-    /// which no target is left is refused.
+    /// Puts in place of the names of a line the files that they stand for, its targets first. A
+    /// line of which no target is left is refused.
     pub fn list_line(&mut self, alloc: Global, line: &mut DepLine) -> Result<(), Refusal>
         ensures { Gave (outer W.meaning W.history W.faults W.runs S.held S.faults)
             self.old self.new (λ _. line.new) result

@@ -1,5 +1,6 @@
 -- The line on a terminal that tells how far a build has come.
-use Rattle.std.specs.Prelude.{ℕ, List, [], ◌∷◌, ◌++◌, ◌||◌, ◌==◌, nat_lt, take, codes, decimal, if◌then◌else◌}
+use Rattle.std.specs.Prelude.{ℕ, List, [], ◌∷◌, ◌++◌, ◌||◌, ◌==◌, nat_lt, take, codes, decimal}
+use Rattle.std.specs.Prelude.{if◌then◌else◌}
 use Rattle.std.specs.List.{flat_map}
 use Rattle.mk_bytes.specs.Bytes.{question_mark}
 
@@ -18,7 +19,7 @@ line made total running name =
     codes "bmake: " ++ decimal made ++ codes " of " ++ decimal total ++ codes " done, "
     ++ decimal running ++ codes " running" ++ oldest name
 
--- What is written on a terminal: the line stands at its beginning, with 79 bytes at most, and the rest of
--- what stood there is erased.
+-- What is written on a terminal: the line stands at its beginning, with 79 bytes at most, and the
+-- rest of what stood there is erased.
 abbrev pub written : ℕ → ℕ → ℕ → List ℕ → List ℕ
 written made total running name = 13 ∷ take 79 (line made total running name) ++ 27 ∷ codes "[K"

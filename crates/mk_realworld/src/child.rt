@@ -20,7 +20,8 @@ use std::fs::{File, Files};
 use std::marker::Model;
 use std::process::{Child, Command, ExitStatus, OpenProcess, Processes};
 
-/// The shell that was started for a command, with what it prints and its log. Contracts see its ticket.
+/// The shell that was started for a command, with what it prints and its log. Contracts see its
+/// ticket.
 #[derive(Drop)]
 pub struct RealKid<P: OpenProcess + Drop> {
     child: Child<P>,
@@ -30,8 +31,8 @@ pub struct RealKid<P: OpenProcess + Drop> {
     cwd: Text,
 }
 
-/// What is known of a child when it is taken in: its ticket, what it printed, and the records of its
-/// steps, where a recorder left a whole log.
+/// What is known of a child when it is taken in: its ticket, what it printed, and the records of
+/// its steps, where a recorder left a whole log.
 #[derive(Drop)]
 pub struct Told {
     pub ticket: u32,
@@ -55,8 +56,8 @@ fn status_of(status: ExitStatus) -> u8
     }
 }
 
-// The records of a log, where there is one and it is whole. Paths are named from the directory of its
-// command.
+// The records of a log, where there is one and it is whole. Paths are named from the directory of
+// its command.
 fn records_of(alloc: Global, cwd: &[u8], log: Option<&Text>) -> Result<Option<Ops>, NoMemory>
     ensures { IfOk result (λ records. records ≡ logs.records_of cwd.now (option_copied log.entry)) }
 {
@@ -146,7 +147,8 @@ impl<P: OpenProcess + Drop> RealKid<P> {
         Ok(status_of(self.child.wait()?))
     }
 
-    // The text of its log, where a plain file stands there, which is removed. One above 64 MiB is none.
+    // The text of its log, where a plain file stands there, which is removed. One above 64 MiB is
+    // none.
     fn take_log<R: Files + AllocGlobal>(
         &self,
         system: &mut System<R>,
@@ -162,7 +164,8 @@ impl<P: OpenProcess + Drop> RealKid<P> {
         Ok(log)
     }
 
-    /// What is told of it, when its shell has ended: what it printed until then, and what its log tells.
+    /// What is told of it, when its shell has ended: what it printed until then, and what its log
+    /// tells.
     pub fn told<R: Files<File = File> + AllocGlobal>(
         &mut self,
         system: &mut System<R>,

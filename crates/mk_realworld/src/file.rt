@@ -79,8 +79,8 @@ pub fn plain_text<R: Files + AllocGlobal>(
     }
 }
 
-/// What was seen at a path: when its bytes were changed last, when it was changed last in any way, and
-/// whether a pipe with a name stands there.
+/// What was seen at a path: when its bytes were changed last, when it was changed last in any way,
+/// and whether a pipe with a name stands there.
 #[derive(Clone, Copy, PartialEq, Eq)]
 pub struct Sight {
     pub time: When,
@@ -100,8 +100,8 @@ fn unclear(when: When) -> Sight
     }
 }
 
-/// What stands at a path. What the system does not tell is unknown: below a folder that is closed, at
-/// a name that is too long or is not UTF-8, in a loop of links.
+/// What stands at a path. What the system does not tell is unknown: below a folder that is closed,
+/// at a name that is too long or is not UTF-8, in a loop of links.
 pub fn look<R: Files>(rt: &R, path: &[u8]) -> Result<Sight, Refusal> {
     let Ok(path) = str::from_utf8(path) else {
         return Ok(unclear(When::Unknown));

@@ -9,8 +9,8 @@ use indexmap::IndexMap;
 use mk_bytes::NoMemory;
 use std::alloc::Global;
 
-/// What was seen at paths, where it is known, and how many children run. A look-up takes about constant
-/// time.
+/// What was seen at paths, where it is known, and how many children run. A look-up takes about
+/// constant time.
 #[derive(Drop)]
 pub struct KnownTimes {
     alloc: Global,
@@ -76,8 +76,8 @@ impl KnownTimes {
         self.running = 0;
     }
 
-    /// What was seen at a path is known from now on, where no child runs; where one runs, or memory runs
-    /// out, nothing comes to be known.
+    /// What was seen at a path is known from now on, where no child runs; where one runs, or memory
+    /// runs out, nothing comes to be known.
     pub fn learn(&mut self, path: &[u8], sight: Sight) -> Result<(), NoMemory>
         ensures known { OnOk result (self.old.running ≡ 0 → sights_in self.new path.now ≡ Some sight) }
         ensures others { OnOk result ((other : List ℕ) → bytes_eq other path.now ≡ false

@@ -1,5 +1,6 @@
-//! Outputs of children that were taken in, where processes in the background can still write. What they
-//! print late belongs to nobody. It is read and let go as long as make runs, so that they go on.
+//! Outputs of children that were taken in, where processes in the background can still write. What
+//! they print late belongs to nobody. It is read and let go as long as make runs, so that they go
+//! on.
 use std::alloc::Global;
 use std::io::{PipeReader, Read};
 

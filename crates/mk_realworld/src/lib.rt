@@ -1,8 +1,8 @@
 //! The world of real files and children, and the program's own standard output and standard error.
 //!
-//! They tell nothing of contents, so contracts say of them only that they count their faults, and of
-//! a world that it holds the children that it was asked for. That real files, children and streams
-//! behave as the laws of a world and a sink say is trusted.
+//! They tell nothing of contents, so contracts say of them only that they count their faults, and
+//! of a world that it holds the children that it was asked for. That real files, children and
+//! streams behave as the laws of a world and a sink say is trusted.
 #![tactic(auto)]
 
 mod child;

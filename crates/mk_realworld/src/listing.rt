@@ -43,8 +43,8 @@ fn read_names<D: Read>(alloc: Global, buffer: &mut [u8], dir: &mut D) -> Result<
     Err(Refusal::Outside(Reason::Other))
 }
 
-/// The names in a directory, in the order of their bytes; `None` where there is no directory. A name may
-/// be any bytes. They are read by way of a buffer, which must not be empty.
+/// The names in a directory, in the order of their bytes; `None` where there is no directory. A
+/// name may be any bytes. They are read by way of a buffer, which must not be empty.
 pub fn names_in<R: Files + AllocGlobal>(
     rt: &R,
     buffer: &mut [u8],

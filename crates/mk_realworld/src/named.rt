@@ -54,7 +54,8 @@ impl Named {
         &self.stderr
     }
 
-    /// Names a call that failed, with what it was about and why, where no other one was named before.
+    /// Names a call that failed, with what it was about and why, where no other one was named
+    /// before.
     pub fn name(&mut self, call: &[u8], path: &[u8], reason: Reason) {
         if !self.is_done {
             self.is_done = true;

@@ -1,5 +1,5 @@
-//! What a child prints. It comes by a pipe, so that a command which opens `/dev/stderr` anew cuts nothing
-//! that it printed before.
+//! What a child prints. It comes by a pipe, so that a command which opens `/dev/stderr` anew cuts
+//! nothing that it printed before.
 ghost use Rattle.std.specs.Prelude.{◌≤◌, length, IfOk};
 ghost use Rattle.mk_realworld.specs.PieceSizes.{bytes_of};
 
@@ -11,8 +11,8 @@ use std::io;
 use std::io::{Error, ErrorKind, PipeReader, PipeWriter, Read};
 use std::os::fd::AsRawFd;
 
-/// The end of a pipe at which make reads, until nobody can write into it any more, and what has come
-/// out of it so far.
+/// The end of a pipe at which make reads, until nobody can write into it any more, and what has
+/// come out of it so far.
 #[derive(Drop)]
 pub struct Output {
     reader: Option<PipeReader>,

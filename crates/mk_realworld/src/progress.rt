@@ -1,5 +1,5 @@
-//! The line on a terminal that tells how far a build has come, while make waits for a child. It decides
-//! nothing: a fault of writing it is passed over.
+//! The line on a terminal that tells how far a build has come, while make waits for a child. It
+//! decides nothing: a fault of writing it is passed over.
 ghost use Rattle.std.specs.Prelude.{◌≡◌, ◌++◌, decimal, flat_map, take, IfOk, OnOk};
 ghost use Rattle.mk_realworld.specs.Progress as spec;
 
@@ -96,8 +96,8 @@ fn cut(line: &[u8]) -> &[u8]
     &line[..COLUMNS.min(line.len())]
 }
 
-// What is written: the line takes the place of what stands before the cursor, and nothing stands behind
-// it.
+// What is written: the line takes the place of what stands before the cursor, and nothing stands
+// behind it.
 fn written(
     alloc: Global,
     made: u32,
@@ -115,8 +115,8 @@ fn written(
 }
 
 impl<'p> StatusLine<'p> {
-    /// The line of a wait that begins now with so many children. Where there is no progress to show it
-    /// never comes.
+    /// The line of a wait that begins now with so many children. Where there is no progress to show
+    /// it never comes.
     pub fn new<C: Clock>(
         clock: &C,
         alloc: Global,
@@ -162,8 +162,8 @@ impl<'p> StatusLine<'p> {
         }
     }
 
-    /// Shows it on standard error, where that is a terminal and the wait has been long. It is written once,
-    /// as nothing of it changes until a child is taken in.
+    /// Shows it on standard error, where that is a terminal and the wait has been long. It is
+    /// written once, as nothing of it changes until a child is taken in.
     pub fn show<C: Clock>(&mut self, clock: &C, stderr: &Stderr) {
         if let Some(progress) = self.progress {
             if self.is_due(clock) {

@@ -98,8 +98,8 @@ fn is_left_behind<R: Files<File = File> + AllocGlobal>(
     }
 }
 
-// Removes the directories that makes of this user left behind, below one for temporary files. What the
-// system does not let go stays.
+// Removes the directories that makes of this user left behind, below one for temporary files. What
+// the system does not let go stays.
 fn remove_left_behind<R: Files<File = File> + AllocGlobal + Clone + Drop>(
     rt: &R,
     above: &[u8],
@@ -172,8 +172,8 @@ impl Room {
         }
     }
 
-    /// The path of the directory, which is made where it does not stand yet. Directories that other makes
-    /// left behind are removed then. That it cannot be made is named.
+    /// The path of the directory, which is made where it does not stand yet. Directories that other
+    /// makes left behind are removed then. That it cannot be made is named.
     pub fn enter<R: Files<File = File> + AllocGlobal + Clone + Drop>(
         &mut self,
         rt: &R,

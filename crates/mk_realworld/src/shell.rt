@@ -32,8 +32,8 @@ pub enum Streams {
 }
 
 #[tactic(auto, using(crate::proofs::WordLemmas::words_behind))]
-/// A shell for a command, behind the words of a recorder, where there is one. It has the variables that
-/// this exports, one that names the log, and the options for makes below.
+/// A shell for a command, behind the words of a recorder, where there is one. It has the variables
+/// that this exports, one that names the log, and the options for makes below.
 pub fn shell(alloc: Global, setting: &Setting, log: &Text, cmd: &Cmd) -> Result<Command, Refusal>
     ensures words { IfOk result (λ shell. command_program shell ∷ command_args shell
         ≡ words_of setting.now.recorder cmd.now.text) }

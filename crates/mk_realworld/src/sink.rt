@@ -38,8 +38,9 @@ fn is_like_pipe(number: i32) -> bool {
     libc::lseek(number, 0, libc::SEEK_CUR) < 0 && libc::isatty(number) != 1
 }
 
-// Writes some of the bytes by one call, and gives how many, or a number below 0. To keep the signal of a
-// pipe that nobody reads any more off takes three calls beside it, so that is done for pipes alone.
+// Writes some of the bytes by one call, and gives how many, or a number below 0. To keep the signal
+// of a pipe that nobody reads any more off takes three calls beside it, so that is done for pipes
+// alone.
 fn write_once(number: i32, may_break: bool, bytes: &[u8]) -> isize {
     if may_break {
         return os::write_no_sigpipe(number, bytes);
@@ -67,8 +68,8 @@ fn write_some(number: i32, may_break: bool, bytes: &[u8]) -> Result<usize, i32>
 }
 
 impl RealSink {
-    /// The standard output of the process, with a count of faults of 0. The first write that fails is
-    /// named on its standard error.
+    /// The standard output of the process, with a count of faults of 0. The first write that fails
+    /// is named on its standard error.
     pub fn out(stdout: Stdout, stderr: Stderr) -> RealSink
         ensures { result.faults ≡ 0 }
     {
@@ -101,8 +102,8 @@ impl Sink for RealSink {
 
     ghost faults = { λ sink. sink.faults };
 
-    /// Writes by one call of the system. A stream that does not block is waited for; one that nobody
-    /// reads any more is a counted fault, and ends no process.
+    /// Writes by one call of the system. A stream that does not block is waited for; one that
+    /// nobody reads any more is a counted fault, and ends no process.
     fn write(&mut self, bytes: &[u8]) -> Result<usize, SinkFault> {
         match write_some(self.number, self.may_break, bytes) {
             Ok(count) => Ok(count),

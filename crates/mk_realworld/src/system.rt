@@ -1,5 +1,5 @@
-//! The system as a world uses it: what the runtime reaches, what children are given, the directory for
-//! their logs, and the buffer by way of which files are read.
+//! The system as a world uses it: what the runtime reaches, what children are given, the directory
+//! for their logs, and the buffer by way of which files are read.
 ghost use Rattle.std.specs.Prelude.{◌≡◌, ◌+◌, IfOk, IfSome, OnErr};
 ghost use Rattle.mk_world.specs.Listings.{AreInOrder};
 ghost use Rattle.mk_realworld.specs.Known.{IsForgotten, sights_in};
@@ -36,7 +36,8 @@ pub struct System<R> {
     pub setting: Setting,
     pub room: Room,
     pub buffer: Vec<u8>,
-    /// What is known of the times of files since the last change that make, or a child, may have made.
+    /// What is known of the times of files since the last change that make, or a child, may have
+    /// made.
     pub times: KnownTimes,
     /// The outputs of children that were taken in, which processes in the background still have.
     pub late: Late,
@@ -86,8 +87,8 @@ fn is_within(bound: u64, when: When) -> bool {
 }
 
 impl<R> System<R> {
-    /// Names a call about a child that failed, by the program that was to be run, where no other call was
-    /// named before.
+    /// Names a call about a child that failed, by the program that was to be run, where no other
+    /// call was named before.
     pub fn name_child(&mut self, call: &[u8], reason: Reason) {
         match self.setting.recorder.as_slice() {
             [program, ..] => self.named.name(call, program.bytes(), reason),
@@ -105,8 +106,8 @@ impl<R: Clock> System<R> {
         }
     }
 
-    // What was seen, where times of the future count as unknown. The clock is read again where such a time
-    // is met.
+    // What was seen, where times of the future count as unknown. The clock is read again where such
+    // a time is met.
     fn settle(&mut self, sight: Sight) -> Sight {
         if !is_within(self.bound, sight.time) || !is_within(self.bound, sight.changed) {
             self.read_clock();
@@ -120,8 +121,8 @@ impl<R: Clock> System<R> {
 }
 
 impl<R: Files + Clock + AllocGlobal> System<R> {
-    /// What stands at a path: what is known of it, where it is known, and else what the system tells,
-    /// which comes to be known while no child runs.
+    /// What stands at a path: what is known of it, where it is known, and else what the system
+    /// tells, which comes to be known while no child runs.
     pub fn see(&mut self, path: &[u8]) -> Result<Sight, Refusal>
         ensures known { IfSome (sights_in self.old.times path.now)
             (λ sight. IfOk result (λ seen. seen ≡ sight)) }
@@ -135,8 +136,8 @@ impl<R: Files + Clock + AllocGlobal> System<R> {
         Ok(sight)
     }
 
-    /// The bytes of a file, or `None` where it is missing, or where a pipe with a name stands at the path of
-    /// a meta file.
+    /// The bytes of a file, or `None` where it is missing, or where a pipe with a name stands at
+    /// the path of a meta file.
     pub fn read(&mut self, path: &[u8]) -> Result<Option<Text>, Refusal> {
         if path.ends_with(META) && self.see(path)?.is_pipe {
             return Ok(None);
@@ -144,7 +145,8 @@ impl<R: Files + Clock + AllocGlobal> System<R> {
         file_text(&self.rt, self.buffer.as_mut_slice(), path)
     }
 
-    /// The names in a directory, in the order of their bytes, each once; `None` where there is none.
+    /// The names in a directory, in the order of their bytes, each once; `None` where there is
+    /// none.
     pub fn list(&mut self, dir: &[u8]) -> Result<Option<Texts>, Refusal>
         ensures { IfOk result (λ names. IfSome names AreInOrder) }
     {

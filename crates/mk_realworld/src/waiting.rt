@@ -1,6 +1,6 @@
-//! How make waits for children. While it waits it reads what they print, and it is woken by that, or by
-//! the end of an output; a shell that ended, and left its output to a process in the background, is
-//! asked for after pauses that grow with the time that it took.
+//! How make waits for children. While it waits it reads what they print, and it is woken by that,
+//! or by the end of an output; a shell that ended, and left its output to a process in the
+//! background, is asked for after pauses that grow with the time that it took.
 ghost use Rattle.std.specs.Prelude.{◌≡◌, ◌<◌, [], ◌∷◌, length, slice_get, Some, IfOk, IfSome};
 
 use crate::child::{RealKid, Told};
@@ -146,8 +146,8 @@ fn listen<R: Clock, P: OpenProcess + Drop>(
     Ok(News::Nothing)
 }
 
-// The oldest child that has ended, where there is one. Those whose output has ended are asked once, and
-// where that is wanted, all.
+// The oldest child that has ended, where there is one. Those whose output has ended are asked once,
+// and where that is wanted, all.
 #[tactic(auto, using(crate::proofs::KidLemmas::with_kid_unchanged))]
 fn oldest_ended<P: OpenProcess + Drop>(
     kids: &mut Kids<RealKid<P>>,
@@ -228,8 +228,8 @@ fn next_ended<R: Clock, P: OpenProcess + Drop>(
     Err(Refusal::Outside(Reason::Other))
 }
 
-/// Waits until a child has ended, and takes in what it printed and its log. It stays among the children.
-/// Where a progress is given, a terminal shows it while the wait is long, and no longer.
+/// Waits until a child has ended, and takes in what it printed and its log. It stays among the
+/// children. Where a progress is given, a terminal shows it while the wait is long, and no longer.
 #[tactic(auto, using(crate::proofs::KidLemmas::with_kid_unchanged))]
 pub fn wait_over<R: Files<File = File> + Clock + AllocGlobal, P: OpenProcess + Drop>(
     system: &mut System<R>,
@@ -282,8 +282,8 @@ fn take_only<R: Files<File = File> + Clock + AllocGlobal, P: OpenProcess + Drop>
     }
 }
 
-/// Runs a command to its end. Standard error is that of make. Where it cannot be taken in, its shell is
-/// ended.
+/// Runs a command to its end. Standard error is that of make. Where it cannot be taken in, its
+/// shell is ended.
 pub fn run<R: Processes + Files<File = File> + Clock + AllocGlobal + Clone + Drop>(
     system: &mut System<R>,
     cmd: &Cmd,

@@ -1,4 +1,5 @@
-ghost use Rattle.std.specs.Prelude.{◌≡◌, ◌++◌, ◌∷◌, ◌<◌, ◌≤◌, [], None, length, nat_eq, false, IsSome, IfOk, IfSome, OnOk, OnErr};
+ghost use Rattle.std.specs.Prelude.{◌≡◌, ◌++◌, ◌∷◌, ◌<◌, ◌≤◌, [], None, length, nat_eq, false};
+ghost use Rattle.std.specs.Prelude.{IsSome, IfOk, IfSome, OnOk, OnErr};
 ghost use Rattle.std.specs.List.{list_any};
 ghost use Rattle.mk_world.specs.Calls.{TakenOut};
 ghost use Rattle.mk_world.specs.Causes.{HasCause, Rose};
@@ -25,8 +26,8 @@ use std::process::Processes;
 use std::time::Clock;
 
 /// The files and processes of the system. Relative paths are taken from the process's current
-/// directory, and children run in it. A call that is refused is the last one: behind it each further
-/// call is refused and does nothing, but that `abandon` ends the children that run.
+/// directory, and children run in it. A call that is refused is the last one: behind it each
+/// further call is refused and does nothing, but that `abandon` ends the children that run.
 #[derive(Drop)]
 pub struct RealWorld<R: Files + Processes + Clock + AllocGlobal> {
     system: System<R>,
@@ -38,11 +39,11 @@ pub struct RealWorld<R: Files + Processes + Clock + AllocGlobal> {
 impl<R: Files + Processes + Clock + AllocGlobal + Drop> RealWorld<R> {
     /// The files and processes that this runtime reaches, with a count of faults of 0.
     ///
-    /// The logs of recorders stand in a directory at this place, which is made before the first child,
-    /// for its owner alone, and removed when none is left; where something stands there already, it has
-    /// a number behind its name. Directories of makes that are gone are removed then. Children are given
-    /// what the setting says. The first fault of a run is named on `stderr`, in a line of its own:
-    /// `bmake: CALL PATH: REASON`.
+    /// The logs of recorders stand in a directory at this place, which is made before the first
+    /// child, for its owner alone, and removed when none is left; where something stands there
+    /// already, it has a number behind its name. Directories of makes that are gone are removed
+    /// then. Children are given what the setting says. The first fault of a run is named on
+    /// `stderr`, in a line of its own: `bmake: CALL PATH: REASON`.
     pub fn new(
         rt: R,
         setting: Setting,
@@ -61,7 +62,8 @@ impl<R: Files + Processes + Clock + AllocGlobal + Drop> RealWorld<R> {
 }
 
 impl<R: Files + Processes + Clock + AllocGlobal> RealWorld<R> {
-    // Whether a call may do something: behind one that was refused none does, and is refused as that was.
+    // Whether a call may do something: behind one that was refused none does, and is refused as
+    // that was.
     fn go_on(&mut self) -> Result<(), WorldFault>
         ensures same { self.new.system ≡ self.old.system }
         ensures ok { OnOk result (self.old.stopped ≡ None) }
@@ -74,8 +76,8 @@ impl<R: Files + Processes + Clock + AllocGlobal> RealWorld<R> {
         }
     }
 
-    // The answer of a call that is refused, which is the last: where the outside refused, it is counted,
-    // and the first such call is named.
+    // The answer of a call that is refused, which is the last: where the outside refused, it is
+    // counted, and the first such call is named.
     fn refused(&mut self, call: &[u8], path: &[u8], refusal: Refusal) -> WorldFault
         ensures stops { IsSome self.new.stopped }
         ensures kept { self.old.faults ≤ self.new.faults }
@@ -122,9 +124,9 @@ impl<R: Files<File = File> + Processes + Clock + AllocGlobal + Clone + Drop> Wor
 
     ghost told_children = { λ _ history _ _ is. untold _ history is };
 
-    /// The bytes of a file. A directory, an unreadable file, one above 64 MiB and a path that is not
-    /// UTF-8 are counted faults; a path below a plain file is a missing file, and so is a pipe with a name
-    /// that stands at the path of a meta file, which nobody would ever end.
+    /// The bytes of a file. A directory, an unreadable file, one above 64 MiB and a path that is
+    /// not UTF-8 are counted faults; a path below a plain file is a missing file, and so is a pipe
+    /// with a name that stands at the path of a meta file, which nobody would ever end.
     fn read(&mut self, _: Global, path: &[u8]) -> Result<Option<Text>, WorldFault>
         ensures cause { HasCause Failed self.old.faults self.new.faults result }
         ensures stops { Stops self.old.stopped self.new.stopped
@@ -137,9 +139,10 @@ impl<R: Files<File = File> + Processes + Clock + AllocGlobal + Clone + Drop> Wor
         }
     }
 
-    /// The time of a file or directory, in nanoseconds. While no child runs, the system is asked once for
-    /// a path, until make changes a file or starts a child. A time that is more than two seconds later
-    /// than the system's clock is unknown, and so is all that the system does not tell.
+    /// The time of a file or directory, in nanoseconds. While no child runs, the system is asked
+    /// once for a path, until make changes a file or starts a child. A time that is more than two
+    /// seconds later than the system's clock is unknown, and so is all that the system does not
+    /// tell.
     fn time(&mut self, _: Global, path: &[u8]) -> Result<When, WorldFault>
         ensures cause { HasCause Failed self.old.faults self.new.faults result }
         ensures stops { Stops self.old.stopped self.new.stopped
@@ -152,8 +155,8 @@ impl<R: Files<File = File> + Processes + Clock + AllocGlobal + Clone + Drop> Wor
         }
     }
 
-    /// The later of the times of a file's bytes and of its inode, as `time`: an older file that is moved to
-    /// its path has a new time then.
+    /// The later of the times of a file's bytes and of its inode, as `time`: an older file that is
+    /// moved to its path has a new time then.
     fn changed(&mut self, _: Global, path: &[u8]) -> Result<When, WorldFault>
         ensures cause { HasCause Failed self.old.faults self.new.faults result }
         ensures stops { Stops self.old.stopped self.new.stopped
@@ -166,8 +169,9 @@ impl<R: Files<File = File> + Processes + Clock + AllocGlobal + Clone + Drop> Wor
         }
     }
 
-    /// The names in a directory, but `.` and `..`, in the order of their bytes. A directory that may not be
-    /// read and a path that is not UTF-8 are counted faults; at a plain file there is no directory.
+    /// The names in a directory, but `.` and `..`, in the order of their bytes. A directory that
+    /// may not be read and a path that is not UTF-8 are counted faults; at a plain file there is no
+    /// directory.
     fn list(&mut self, _: Global, dir: &[u8]) -> Result<Option<Texts>, WorldFault>
         ensures ordered { IfOk result (λ names. IfSome names AreInOrder) }
         ensures cause { HasCause Failed self.old.faults self.new.faults result }
@@ -181,10 +185,11 @@ impl<R: Files<File = File> + Processes + Clock + AllocGlobal + Clone + Drop> Wor
         }
     }
 
-    /// Writes the head of a meta file, until its time is later than `after`. Missing directories above
-    /// it are made, and a pipe with a name that stands there gives way. At every moment the file is as
-    /// before, or holds bytes of the head from its beginning. A head above 64 MiB, a path that is not
-    /// UTF-8, and no later time within a little more than a second are counted faults.
+    /// Writes the head of a meta file, until its time is later than `after`. Missing directories
+    /// above it are made, and a pipe with a name that stands there gives way. At every moment the
+    /// file is as before, or holds bytes of the head from its beginning. A head above 64 MiB, a
+    /// path that is not UTF-8, and no later time within a little more than a second are counted
+    /// faults.
     fn stamp(
         &mut self,
         _: Global,
@@ -231,9 +236,9 @@ impl<R: Files<File = File> + Processes + Clock + AllocGlobal + Clone + Drop> Wor
         }
     }
 
-    /// Runs `/bin/sh -c` with the command to its end, behind the words of a recorder, where there is one.
-    /// Standard error is that of make, and what is printed on standard output comes by a pipe, as in
-    /// `start`. Where no child runs, the directory of logs is removed behind it.
+    /// Runs `/bin/sh -c` with the command to its end, behind the words of a recorder, where there
+    /// is one. Standard error is that of make, and what is printed on standard output comes by a
+    /// pipe, as in `start`. Where no child runs, the directory of logs is removed behind it.
     fn ask(&mut self, _: Global, cmd: &Cmd) -> Result<Ended, WorldFault>
         ensures ticket { IfOk result (λ ended. ended.ticket.0 ≡ 0) }
         ensures cause { HasCause Failed self.old.faults self.new.faults result }
@@ -249,10 +254,11 @@ impl<R: Files<File = File> + Processes + Clock + AllocGlobal + Clone + Drop> Wor
         }
     }
 
-    /// Starts `/bin/sh -c` with the command, behind the words of a recorder, where there is one. What it
-    /// prints on standard output and standard error comes by one pipe, and a recorder may write its log
-    /// into the file `fm.TICKET` in the world's own directory, of which the records are told when the
-    /// child is taken in. Where the directory cannot be made, that is a counted fault.
+    /// Starts `/bin/sh -c` with the command, behind the words of a recorder, where there is one.
+    /// What it prints on standard output and standard error comes by one pipe, and a recorder may
+    /// write its log into the file `fm.TICKET` in the world's own directory, of which the records
+    /// are told when the child is taken in. Where the directory cannot be made, that is a counted
+    /// fault.
     fn start(
         &mut self,
         _: Global,
@@ -281,10 +287,10 @@ impl<R: Files<File = File> + Processes + Clock + AllocGlobal + Clone + Drop> Wor
     }
 
     /// Waits for what children print, and for their ends; of several that have ended, the oldest is
-    /// taken in. A child that a signal ended has the status 255. What a process in the background prints
-    /// behind the end of its shell belongs to nobody. Where a progress is given, standard error is a
-    /// terminal and the wait lasts longer than a tenth of a second, a line tells the progress there until
-    /// the wait is over.
+    /// taken in. A child that a signal ended has the status 255. What a process in the background
+    /// prints behind the end of its shell belongs to nobody. Where a progress is given, standard
+    /// error is a terminal and the wait lasts longer than a tenth of a second, a line tells the
+    /// progress there until the wait is over.
     fn wait_any(
         &mut self,
         _: Global,
@@ -316,8 +322,9 @@ impl<R: Files<File = File> + Processes + Clock + AllocGlobal + Clone + Drop> Wor
         }
     }
 
-    /// Ends and takes in the shells of all children, and not what these started themselves. Their logs
-    /// are removed, and then the directory of these. A call that is refused stays the last one.
+    /// Ends and takes in the shells of all children, and not what these started themselves. Their
+    /// logs are removed, and then the directory of these. A call that is refused stays the last
+    /// one.
     fn abandon(&mut self, kids: &mut Kids<RealKid<R::Started>>)
         ensures none { kids.new.tickets ≡ [] }
         ensures same_room { kids.new.room ≡ kids.old.room }

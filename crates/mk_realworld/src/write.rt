@@ -1,6 +1,6 @@
-//! Files that are written whole. At every moment such a file is as before, or holds bytes of the new
-//! ones from their beginning: it is cut to what it has in common with them, and not to nothing, which
-//! costs a system far more, and then grows.
+//! Files that are written whole. At every moment such a file is as before, or holds bytes of the
+//! new ones from their beginning: it is cut to what it has in common with them, and not to nothing,
+//! which costs a system far more, and then grows.
 ghost use Rattle.std.specs.Prelude.{◌≡◌, ◌<◌, ◌≤◌, IfOk, length, take};
 ghost use Rattle.mk_realworld.specs.Known.{IsForgotten};
 
@@ -18,8 +18,8 @@ use std::{fs, str, thread};
 // How often a file is written for a later time, at most.
 const TRIES: u32 = 1_048_576;
 
-// For how long it is tried, once the system's clock is later, in nanoseconds: a little more than a second,
-// since the clocks of some file systems go in whole seconds.
+// For how long it is tried, once the system's clock is later, in nanoseconds: a little more than a
+// second, since the clocks of some file systems go in whole seconds.
 const PATIENCE: u64 = 1_250_000_000;
 
 // The pause between two tries behind the second, in microseconds.
@@ -90,8 +90,8 @@ struct Beginning {
     is_all: bool,
 }
 
-// What a file has in common with these bytes from its beginning. Where that is all of it, its place is
-// behind that.
+// What a file has in common with these bytes from its beginning. Where that is all of it, its place
+// is behind that.
 fn beginning_of<F: Read>(
     buffer: &mut [u8],
     file: &mut F,
@@ -118,8 +118,8 @@ fn beginning_of<F: Read>(
     Err(Refusal::Outside(Reason::Other))
 }
 
-// Cuts a file to what it has in common with these bytes, where it has more, and writes what follows,
-// the last byte at least, so that its time is new.
+// Cuts a file to what it has in common with these bytes, where it has more, and writes what
+// follows, the last byte at least, so that its time is new.
 fn rewrite<F: Read + Write + Seek + OpenFile>(
     buffer: &mut [u8],
     file: &mut F,
@@ -137,9 +137,9 @@ fn rewrite<F: Read + Write + Seek + OpenFile>(
     Ok(())
 }
 
-// Writes a file, and gives its time. Its time is asked for before, since a system whose clock for files is
-// coarse may give a file a time of its own where the last one was asked for; and it is closed before it
-// is asked for its new time.
+// Writes a file, and gives its time. Its time is asked for before, since a system whose clock for
+// files is coarse may give a file a time of its own where the last one was asked for; and it is
+// closed before it is asked for its new time.
 fn write_once<R: Files>(
     rt: &R,
     buffer: &mut [u8],
@@ -190,8 +190,8 @@ fn write_until<R: Files + Clock>(
     Err(Refusal::Outside(Reason::NoLaterTime))
 }
 
-/// Writes a whole file until its time is later than `after`, and gives this time. From then on no time of
-/// a file is known that was known before.
+/// Writes a whole file until its time is later than `after`, and gives this time. From then on no
+/// time of a file is known that was known before.
 pub fn write_later<R: Files + Clock>(
     system: &mut System<R>,
     path: &[u8],
@@ -208,8 +208,8 @@ pub fn write_later<R: Files + Clock>(
     write_until(system, path, bytes, after)
 }
 
-/// Removes a file; a missing one is no fault. From then on no time of a file is known that was known
-/// before.
+/// Removes a file; a missing one is no fault. From then on no time of a file is known that was
+/// known before.
 pub fn remove<R: Files>(system: &mut System<R>, path: &[u8]) -> Result<(), Refusal>
     ensures { IsForgotten system.new.times }
 {

@@ -41,10 +41,10 @@ judged_from directory before first events =
     if is_run first.act then records_behind events (beginning directory before first.process)
     else None
 
--- The records of a command that begins in a directory, behind some touches. Its first event that says
--- something is the program that is run (its call may go on behind lines of others, and says nothing where
--- it begins); each process is begun before or by a call that has not ended, it is known where
--- all names lead, and in the end no process runs.
+-- The records of a command that begins in a directory, behind some touches. Its first event that
+-- says something is the program that is run (its call may go on behind lines of others, and says
+-- nothing where it begins); each process is begun before or by a call that has not ended, it is
+-- known where all names lead, and in the end no process runs.
 abbrev pub judged : List ℕ → List Touched → List Event → Option (List Record)
 judged directory before [] = None
 judged directory before (event ∷ events) =

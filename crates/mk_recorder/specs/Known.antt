@@ -79,8 +79,9 @@ run known =
 abbrev pub listed : Known → Known
 listed known = record known { listed = known.listed || is_outer known; folder = true }
 
--- What is known of a path behind one more touch: what is read, looked at and missed counts where the
--- command has not changed the path before, and what is read also where old bytes may stay in it.
+-- What is known of a path behind one more touch: what is read, looked at and missed counts where
+-- the command has not changed the path before, and what is read also where old bytes may stay in
+-- it.
 abbrev pub after : Known → Touch → Known
 after known touch.Read = record known { found = known.found || holds_old known }
 after known touch.Run = run known

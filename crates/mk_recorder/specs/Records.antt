@@ -6,8 +6,8 @@ use Rattle.mk_recorder.specs.Tables.{Entry}
 use Rattle.mk_recorder.specs.declared.known.Known.{Known}
 use Rattle.mk_recorder.specs.declared.record.Record.{Record}
 
--- A file is read where it was read before the command changed it, where old bytes may stay in it, and
--- where a look found it and the command left it alone; a directory where it was listed.
+-- A file is read where it was read before the command changed it, where old bytes may stay in it,
+-- and where a look found it and the command left it alone; a directory where it was listed.
 abbrev pub is_read : Known → Bool
 is_read known =
     if known.folder then known.listed

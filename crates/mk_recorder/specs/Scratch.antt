@@ -21,8 +21,8 @@ first_name path = name_by path (cut_at 47 path)
 abbrev pub begins_with_number : List ℕ → Bool
 begins_with_number path = list_all is_in_number (first_name path)
 
--- A path is a make's own directory for its children, or lies in it: below the directory for temporary
--- files it is `bmake.` and a number.
+-- A path is a make's own directory for its children, or lies in it: below the directory for
+-- temporary files it is `bmake.` and a number.
 abbrev pub is_of_make : List ℕ → List ℕ → Bool
 is_of_make temporary path = starts_with nat_eq path temporary
     && (starts_with nat_eq (drop (length temporary) path) (codes "/bmake.")
@@ -33,9 +33,9 @@ abbrev pub runs_make : List ℕ → List Record → Bool
 runs_make temporary records =
     list_any (λ one. one.is_folder && is_of_make temporary one.path) records
 
--- What begins with a path of the make that runs the command is left out, what is of other makes, and
--- where the command has run a make the listing of the directory for temporary files, in which a make
--- looks for what others have left there.
+-- What begins with a path of the make that runs the command is left out, what is of other makes,
+-- and where the command has run a make the listing of the directory for temporary files, in which a
+-- make looks for what others have left there.
 abbrev pub is_left_out : List ℕ → List ℕ → Bool → Record → Bool
 is_left_out own temporary has_make one = starts_with nat_eq one.path own
     || (is_of_make temporary one.path

@@ -14,8 +14,8 @@ use Rattle.mk_recorder.specs.declared.table.Touched.{Touched}
 abbrev pub IsFound : List Entry → List ℕ → Type 0
 IsFound table path = (known_in table path).found ≡ true
 
--- A path that is read, and that the command has not changed before or in which old bytes may stay, is
--- found, whatever was touched before and is touched behind.
+-- A path that is read, and that the command has not changed before or in which old bytes may stay,
+-- is found, whatever was touched before and is touched behind.
 abbrev pub ReadsAreFound : Type 0
 ReadsAreFound =
     (table : List Entry) (first rest : List Touched) (path : List ℕ)

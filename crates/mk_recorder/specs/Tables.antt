@@ -1,5 +1,6 @@
 -- What is known of paths, in the order of their first touch.
-use Rattle.std.specs.Prelude.{ℕ, Bool, true, false, not, ◌&&◌, ◌==◌, ◌-◌, nat_eq, List, [], ◌∷◌, map}
+use Rattle.std.specs.Prelude.{ℕ, Bool, true, false, not, ◌&&◌, ◌==◌, ◌-◌, nat_eq, List, [], ◌∷◌}
+use Rattle.std.specs.Prelude.{map}
 use Rattle.std.specs.Prelude.{filter, codes, length, drop, take, if◌then◌else◌}
 use Rattle.std.specs.List.{starts_with, suffix_len}
 use Rattle.std.specs.Str.{bytes_eq}
@@ -43,7 +44,8 @@ may_make touch.Overwrite = true
 may_make touch.ReadOrMake = true
 may_make other = false
 
--- In a directory that the command made nothing stood before: what is opened there to be written is made.
+-- In a directory that the command made nothing stood before: what is opened there to be written is
+-- made.
 abbrev pub touch_in : List Entry → List ℕ → Touch → Touch
 touch_in table path what =
     if may_make what && (known_in table (folder_of path)).fresh then touch.Make else what

@@ -1,5 +1,6 @@
 -- What the acts of a process do to paths.
-use Rattle.std.specs.Prelude.{ℕ, Bool, true, false, List, [], ◌∷◌, ◌++◌, flat_map, codes, length, drop}
+use Rattle.std.specs.Prelude.{ℕ, Bool, true, false, List, [], ◌∷◌, ◌++◌, flat_map, codes, length}
+use Rattle.std.specs.Prelude.{drop}
 use Rattle.std.specs.Prelude.{Option, Some, None, option_and_then, if◌then◌else◌}
 use Rattle.mk_strace.specs.declared.act.Act.{Act}
 use Rattle.mk_strace.specs.declared.act.Act.TheVariants as act
@@ -103,7 +104,8 @@ abbrev pub with_move : List Touched → List Entry → List ℕ → Name → Nam
 with_move touches table directory from to =
     move_at touches table (place_of directory from) (place_of directory to)
 
--- What is done behind some calls is not seen, which is told as a read of a path that is never there.
+-- What is done behind some calls is not seen, which is told as a read of a path that is never
+-- there.
 abbrev pub hidden_path : List ℕ → List ℕ
 hidden_path call = (codes "/what cannot be seen (" ++ call) ++ codes ")"
 

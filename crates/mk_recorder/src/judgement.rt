@@ -123,10 +123,11 @@ fn judge_all(
     Ok(None)
 }
 
-/// The records of a command that begins in a directory, behind these touches: each path once, with what
-/// the command read, missed, wrote and took away. `None` where the first event that says something is no
-/// program that is run, a process does something that does not run, it is not known where a name leads, or a process
-/// runs on. The time is linear in the events but for directories that are moved.
+/// The records of a command that begins in a directory, behind these touches: each path once, with
+/// what the command read, missed, wrote and took away. `None` where the first event that says
+/// something is no program that is run, a process does something that does not run, it is not known
+/// where a name leads, or a process runs on. The time is linear in the events but for directories
+/// that are moved.
 pub fn judge(
     alloc: Global,
     directory: &[u8],

@@ -27,8 +27,8 @@ fn begins_with_number(path: &[u8]) -> bool
     first_name(path).iter().all(|byte| is_in_number(*byte))
 }
 
-/// Whether a path is a make's own directory for its children, or lies in it: below this directory for
-/// temporary files it is `bmake.` and a number.
+/// Whether a path is a make's own directory for its children, or lies in it: below this directory
+/// for temporary files it is `bmake.` and a number.
 pub fn is_of_make(temporary: &[u8], path: &[u8]) -> bool
     ensures { result ≡ spec.is_of_make temporary.now path.now }
 {
@@ -36,16 +36,17 @@ pub fn is_of_make(temporary: &[u8], path: &[u8]) -> bool
     path.starts_with(temporary) && rest.starts_with(b"/bmake.") && begins_with_number(skip(rest, 7))
 }
 
-/// Whether a command has run a make, which has a directory of its own below that for temporary files.
+/// Whether a command has run a make, which has a directory of its own below that for temporary
+/// files.
 pub fn runs_make(temporary: &[u8], records: &[Record]) -> bool
     ensures { result ≡ spec.runs_make temporary.now records.now }
 {
     records.iter().any(|one| one.is_folder && is_of_make(temporary, one.path.bytes()))
 }
 
-/// Whether a record is left out: what begins with `own`, the path of the make that runs the command, what
-/// is of other makes, and where the command has run a make the listing of the directory for temporary
-/// files, in which a make looks for what others have left there.
+/// Whether a record is left out: what begins with `own`, the path of the make that runs the
+/// command, what is of other makes, and where the command has run a make the listing of the
+/// directory for temporary files, in which a make looks for what others have left there.
 pub fn is_left_out(own: &[u8], temporary: &[u8], has_make: bool, one: &Record) -> bool
     ensures { result ≡ spec.is_left_out own.now temporary.now has_make one.now }
 {

@@ -17,7 +17,8 @@ const MOST: u32 = 4_194_304;
 /// What is known of processes and paths.
 #[derive(Drop)]
 pub struct State {
-    /// Of each process that runs, the one by whose number its directory is kept, which it may share.
+    /// Of each process that runs, the one by whose number its directory is kept, which it may
+    /// share.
     pub owners: Kept,
     /// The directories of these.
     pub directories: Kept,
@@ -54,8 +55,8 @@ pub fn birth_of<'e>(process: &[u8], events: &'e [Event]) -> Option<(&'e [u8], bo
     None
 }
 
-// A process has the directory of its parent from now on, or shares it. Whether it may begin: its parent
-// runs, and no process of its number does.
+// A process has the directory of its parent from now on, or shares it. Whether it may begin: its
+// parent runs, and no process of its number does.
 fn born(
     alloc: Global,
     state: &mut State,
@@ -211,8 +212,8 @@ fn act_known(alloc: Global, state: &mut State, process: &[u8], act: &Act) -> Res
     fine
 }
 
-/// One more event, before these others. Whether it may be: its process runs or is begun, and it is known
-/// where its names lead.
+/// One more event, before these others. Whether it may be: its process runs or is begun, and it is
+/// known where its names lead.
 pub fn step(
     alloc: Global,
     state: &mut State,

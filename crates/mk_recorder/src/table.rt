@@ -22,8 +22,8 @@ pub struct Touched {
 /// What is done to paths, in order.
 pub type Touches = Items<Touched>;
 
-/// The paths that were touched, in the order of their first touch, each with what is known of it. One
-/// more touch takes about constant time.
+/// The paths that were touched, in the order of their first touch, each with what is known of it.
+/// One more touch takes about constant time.
 #[derive(Drop)]
 pub struct Table {
     alloc: Global,
@@ -111,8 +111,8 @@ impl Table {
         touch
     }
 
-    /// Notes what is done to paths, in order. What is opened to be written in a directory that the command
-    /// made is made.
+    /// Notes what is done to paths, in order. What is opened to be written in a directory that the
+    /// command made is made.
     pub fn note_all(&mut self, touches: &[Touched]) -> Result<(), NoMemory>
         ensures { OnOk result (self.new ≡ spec.all_noted self.old touches.now) }
     {

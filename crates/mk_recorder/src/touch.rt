@@ -63,8 +63,8 @@ fn touch_by(how: How) -> Option<Touch>
     }
 }
 
-// A file is opened: what is done to it is done to the path by which it is named and to that of what is
-// open, which are two where a symbolic link is followed.
+// A file is opened: what is done to it is done to the path by which it is named and to that of what
+// is open, which are two where a symbolic link is followed.
 fn push_open(
     alloc: Global,
     out: &mut Touches,
@@ -195,8 +195,8 @@ fn push_all_moved(
     Ok(())
 }
 
-// A directory is moved: it counts as listed, each file that is known below it is moved, and the other
-// path is a directory.
+// A directory is moved: it counts as listed, each file that is known below it is moved, and the
+// other path is a directory.
 fn push_folder_move(
     alloc: Global,
     out: &mut Touches,
@@ -325,8 +325,8 @@ fn push_rest(
     }
 }
 
-/// Adds what an act does to paths, in order, by what is known of them. Whether it is known where its
-/// names lead.
+/// Adds what an act does to paths, in order, by what is known of them. Whether it is known where
+/// its names lead.
 pub fn push_touches(
     alloc: Global,
     out: &mut Touches,

@@ -1,5 +1,6 @@
 -- Dependency lines, and what each of them adds.
-use Rattle.std.specs.Prelude.{ℕ, Bool, true, false, not, ◌&&◌, ◌||◌, List, [], ◌∷◌, ◌++◌, map, Option, Some, None}
+use Rattle.std.specs.Prelude.{ℕ, Bool, true, false, not, ◌&&◌, ◌||◌, List, [], ◌∷◌, ◌++◌, map}
+use Rattle.std.specs.Prelude.{Option, Some, None}
 use Rattle.std.specs.Prelude.{is_some, Result, Ok, Err, if◌then◌else◌}
 use Rattle.std.specs.List.{list_any}
 use Rattle.mk_bytes.specs.Agrees.{◌>>=◌}
@@ -74,8 +75,8 @@ abbrev pub with_sources : DepLine → List ℕ → Met → List Node
 with_sources line targets m =
     attributes_taken targets (all_sourced m.sources m.nodes targets) line.sources
 
--- a line of targets: these stand, with the line's marks, sources and attributes; the line opens a group,
--- of those that have no commands yet
+-- a line of targets: these stand, with the line's marks, sources and attributes; the line opens a
+-- group, of those that have no commands yet
 abbrev pub with_line : Ruled → DepLine → List ℕ → Stood → Ruled
 with_line r line targets stood = record r {
   nodes = marked_by line stood.nodes targets;

@@ -2,7 +2,8 @@
 use Rattle.std.specs.Prelude.{ℕ, ◌==◌, ◌&&◌, Bool, not, List, [], ◌∷◌, ◌++◌, length, unwrap_or}
 use Rattle.std.specs.Prelude.{Result, Ok, Err, if◌then◌else◌}
 use Rattle.mk_bytes.specs.Agrees.{◌>>=◌}
-use Rattle.mk_graph.specs.Nodes.{Node, is_named, number_of, with_node, with_source, with_order, with_mark}
+use Rattle.mk_graph.specs.Nodes.{Node, is_named, number_of, with_node, with_source, with_order}
+use Rattle.mk_graph.specs.Nodes.{with_mark}
 use Rattle.mk_graph.specs.declared.attr.Attr.{Attr}
 use Rattle.mk_pool.specs.declared.fault.PoolFault.{PoolFault}
 use Rattle.mk_pool.specs.declared.fault.PoolFault.TheVariants as pool

@@ -1,6 +1,7 @@
 -- What dependency lines leave.
 use denote.Ref.{Bor}
-use Rattle.std.specs.Prelude.{◌≡◌, ◌≤◌, take, ℕ, ◌==◌, ◌||◌, ◌&&◌, Bool, false, not, List, [], ◌∷◌, length, Option, Some}
+use Rattle.std.specs.Prelude.{◌≡◌, ◌≤◌, take, ℕ, ◌==◌, ◌||◌, ◌&&◌, Bool, false, not, List, [], ◌∷◌}
+use Rattle.std.specs.Prelude.{length, Option, Some}
 use Rattle.std.specs.Prelude.{None, if◌then◌else◌, nat_eq, nat_le}
 use Rattle.std.specs.List.{list_any}
 use Rattle.mk_bytes.specs.Bytes.{dot}
@@ -11,9 +12,9 @@ use Rattle.mk_graph.specs.declared.attr.Marks.{Marks}
 use Rattle.mk_rules.specs.declared.rules.Everywhere.{Everywhere}
 use Rattle.indexmap.specs.IndexSet.{insert_key}
 
--- The nodes, the known suffixes, the directories of `.PATH` and the sources of `.MAIN` so far; the nodes that stood as targets, in
--- order; which marks go to every target in the end; how a build goes; and the nodes that take the
--- command lines behind the last line.
+-- The nodes, the known suffixes, the directories of `.PATH` and the sources of `.MAIN` so far; the
+-- nodes that stood as targets, in order; which marks go to every target in the end; how a build
+-- goes; and the nodes that take the command lines behind the last line.
 pub record Ruled : Type 0 where
   pub nodes : List Node
   pub suffixes : List (List ℕ)

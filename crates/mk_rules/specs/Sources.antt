@@ -1,5 +1,6 @@
 -- The sources of a dependency line.
-use Rattle.std.specs.Prelude.{◌≡◌, ℕ, Bool, List, [], ◌∷◌, ◌++◌, length, take, Option, Some, None, Result, Ok}
+use Rattle.std.specs.Prelude.{◌≡◌, ℕ, Bool, List, [], ◌∷◌, ◌++◌, length, take, Option, Some, None}
+use Rattle.std.specs.Prelude.{Result, Ok}
 use Rattle.std.specs.Prelude.{if◌then◌else◌, codes}
 use Rattle.std.specs.Str.{bytes_eq}
 use Rattle.mk_bytes.specs.Agrees.{◌>>=◌}
@@ -29,8 +30,8 @@ with_source_met m one = record {
   waited = m.waited;
 }
 
--- A word of the sources: behind a `.WAIT` each source is made after all that stand before it; another
--- attribute is no source; every other word is one.
+-- A word of the sources: behind a `.WAIT` each source is made after all that stand before it;
+-- another attribute is no source; every other word is one.
 abbrev pub word_met : Met → List ℕ → Result Met RuleFault
 word_met m word =
     if is_wait word then Ok (record m { waited = length m.sources })

@@ -8,8 +8,8 @@ use mk_depline::is_attribute;
 use std::alloc::Global;
 use std::marker::Model;
 
-/// Texts in the order in which they came, each once, with a set of them in which one is found without
-/// going over all. Contracts see the list.
+/// Texts in the order in which they came, each once, with a set of them in which one is found
+/// without going over all. Contracts see the list.
 #[derive(Drop)]
 pub struct Gathered {
     known: Texts,

@@ -1,6 +1,6 @@
-//! What dependency lines leave (NetBSD make(1), "FILE DEPENDENCY SPECIFICATIONS", "SPECIAL TARGETS" and
-//! "SPECIAL SOURCES"): the graph of nodes, the known suffixes, the directories of `.PATH`, the main
-//! targets, and the targets that take the command lines.
+//! What dependency lines leave (NetBSD make(1), "FILE DEPENDENCY SPECIFICATIONS", "SPECIAL TARGETS"
+//! and "SPECIAL SOURCES"): the graph of nodes, the known suffixes, the directories of `.PATH`, the
+//! main targets, and the targets that take the command lines.
 #![tactic(auto)]
 
 mod attribute;

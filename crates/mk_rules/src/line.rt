@@ -54,7 +54,8 @@ fn take_in(graph: &Graph, takers: &mut IndexSet<u32>, n: u32) -> Result<(), NoMe
     Ok(())
 }
 
-// Forgets those that took commands. A large set is given up, since emptying it goes over all its room.
+// Forgets those that took commands. A large set is given up, since emptying it goes over all its
+// room.
 fn forget(alloc: Global, takers: &mut IndexSet<u32>)
     ensures { takers.new.keys ≡ [] }
 {
@@ -139,8 +140,8 @@ fn names_at(alloc: Global, graph: &Graph, nodes: &[u32], names: &mut Texts) -> R
 }
 
 impl Rules {
-    // Reads a line of targets, with their sources and attributes. Those that may be main targets are
-    // listed.
+    // Reads a line of targets, with their sources and attributes. Those that may be main targets
+    // are listed.
     #[tactic(auto, using(crate::proofs::FoldLemmas::below_more, crate::proofs::FoldLemmas::ruled_grown, crate::proofs::KeepLemmas::passed_none))]
     fn read_targets(&mut self, listed: bool, line: &DepLine) -> Result<(), RuleFault>
         ensures done { OnOk result (spec.targets_read listed self.old line.now ≡ Ok self.new) }
@@ -271,12 +272,12 @@ impl Rules {
     }
 
     /// Adds what a dependency line says: nodes for its names, with their sources, attributes and
-    /// orders, or what its special target does. The commands behind it go to the targets that have none
-    /// yet, each once; behind a special target that is no node they are passed over.
+    /// orders, or what its special target does. The commands behind it go to the targets that have
+    /// none yet, each once; behind a special target that is no node they are passed over.
     ///
     /// `Operators` comes exactly where a target stood with the other operator before, and else
-    /// `TooManyNames` exactly where a name would be one node more than 1,048,576. After a refusal the
-    /// rules are given up.
+    /// `TooManyNames` exactly where a name would be one node more than 1,048,576. After a refusal
+    /// the rules are given up.
     pub fn add_line(&mut self, line: &DepLine) -> Result<(), RuleFault>
         ensures done { OnOk result (spec.line_read self.old line.now ≡ Ok self.new) }
         ensures refused { IfErr result (λ fault.

@@ -64,9 +64,9 @@ fn take_word(mode: &mut Mode, word: &[u8])
 }
 
 /// How a build goes by the words of `.MAKE.MODE`: `meta`, `nofilemon` and `ignore-cmd`, and
-/// `curdirOk=`, `missing-meta=`, `missing-filemon=` and `silent=` with `yes`, `true`, `on` or `1`, in any
-/// case of letters. Of words that say the same thing the last counts, and others say nothing. What
-/// else a mode says is given. Takes no memory.
+/// `curdirOk=`, `missing-meta=`, `missing-filemon=` and `silent=` with `yes`, `true`, `on` or `1`,
+/// in any case of letters. Of words that say the same thing the last counts, and others say
+/// nothing. What else a mode says is given. Takes no memory.
 pub fn mode_by(
     words: &Texts,
     ignore_paths: Texts,

@@ -23,10 +23,10 @@ pub struct Everywhere {
     pub ignore: bool,
 }
 
-/// What the dependency lines so far leave: the graph of nodes, the known suffixes, the directories of
-/// `.PATH`, the sources of `.MAIN`, the nodes that stood as targets, what holds of every target and of the build, and the
-/// targets that take the command lines behind the last line. Of the targets so many first ones are kept
-/// that can be no main target any more.
+/// What the dependency lines so far leave: the graph of nodes, the known suffixes, the directories
+/// of `.PATH`, the sources of `.MAIN`, the nodes that stood as targets, what holds of every target
+/// and of the build, and the targets that take the command lines behind the last line. Of the
+/// targets so many first ones are kept that can be no main target any more.
 #[derive(Drop)]
 pub struct Rules {
     pub(crate) alloc: Global,
@@ -102,8 +102,8 @@ impl Rules {
         &self.main
     }
 
-    /// The first target so far that is neither a rule nor a macro nor marked as none of the main ones.
-    /// Takes no memory.
+    /// The first target so far that is neither a rule nor a macro nor marked as none of the main
+    /// ones. Takes no memory.
     pub fn first_main(&self) -> Option<&[u8]>
         ensures { spec.shown_main result ≡ spec.first_main self.now.nodes self.now.targets }
     {
@@ -124,8 +124,8 @@ impl Rules {
         self.delete_on_error
     }
 
-    /// Adds a command line to the targets of the last line that take some. After a refusal the rules are
-    /// given up.
+    /// Adds a command line to the targets of the last line that take some. After a refusal the
+    /// rules are given up.
     pub fn add_command(&mut self, text: &[u8]) -> Result<(), NoMemory>
         ensures { OnOk result (self.new ≡ spec.commanded self.old text.now) }
     {
@@ -213,8 +213,8 @@ fn passed_on(graph: &Graph, targets: &[u32], from: usize) -> usize
     at
 }
 
-/// The first of some nodes that is neither a rule nor a macro nor marked as no main target, and whose
-/// name is not reserved: a dot, an upper-case letter and no slash, as `.POSIX`.
+/// The first of some nodes that is neither a rule nor a macro nor marked as no main target, and
+/// whose name is not reserved: a dot, an upper-case letter and no slash, as `.POSIX`.
 pub fn first_main<'g>(graph: &'g Graph, nodes: &[u32]) -> Option<&'g [u8]>
     requires { AreBelow (length graph.now) nodes.now }
     ensures { spec.shown_main result ≡ spec.first_main graph.now nodes.now }

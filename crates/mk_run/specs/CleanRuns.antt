@@ -1,7 +1,8 @@
--- The clean build beside a run: what a make does that has nothing of earlier builds. It reads the makefiles and
--- plans anew, on the files at the beginning without made files and meta files, and then runs the job of each
--- node, in the order of its plan, on what those before it left.
-use Rattle.std.specs.Prelude.{◌≡◌, ℕ, ◌||◌, ◌&&◌, true, List, [], Option, Some, None, Result, Ok, Err}
+-- The clean build beside a run: what a make does that has nothing of earlier builds. It reads the
+-- makefiles and plans anew, on the files at the beginning without made files and meta files, and
+-- then runs the job of each node, in the order of its plan, on what those before it left.
+use Rattle.std.specs.Prelude.{◌≡◌, ℕ, ◌||◌, ◌&&◌, true, List, [], Option, Some, None, Result, Ok}
+use Rattle.std.specs.Prelude.{Err}
 use Rattle.std.specs.Prelude.{is_some, if◌then◌else◌}
 use Rattle.std.specs.List.{AllByRecursion, list_any}
 use Rattle.mk_blocks.specs.Acts.{Act, wrote, looked, dated, listed, ran}
@@ -46,8 +47,8 @@ bare nodes files = λ path.
     if list_any (λ node. makes_file node && is_called path node) nodes || is_meta_path path
     then None else files path
 
--- what a reading asks with `!=` changes none of these files, and each directory that it lists has these names,
--- as the files have it
+-- what a reading asks with `!=` changes none of these files, and each directory that it lists has
+-- these names, as the files have it
 abbrev pub LeavesThem : Meaning → Store → Listings → Act → Type 0
 LeavesThem meaning files listings (ran cmd) =
     (path : List ℕ) → after_doing meaning cmd files path ≡ files path
@@ -56,9 +57,10 @@ LeavesThem meaning files listings (wrote message) = Unit {0}
 LeavesThem meaning files listings (looked path) = Unit {0}
 LeavesThem meaning files listings (dated path) = Unit {0}
 
--- The makefiles are read and a plan is made of these files, with the same words and in the same environment as in
--- the run; this is what is built.
-pub record IsPlannedOn (meaning : Meaning) (env : Env) (order : Order) (files : Store) (work : Work) : Type 0
+-- The makefiles are read and a plan is made of these files, with the same words and in the same
+-- environment as in the run; this is what is built.
+pub record IsPlannedOn (meaning : Meaning) (env : Env) (order : Order) (files : Store) (work : Work)
+    : Type 0
   where
     pub made : Made
     pub nodes : List PlanNode
@@ -100,8 +102,8 @@ jobs_on meaning work = jobs_by meaning (command_of work) (lines_on work)
 abbrev pub files_behind : Meaning → Work → List ℕ → Store → Store
 files_behind meaning work = files_by meaning (command_of work) (lines_on work)
 
--- The clean build of a plan on files that have nothing of earlier builds: the jobs of its nodes with commands, in
--- plan order, each to its end, also behind one that failed.
+-- The clean build of a plan on files that have nothing of earlier builds: the jobs of its nodes
+-- with commands, in plan order, each to its end, also behind one that failed.
 abbrev pub clean_jobs_of : Meaning → Work → Store → List CleanJob
 clean_jobs_of meaning work files = jobs_on meaning work (jobs_from 0 work.plan) files
 
@@ -120,12 +122,14 @@ pub record ArePlansAlike (meaning : Meaning) (env : Env) (order : Order) (files 
   where
     pub planned : IsPlannedOn meaning env order (bare work.plan files) clean
     pub plan : clean.plan ≡ work.plan
-    pub same_tasks : (one : CleanJob) → IsAmong one (clean_jobs_of meaning clean (bare work.plan files))
+    pub same_tasks : (one : CleanJob)
+        → IsAmong one (clean_jobs_of meaning clean (bare work.plan files))
         → HasSameTask clean work tasks one
 
--- Before a run of this work: no child runs, the history is one that may have come about, and each meta file that
--- stands tells what happened. The commands that the run asks with `!=` change no file. The build goes by meta mode, a
--- clean build of what the words ask for has the same plan and tasks, and what its jobs read and change is declared.
+-- Before a run of this work: no child runs, the history is one that may have come about, and each
+-- meta file that stands tells what happened. The commands that the run asks with `!=` change no
+-- file. The build goes by meta mode, a clean build of what the words ask for has the same plan and
+-- tasks, and what its jobs read and change is declared.
 pub record IsReadyRun (meaning : Meaning) (env : Env) (order : Order) (planned_at : Option History) (work : Work)
     (tasks : Tasks) (old : History) (clean : Work) : Type 0
   where
@@ -139,10 +143,11 @@ pub record IsReadyRun (meaning : Meaning) (env : Env) (order : Order) (planned_a
     pub declared : IsDeclared (clean_plan work tasks)
         (clean_jobs_of meaning clean (bare work.plan (files_of old)))
 
--- A run leaves what the clean build leaves. In this each line of each job ran and went well. Each made file has the
--- bytes that it gives it. Each step of a command of the run is a step of the same node's job in it, at every moment
--- and in whatever order they are done: of each job none or the first ones, and where its node is settled none or all.
--- Its jobs have kept apart, and each meta file that stands behind the run tells what happened.
+-- A run leaves what the clean build leaves. In this each line of each job ran and went well. Each
+-- made file has the bytes that it gives it. Each step of a command of the run is a step of the same
+-- node's job in it, at every moment and in whatever order they are done: of each job none or the
+-- first ones, and where its node is settled none or all. Its jobs have kept apart, and each meta
+-- file that stands behind the run tells what happened.
 pub record LeavesCleanFiles (meaning : Meaning) (work : Work) (tasks : Tasks) (items : List Item)
     (old new : History) (clean : Work) (files : Store) : Type 0
   where

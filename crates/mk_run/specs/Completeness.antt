@@ -18,12 +18,14 @@ use Rattle.mk_scopes.specs.declared.scopes.Env.{Env}
 use Rattle.mk_trace.specs.Runs.{first_failure}
 use Rattle.mk_world.specs.Talks.{Meaning}
 use Rattle.mk_modes.specs.Building.{Point, point}
-use Rattle.mk_modes.specs.Meaning.{Meant, only, prints, explains, queries, shows, builds, printed, by_reading}
+use Rattle.mk_modes.specs.Meaning.{Meant, only, prints, explains, queries, shows, builds, printed}
+use Rattle.mk_modes.specs.Meaning.{by_reading}
 use Rattle.mk_modes.specs.Modes.{Goes, Held}
 use Rattle.mk_run.specs.Runs.{IsOrderRun}
 use Rattle.mk_modes.specs.declared.building.Went.{Went}
 use Rattle.mk_modes.specs.declared.report.End.{End}
-use Rattle.mk_modes.specs.declared.report.End.TheVariants.{Done, NotUpToDate, WorldFault, SinkFault, NoMemory}
+use Rattle.mk_modes.specs.declared.report.End.TheVariants.{Done, NotUpToDate, WorldFault, SinkFault}
+use Rattle.mk_modes.specs.declared.report.End.TheVariants.{NoMemory}
 use Rattle.mk_modes.specs.declared.report.Report.{Report}
 
 -- The outside or want of memory alone is in the way of a plan.
@@ -37,10 +39,12 @@ IsExplainable (Err fault) =
     (node number : ℕ) (what : ExpandFault) → fault ≡ explain.Expand node number what → ⊥
 
 abbrev pub IsAnswerable : QueryResult → Type 0
-IsAnswerable result = (node number : ℕ) (what : ExpandFault) → result ≡ query.Expand node number what → ⊥
+IsAnswerable result = (node number : ℕ) (what : ExpandFault)
+    → result ≡ query.Expand node number what → ⊥
 
--- Nothing is wrong with what a run does behind its reading: each print has its value, there is a plan, each
--- line that is looked at can be expanded, and no command fails whose failure is not ignored.
+-- Nothing is wrong with what a run does behind its reading: each print has its value, there is a
+-- plan, each line that is looked at can be expanded, and no command fails whose failure is not
+-- ignored.
 abbrev pub IsFaultless : (meaning : Meaning) (meant : Meant) (first last : Point) (went : Went)
     → Goes meaning meant first last went → Type 0
 IsFaultless meaning (only outcome) first last went goes = outcome.end ≡ Done
@@ -71,8 +75,8 @@ EndsWell (queries made flags) end =
 EndsWell (shows made flags) end = (end ≡ Done) ⊎ IsHindered end
 EndsWell (builds made flags) end = (end ≡ Done) ⊎ IsHindered end
 
--- A run whose makefiles are read, and in which nothing is wrong, ends well. That the outside is in the way
--- comes only where a count of its faults rose, as is said of every run.
+-- A run whose makefiles are read, and in which nothing is wrong, ends well. That the outside is in
+-- the way comes only where a count of its faults rose, as is said of every run.
 abbrev pub Completes : {meaning : Meaning} {words : List (List ℕ)} {env : Env} {order : Order}
     {first last : Point} {err : Held} {report : Report}
     → IsOrderRun meaning words env order first last err report → Type 0

@@ -18,8 +18,8 @@ Closed words before err end =
     ((end ≡ before) × Gains err.before err.after (line_of words before))
     ⊎ ((end ≡ SinkFault) × GainsPart err.before err.after (line_of words before))
 
--- A run of what these words ask for: what it did is in its report. Standard error gains the messages of the
--- reading and then, last, the line of the end.
+-- A run of what these words ask for: what it did is in its report. Standard error gains the
+-- messages of the reading and then, last, the line of the end.
 pub record IsOrderRun (meaning : Meaning) (words : List (List ℕ)) (env : Env) (order : Order)
     (first last : Point) (err : Held) (report : Report) : Type 0
   where

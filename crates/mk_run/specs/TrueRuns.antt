@@ -1,4 +1,5 @@
--- That the meta files which a run leaves tell what happened, and that a build leaves what the clean build leaves.
+-- That the meta files which a run leaves tell what happened, and that a build leaves what the clean
+-- build leaves.
 use Rattle.std.specs.Prelude.{◌≡◌, ℕ, List, [], ◌++◌, Option, Some, None}
 use Rattle.std.proofs.Common.{inl, inr}
 use Rattle.std.specs.List.{AllByRecursion}
@@ -21,7 +22,8 @@ use Rattle.mk_world.specs.declared.history.History.{History}
 use Rattle.mk_modes.specs.Building.{Point, point}
 use Rattle.mk_run.specs.CleanRuns.{IsReadyRun, LeavesCleanFiles, bare}
 use Rattle.mk_run.specs.Completeness.{Completes}
-use Rattle.mk_modes.specs.Meaning.{Meant, only, prints, explains, queries, shows, builds, by_reading}
+use Rattle.mk_modes.specs.Meaning.{Meant, only, prints, explains, queries, shows, builds}
+use Rattle.mk_modes.specs.Meaning.{by_reading}
 use Rattle.mk_modes.specs.Modes.{Goes, Held}
 use Rattle.mk_run.specs.Runs.{IsOrderRun}
 use Rattle.mk_modes.specs.declared.building.Went.{Went}
@@ -31,7 +33,8 @@ use Rattle.mk_modes.specs.declared.report.Report.{Report}
 
 -- what a run built or showed: what the history held when its plan was made, and what a build did
 pub data Built : Type 0 where
-  build : (planned_at : Option History) → (work : Work) → (tasks : Tasks) → (items : List Item) → Built
+  build : (planned_at : Option History) → (work : Work) → (tasks : Tasks) → (items : List Item)
+      → Built
   dry : (planned_at : Option History) → Built
 
 abbrev pub built_in : (meaning : Meaning) (meant : Meant) (first last : Point) (went : Went)
@@ -55,8 +58,8 @@ build_of {meaning} {words} {env} {order} {first} {last} {err} {report} run =
     built_in meaning (by_reading order run.followed.read) (point run.followed.read_at first.out) last
     run.went run.followed.goes
 
--- At this moment of a run, the jobs of its build have kept apart so far, or no child of its dry run has
--- changed a meta file.
+-- At this moment of a run, the jobs of its build have kept apart so far, or no child of its dry run
+-- has changed a meta file.
 abbrev pub KeptApart : Option Built → History → Type 0
 KeptApart None now = Unit {0}
 KeptApart (Some (build planned_at work tasks items)) now =
@@ -66,9 +69,9 @@ KeptApart (Some (dry planned_at)) now =
     (planned : History) (so_far : List Happening) → planned_at ≡ Some planned
     → now ≡ longer planned so_far → AllByRecursion LeavesMetaFiles so_far
 
--- Where no child runs before a run, the history is one that may have come about, and meta files tell
--- what happened, they do so at every moment of the run up to which the commands that make asks have
--- changed no file and jobs have kept apart.
+-- Where no child runs before a run, the history is one that may have come about, and meta files
+-- tell what happened, they do so at every moment of the run up to which the commands that make asks
+-- have changed no file and jobs have kept apart.
 abbrev pub StaysTrue : Meaning → Option Built → History → History → Type 0
 StaysTrue meaning built old new =
     IsLawful meaning old → (state_of old).children ≡ [] → IsTrueHistory meaning.next old
@@ -76,8 +79,8 @@ StaysTrue meaning built old new =
     → AllByRecursion LeavesFiles so_far → KeptApart built (longer old so_far)
     → IsTrueHistory meaning.next (longer old so_far)
 
--- Where a run has built and all is made, and it was ready for that, it leaves what the clean build of what its words
--- ask for leaves: the one that reads and plans anew.
+-- Where a run has built and all is made, and it was ready for that, it leaves what the clean build
+-- of what its words ask for leaves: the one that reads and plans anew.
 abbrev pub LeavesClean : Meaning → Env → Order → Option Built → End → History → History → Type 0
 LeavesClean meaning env order None end old new = Unit {0}
 LeavesClean meaning env order (Some (dry planned_at)) end old new = Unit {0}
@@ -85,10 +88,11 @@ LeavesClean meaning env order (Some (build planned_at work tasks items)) end old
     end ≡ Done → (clean : Work) → IsReadyRun meaning env order planned_at work tasks old clean
     → LeavesCleanFiles meaning work tasks items old new clean (bare work.plan (files_of old))
 
--- A run, whose meta files tell what happened where those before it did: whatever it is that was built,
--- printed or refused, and however the run ended. What happened in it was added to the history, and each event may happen
--- behind those before it, so that a history that may have come about is one behind the run, too. Where the run has built
--- all, it leaves what the clean build leaves, and where nothing is wrong it ends well.
+-- A run, whose meta files tell what happened where those before it did: whatever it is that was
+-- built, printed or refused, and however the run ended. What happened in it was added to the
+-- history, and each event may happen behind those before it, so that a history that may have come
+-- about is one behind the run, too. Where the run has built all, it leaves what the clean build
+-- leaves, and where nothing is wrong it ends well.
 pub record IsTrueOrderRun (meaning : Meaning) (words : List (List ℕ)) (env : Env) (order : Order)
     (first last : Point) (err : Held) (report : Report) : Type 0
   where

@@ -45,17 +45,18 @@ pub fn close<S: Sink>(words: &Texts, went: Went, err: &mut S) -> Report
     }
 }
 
-/// Does what the words of a command line ask for, which are taken. The environment's directory is absolute
-/// and clean.
+/// Does what the words of a command line ask for, which are taken. The environment's directory is
+/// absolute and clean.
 ///
-/// It reads the makefiles, whose messages it writes on `err`, and then prints on `out` what the words ask
-/// for, each print on its line as soon as it is evaluated. Where they ask for no print it makes a plan of
-/// the targets. Of these `--explain` tells why each is out of date, `-q` asks whether they are up to date,
-/// and `-n` shows what a build would do; else they are built, with so many jobs, by times and, in meta mode, by meta files. Every end but
-/// `Done`, `NotUpToDate` and `SinkFault` has its line on `err`, which is written last.
+/// It reads the makefiles, whose messages it writes on `err`, and then prints on `out` what the
+/// words ask for, each print on its line as soon as it is evaluated. Where they ask for no print it
+/// makes a plan of the targets. Of these `--explain` tells why each is out of date, `-q` asks
+/// whether they are up to date, and `-n` shows what a build would do; else they are built, with so
+/// many jobs, by times and, in meta mode, by meta files. Every end but `Done`, `NotUpToDate` and
+/// `SinkFault` has its line on `err`, which is written last.
 ///
-/// Where meta files told what happened before the run, they do so at every moment of it, as far as the
-/// commands of `!=` change no file and jobs keep apart.
+/// Where meta files told what happened before the run, they do so at every moment of it, as far as
+/// the commands of `!=` change no file and jobs keep apart.
 pub fn run_order<W: World, S: Sink>(
     alloc: Global,
     words: &Texts,

@@ -14,7 +14,8 @@ use Rattle.mk_world.specs.declared.command.Task.{Task}
 abbrev pub with_answers : Answers → Setting → Setting
 with_answers other k = setting_of k.variables k.lists other
 
--- Other answers that agree with the questions of a task give the same task, with the same questions.
+-- Other answers that agree with the questions of a task give the same task, with the same
+-- questions.
 abbrev pub TasksAreByAnswers : Type 0
 TasksAreByAnswers =
     (k : Setting) (other : Answers) (suffixes : List (List ℕ)) (nodes : List PlanNode) (n : ℕ)
@@ -31,7 +32,8 @@ TaskNamesAreByAnswers =
     → task_names (with_answers other k) suffixes nodes n newer mode flags asked
     ≡ task_names k suffixes nodes n newer mode flags asked
 
--- Two tasks of a node by any answers are the same, with the same questions, or they part at a question.
+-- Two tasks of a node by any answers are the same, with the same questions, or they part at a
+-- question.
 abbrev pub TasksPartAtQuestions : Type 0
 TasksPartAtQuestions =
     (k : Setting) (other : Answers) (suffixes : List (List ℕ)) (nodes : List PlanNode) (n : ℕ)

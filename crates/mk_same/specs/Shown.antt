@@ -31,7 +31,8 @@ shown_nodes (Wait ∷ events) = shown_nodes events
 -- no line of a task has a `+`
 abbrev pub NoneAlways : Tasks → Type 0
 NoneAlways tasks =
-    (node number : ℕ) (line : TaskLine) → line_of (tasks node) number ≡ Some line → line.always ≡ false
+    (node number : ℕ) (line : TaskLine) → line_of (tasks node) number ≡ Some line
+    → line.always ≡ false
 
 -- these options say the same of what the commands of a node are
 pub record SayTheSame (one other : Flags) : Type 0 where
@@ -42,13 +43,14 @@ pub record SayTheSame (one other : Flags) : Type 0 where
 abbrev pub under : Flags → Work → Work
 under flags work = record work { flags = flags }
 
--- Where no line has a `+`, a dry run that ends well shows the nodes, in order, that an explanation by the files
--- before it tells of, no child running before.
+-- Where no line has a `+`, a dry run that ends well shows the nodes, in order, that an explanation
+-- by the files before it tells of, no child running before.
 abbrev pub ShownAreExplained : Type 0
 ShownAreExplained =
     (meaning : Meaning) (work : Work) (flags : Flags) (first last : Moment) (old new : History)
     (reasons : List Reason) → IsTrue (are_ordered 0 work.plan) → SayTheSame flags work.flags
     → first.history ≡ Some old → last.history ≡ Some new
-    → (state_of old).children ≡ [] → (dry : IsDryRun meaning (under flags work) ended.Done first last)
+    → (state_of old).children ≡ []
+    → (dry : IsDryRun meaning (under flags work) ended.Done first last)
     → NoneAlways dry.tasks → IsExplained (AreAnswered (state_of old).files) work reasons
     → shown_nodes last.events ≡ map (λ one. one.node) reasons

@@ -24,8 +24,9 @@ pub record IsBetweenThese (first last : Point) (old new : History) : Type 0 wher
   pub begins : first.history ≡ Some old
   pub ends : last.history ≡ Some new
 
--- Of what the same makefiles say on the same files, a run with `-n` and one with `--explain`, both ending well:
--- where no line has a `+` and no child runs before, the first shows the nodes, in order, that the second tells of.
+-- Of what the same makefiles say on the same files, a run with `-n` and one with `--explain`, both
+-- ending well: where no line has a `+` and no child runs before, the first shows the nodes, in
+-- order, that the second tells of.
 abbrev pub ShownRunsAreExplained : Type 0
 ShownRunsAreExplained =
     (meaning : Meaning) (made : Made) (shows tells : Flags) (first last begin end : Point) (went other : Went)

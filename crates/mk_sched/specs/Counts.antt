@@ -1,5 +1,6 @@
 -- How many predecessors of a node are not settled.
-use Rattle.std.specs.Prelude.{◌≡◌, ℕ, ◌+◌, ◌<◌, List, [], ◌∷◌, Bool, ◌&&◌, ◌==◌, if◌then◌else◌, length, get_or}
+use Rattle.std.specs.Prelude.{◌≡◌, ℕ, ◌+◌, ◌<◌, List, [], ◌∷◌, Bool, ◌&&◌, ◌==◌, if◌then◌else◌}
+use Rattle.std.specs.Prelude.{length, get_or}
 use Rattle.mk_plan.specs.Deciding.{is_settled, is_undecided}
 use Rattle.mk_plan.specs.declared.plan.NodeState.{NodeState}
 use Rattle.mk_plan.specs.declared.plan.NodeState.TheVariants.{Undecided, Failed}
@@ -21,7 +22,8 @@ is_ready nodes counts node =
     is_undecided (get_or nodes node Failed) && (get_or counts node 0 == 0)
 
 -- the count of each node is that of its predecessors
-pub record AreCounts (before : List (List ℕ)) (nodes : List NodeState) (counts : List ℕ) : Type 0 where
+pub record AreCounts (before : List (List ℕ)) (nodes : List NodeState) (counts : List ℕ)
+    : Type 0 where
   pub long : length counts ≡ length before
   pub each : (node : ℕ) → node < length before
       → get_or counts node 0 ≡ unsettled nodes (get_or before node [])

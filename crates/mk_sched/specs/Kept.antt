@@ -7,7 +7,8 @@ use Rattle.mk_sched.specs.Counts.{AreCounts, AreFollowers}
 use Rattle.mk_sched.specs.Least.{AreEntered}
 
 -- a token is out for each open job, and a failure is known
-pub record AreTold (before : List (List ℕ)) (nodes : List NodeState) (tokens : ℕ) (failed : Bool) : Type 0 where
+pub record AreTold (before : List (List ℕ)) (nodes : List NodeState) (tokens : ℕ) (failed : Bool)
+    : Type 0 where
   pub as_many : length nodes ≡ length before
   pub short : length before < 2 ^ 32
   pub tokens_are : tokens ≡ open_jobs nodes

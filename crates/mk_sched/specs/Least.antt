@@ -12,8 +12,8 @@ abbrev pub IsLesser : List ℕ → ℕ → Type 0
 IsLesser entries place =
     entry entries place ≡ min (entry entries (2 * place)) (entry entries (2 * place + 1))
 
--- Two entries for each of so many nodes: those of the nodes are the later half, and each earlier one
--- but the first, which is not used, is the lesser of two. So that at place 1 is the least.
+-- Two entries for each of so many nodes: those of the nodes are the later half, and each earlier
+-- one but the first, which is not used, is the lesser of two. So that at place 1 is the least.
 pub record IsTournament (count : ℕ) (entries : List ℕ) : Type 0 where
   pub long : length entries ≡ 2 * count
   pub each : (place : ℕ) → 0 < place → place < count → IsLesser entries place
@@ -23,7 +23,8 @@ abbrev pub entered : List NodeState → List ℕ → ℕ → ℕ
 entered nodes counts node = if is_ready nodes counts node then node else length nodes
 
 -- each node but perhaps one is entered as it stands
-pub record AreEnteredBut (changed : ℕ) (nodes : List NodeState) (counts entries : List ℕ) : Type 0 where
+pub record AreEnteredBut (changed : ℕ) (nodes : List NodeState) (counts entries : List ℕ)
+    : Type 0 where
   pub as_many : length counts ≡ length nodes
   pub tournament : IsTournament (length nodes) entries
   pub each : (node : ℕ) → node < length nodes → node ≢ changed

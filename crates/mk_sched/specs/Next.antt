@@ -5,8 +5,8 @@ use Rattle.mk_sched.specs.Schedule.{Schedule}
 use Rattle.mk_sched.specs.declared.sched.Next.{Next}
 use Rattle.mk_sched.specs.declared.sched.Next.TheVariants.{Decide, Wait, Over}
 
--- The node that may be decided, where there is one. Else the end of a job is waited for where one is
--- open, and where none is, the run is over.
+-- The node that may be decided, where there is one. Else the end of a job is waited for where one
+-- is open, and where none is, the run is over.
 abbrev pub next_by : Option ℕ → ℕ → Next
 next_by (Some node) open_ones = Decide node
 next_by None zero = Over

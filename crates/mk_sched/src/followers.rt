@@ -5,8 +5,8 @@ use smallvec::SmallVec;
 use std::alloc::Global;
 use std::marker::Model;
 
-/// What a node is a predecessor of. Most nodes have few followers, which take no memory of their own.
-/// Contracts see the list of them.
+/// What a node is a predecessor of. Most nodes have few followers, which take no memory of their
+/// own. Contracts see the list of them.
 #[derive(Drop)]
 pub struct Followers {
     nodes: SmallVec<u32, 4>,

@@ -1,7 +1,8 @@
 //! The least of the ready nodes. A node is entered with its number where it is ready, and else with
 //! the number of nodes. These entries are the later half of a list, and each earlier entry is the
 //! lesser of the two at twice its place.
-ghost use Rattle.std.specs.Prelude.{◌≡◌, ◌≢◌, ◌+◌, ◌*◌, ◌/◌, ◌<◌, ◌≤◌, ◌^◌, ℕ, List, length, min, set};
+ghost use Rattle.std.specs.Prelude.{◌≡◌, ◌≢◌, ◌+◌, ◌*◌, ◌/◌, ◌<◌, ◌≤◌, ◌^◌, ℕ, List, length, min};
+ghost use Rattle.std.specs.Prelude.{set};
 ghost use Rattle.mk_plan.specs.Deciding.{first_ready};
 ghost use Rattle.mk_plan.specs.declared.plan.NodeState.{NodeState};
 ghost use Rattle.mk_sched.specs.Counts.{AreCounts, is_ready};

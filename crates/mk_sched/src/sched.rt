@@ -1,6 +1,9 @@
 //! The scheduler.
 ghost use Rattle.std.specs.Prelude.{◌≡◌, ◌<◌, ◌≤◌, ◌^◌, length, get_or, IfOk};
-ghost use Rattle.mk_plan.specs.declared.plan.NodeState.TheVariants.{Undecided as undecided, Open as open_state, Settled as settled, Failed as failed};
+ghost use Rattle.mk_plan.specs.declared.plan.NodeState.TheVariants.{Undecided as undecided};
+ghost use Rattle.mk_plan.specs.declared.plan.NodeState.TheVariants.{Open as open_state};
+ghost use Rattle.mk_plan.specs.declared.plan.NodeState.TheVariants.{Settled as settled};
+ghost use Rattle.mk_plan.specs.declared.plan.NodeState.TheVariants.{Failed as failed};
 ghost use Rattle.mk_sched.specs.Schedule as spec;
 
 use crate::counts::settle;
@@ -60,8 +63,8 @@ impl<'p> Sched<'p> {
     ghost use Rattle.mk_sched.specs.Next.{next_of};
     ghost use Rattle.mk_sched.specs.declared.sched.Next.TheVariants.{Decide as decide};
 
-    /// The start of a run of a plan: no node is decided. So many jobs may be open at once, and after
-    /// a failure the run goes on or not. Takes all memory of the run.
+    /// The start of a run of a plan: no node is decided. So many jobs may be open at once, and
+    /// after a failure the run goes on or not. Takes all memory of the run.
     pub fn new(
         alloc: Global,
         plan: &'p Plan,

@@ -1,5 +1,6 @@
 //! What a scheduler keeps at the start of a run.
-ghost use Rattle.std.specs.Prelude.{◌≡◌, ◌+◌, ◌*◌, ◌<◌, ◌==◌, ◌^◌, [], ℕ, if◌then◌else◌, length, get_or, IsTrue, IfOk, OnOk};
+ghost use Rattle.std.specs.Prelude.{◌≡◌, ◌+◌, ◌*◌, ◌<◌, ◌==◌, ◌^◌, [], ℕ, if◌then◌else◌, length};
+ghost use Rattle.std.specs.Prelude.{get_or, IsTrue, IfOk, OnOk};
 ghost use Rattle.mk_plan.specs.Plans.{is_behind, node_at};
 ghost use Rattle.mk_sched.specs.Counts.{AreFollowers, times};
 ghost use Rattle.mk_sched.specs.Least.{IsTournament, entry};

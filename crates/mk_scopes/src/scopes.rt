@@ -1,4 +1,4 @@
-ghost use Rattle.std.specs.Prelude.{◌≡◌, [], IsTrue, IfOk, OnOk, OnErr};
+ghost use Rattle.std.specs.Prelude.{◌≡◌, ◌↔◌, true, [], IsTrue, IfOk, OnOk, OnErr};
 ghost use Rattle.std.specs.Option.{option_copied};
 ghost use Rattle.mk_bytes.specs.Paths.{is_clean_directory};
 ghost use Rattle.mk_scopes.specs.Scopes as spec;
@@ -9,8 +9,8 @@ use mk_bytes::{NoMemory, Pairs, Text};
 use std::alloc::Global;
 use std::marker::Model;
 
-/// What a process is given: the variables of its environment, of which the last of a name counts, its
-/// current directory, and the name by which make was called.
+/// What a process is given: the variables of its environment, of which the last of a name counts,
+/// its current directory, and the name by which make was called.
 #[derive(Drop)]
 pub struct Env {
     pub vars: Pairs,
@@ -75,9 +75,9 @@ fn first_globals(alloc: Global, cwd: &[u8], program: &[u8]) -> Result<Table, NoM
 }
 
 impl Scopes {
-    /// The variables of the environment, with the globals `.CURDIR`, `.newline` and `MAKE`, the name by
-    /// which make was called. With
-    /// `env_first` the environment stands above the globals (make(1), `-e`).
+    /// The variables of the environment, with the globals `.CURDIR`, `.newline` and `MAKE`, the
+    /// name by which make was called. With `env_first` the environment stands above the globals
+    /// (make(1), `-e`).
     pub fn new(alloc: Global, env: &Env, env_first: bool) -> Result<Scopes, NoMemory>
         requires { IsTrue (is_clean_directory env.now.cwd) }
         ensures { IfOk result (λ scopes. scopes ≡ spec.first_scopes env.now env_first) }
@@ -151,6 +151,18 @@ impl Scopes {
             Class::Command => self.commands.append(name, value, &self.env),
             Class::Global => self.globals.append(name, value, &self.env),
         }
+    }
+
+    /// Whether these are the same variables with the same values, each class in the same order, in
+    /// the same directory. Takes no memory.
+    pub fn is_same(&self, other: &Scopes) -> bool
+        ensures { (result ≡ true) ↔ (self.now ≡ other.now) }
+    {
+        self.env_first == other.env_first
+            && self.cwd.bytes() == other.cwd.bytes()
+            && self.commands.is_same(&other.commands)
+            && self.globals.is_same(&other.globals)
+            && self.env.is_same(&other.env)
     }
 
     /// Takes the global of a name away, if there is one; the command line's variable and the

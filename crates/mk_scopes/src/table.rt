@@ -1,4 +1,4 @@
-ghost use Rattle.std.specs.Prelude.{◌≡◌, [], Some, IfOk, OnOk, OnErr};
+ghost use Rattle.std.specs.Prelude.{◌≡◌, ◌↔◌, true, [], Some, IfOk, OnOk, OnErr};
 ghost use Rattle.std.specs.Option.{option_copied};
 ghost use Rattle.mk_scopes.specs.Tables as spec;
 
@@ -91,6 +91,26 @@ impl Table {
         };
         let text = joined(self.alloc, before.bytes(), value)?;
         self.assign(name, text.bytes())
+    }
+
+    /// Whether this has the same variables as another table, with the same values and in the same
+    /// order. Takes no memory.
+    pub fn is_same(&self, other: &Table) -> bool
+        ensures { (result ≡ true) ↔ (self.now ≡ other.now) }
+    {
+        let mut rest = self.values.as_slice();
+        let mut behind = other.values.as_slice();
+        'entries: while let Some(((name, value), more)) = rest.split_first() {
+            let Some(((its_name, its_value), left)) = behind.split_first() else {
+                return false;
+            };
+            if name.as_slice() != its_name.as_slice() || value.bytes() != its_value.bytes() {
+                return false;
+            }
+            rest = more;
+            behind = left;
+        }
+        behind.is_empty()
     }
 
     /// Takes a name and its value away, if it has one. The last name takes its place, so that it

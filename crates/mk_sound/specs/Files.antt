@@ -1,6 +1,7 @@
--- What is asked before a run so that it leaves what the clean build leaves: of the history, that it may have come about
--- and that meta files tell what happened; and the rest of the makefiles and of the files that stand there, one premise
--- after the other. Nothing here speaks of what the run will do.
+-- What is asked before a run so that it leaves what the clean build leaves: of the history, that it
+-- may have come about and that meta files tell what happened; and the rest of the makefiles and of
+-- the files that stand there, one premise after the other. Nothing here speaks of what the run will
+-- do.
 use Rattle.std.specs.Prelude.{◌≡◌, ℕ, ◌<◌, List, [], Option, Some, None, Ok, true, false}
 use Rattle.std.specs.List.{AllByRecursion}
 use Rattle.mk_answers.specs.OnFiles.{ChangesNone}
@@ -39,11 +40,12 @@ pub record IsTrueStart (meaning : Meaning) (old : History) : Type 0 where
   -- P2. Each meta file that stands tells what happened.
   pub truth : IsTrueHistory meaning.next old
 
--- What is asked of the words, the environment and the files that stand before a run. `lines` are those of each node in
--- the clean build; that reads and plans anew where made files and meta files are away, and runs one job after the other.
+-- What is asked of the words, the environment and the files that stand before a run. `lines` are
+-- those of each node in the clean build; that reads and plans anew where made files and meta files
+-- are away, and runs one job after the other.
 pub record AreSound (meaning : Meaning) (env : Env) (order : Order) (files : Store) : Type 0 where
-  -- The makefiles on these files are read, and say this, where these are the names in the directories that they list;
-  -- and this is the work that the words ask for.
+  -- The makefiles on these files are read, and say this, where these are the names in the
+  -- directories that they list; and this is the work that the words ask for.
   pub made : Made
   pub listings : Listings
   pub read : (reading_on meaning files listings env order).answer ≡ Ok made
@@ -57,17 +59,17 @@ pub record AreSound (meaning : Meaning) (env : Env) (order : Order) (files : Sto
   pub asks : AllByRecursion (ChangesNone meaning files listings) (reading_on meaning files listings env order).acts
   -- P4. The build goes by meta mode.
   pub mode : GoesByMetaMode work lines
-  -- P5. Plans are alike: the makefiles give this work also where made files and meta files are away. In the clean build
-  -- each node has its lines; no name of the newer sources is looked up in its commands, and these ask `exists` of
-  -- sources alone.
+  -- P5. Plans are alike: the makefiles give this work also where made files and meta files are
+  -- away. In the clean build each node has its lines; no name of the newer sources is looked up in
+  -- its commands, and these ask `exists` of sources alone.
   pub alike : IsPlannedOn meaning env order (bare work.plan files) work
   pub tasks_are : (one : CleanJob) → IsAmong one (clean_jobs_of meaning work (bare work.plan files))
       → HasItsTask work lines (clean_jobs_of meaning work (bare work.plan files)) one
   -- P6. What the jobs of the clean build read and change is declared.
   pub declared : IsDeclared (clean_plan work lines) (clean_jobs_of meaning work (bare work.plan files))
 
--- Each run from such files that comes to a build has their work, and is sound: its reading and its plan are those of
--- the files at its entry, and its commands of `!=` change no file.
+-- Each run from such files that comes to a build has their work, and is sound: its reading and its
+-- plan are those of the files at its entry, and its commands of `!=` change no file.
 abbrev pub SoundFilesMakeSoundRuns : Type 0
 SoundFilesMakeSoundRuns =
     (meaning : Meaning) (words : List (List ℕ)) (env : Env) (order : Order) (first last : Point) (err : Held)
@@ -84,27 +86,29 @@ HasBuilt None = ⊥
 HasBuilt (Some (dry planned_at)) = ⊥
 HasBuilt (Some (build planned_at work tasks items)) = Unit {0}
 
--- When a run from sound files has built all, then each made file that the requested targets need has the bytes that
--- the clean build gives it.
+-- When a run from sound files has built all, then each made file that the requested targets need
+-- has the bytes that the clean build gives it.
 abbrev pub RunsLeaveCleanFiles : Type 0
 RunsLeaveCleanFiles =
     (meaning : Meaning) (words : List (List ℕ)) (env : Env) (order : Order) (first last : Point) (err : Held)
     (report : Report) (run : IsTrueOrderRun meaning words env order first last err report) (old new : History)
-    → first.history ≡ Some old → last.history ≡ Some new → HasBuilt (build_of run.run) → report.end ≡ Done
+    → first.history ≡ Some old → last.history ≡ Some new → HasBuilt (build_of run.run)
+    → report.end ≡ Done
     → IsTrueStart meaning old → (sound : AreSound meaning env order (files_of old))
     → (node : ℕ) → makes_file (node_at sound.work.plan node) ≡ true
     → files_of new (node_at sound.work.plan node).name
     ≡ clean_files_of meaning sound.work (bare sound.work.plan (files_of old)) (node_at sound.work.plan node).name
 
--- Behind each run from sound files that is asked for no dry run, whatever failed in it and however it ended, the next run
--- begins as it did, once no child runs; and each source, which no job changes and no build leaves, stands as it did. It is
--- the same whether the run has built, printed, explained or asked, whether its plan was refused, and how far its makefiles
--- were read.
+-- Behind each run from sound files that is asked for no dry run, whatever failed in it and however
+-- it ended, the next run begins as it did, once no child runs; and each source, which no job
+-- changes and no build leaves, stands as it did. It is the same whether the run has built, printed,
+-- explained or asked, whether its plan was refused, and how far its makefiles were read.
 abbrev pub RunsMayFollow : Type 0
 RunsMayFollow =
     (meaning : Meaning) (words : List (List ℕ)) (env : Env) (order : Order) (first last : Point) (err : Held)
     (report : Report) (run : IsTrueOrderRun meaning words env order first last err report) (old new : History)
-    → first.history ≡ Some old → last.history ≡ Some new → order.flags.dry ≡ false → IsTrueStart meaning old
+    → first.history ≡ Some old → last.history ≡ Some new → order.flags.dry ≡ false
+    → IsTrueStart meaning old
     → (sound : AreSound meaning env order (files_of old)) → (state_of new).children ≡ []
     → IsTrueStart meaning new
     × ((path : List ℕ)

@@ -1,5 +1,5 @@
--- What is asked of a clean build, and of nothing else, so that runs leave what it leaves: what its jobs read and change
--- is declared, and their commands ask nothing of what builds change.
+-- What is asked of a clean build, and of nothing else, so that runs leave what it leaves: what its
+-- jobs read and change is declared, and their commands ask nothing of what builds change.
 use Rattle.std.specs.Prelude.{◌≡◌, ℕ, ◌<◌, List, [], Option, Some, None, Ok, true, false, slice_get}
 use Rattle.std.specs.List.{AllByRecursion}
 use Rattle.mk_clean.specs.Clean.{CleanJob, IsAmong}
@@ -20,7 +20,8 @@ use Rattle.mk_plan.specs.Newer.{task_names}
 use Rattle.mk_plan.specs.Plans.{node_at}
 use Rattle.mk_plan.specs.Tasks.{setting_of, task_with}
 use Rattle.mk_plan.specs.declared.plan.NodeState.TheVariants.{Settled}
-use Rattle.mk_run.specs.CleanRuns.{IsPlannedOn, LeavesCleanFiles, bare, by_files, clean_jobs_of, task_on}
+use Rattle.mk_run.specs.CleanRuns.{IsPlannedOn, LeavesCleanFiles, bare, by_files, clean_jobs_of}
+use Rattle.mk_run.specs.CleanRuns.{task_on}
 use Rattle.mk_run.specs.TrueRuns.{Built, IsTrueOrderRun, build, build_of, dry}
 use Rattle.mk_scopes.specs.declared.scopes.Env.{Env}
 use Rattle.mk_trace.specs.Builds.{Makes, build_after_all, first_build}
@@ -37,18 +38,20 @@ use Rattle.mk_world.specs.Told.{Told}
 use Rattle.mk_world.specs.declared.history.Happening.{Happening}
 use Rattle.mk_world.specs.declared.history.History.{History}
 
--- At its turn in the clean build a node has these lines. No name of the newer sources is looked up in its commands, and
--- `exists` is asked of sources alone.
-pub record HasItsTask (work : Work) (tasks : Tasks) (all : List CleanJob) (one : CleanJob) : Type 0 where
+-- At its turn in the clean build a node has these lines. No name of the newer sources is looked up
+-- in its commands, and `exists` is asked of sources alone.
+pub record HasItsTask (work : Work) (tasks : Tasks) (all : List CleanJob) (one : CleanJob)
+    : Type 0 where
   pub asked : List Asked
   pub task : task_on work one.node one.before
       ≡ Ok (task_with work.variables work.mode.exports (node_at work.plan one.node).name (tasks one.node), asked)
   pub no_newer : looks_for_newer (task_names (setting_of work.variables work.lists (by_files one.before))
       work.suffixes work.plan one.node (source_names work one.node) work.mode work.flags []) ≡ false
-  pub sources : (question : Asked) → IsAmong question asked → IsSource (clean_plan work tasks) all question.path
+  pub sources : (question : Asked) → IsAmong question asked
+      → IsSource (clean_plan work tasks) all question.path
 
--- The clean build of this work on these files, whose jobs have these lines, is sound: it goes by meta mode, what its
--- jobs read and change is declared, and so is what their commands ask.
+-- The clean build of this work on these files, whose jobs have these lines, is sound: it goes by
+-- meta mode, what its jobs read and change is declared, and so is what their commands ask.
 pub record IsSound (meaning : Meaning) (work : Work) (tasks : Tasks) (files : Store) : Type 0 where
   pub mode : GoesByMetaMode work tasks
   pub declared : IsDeclared (clean_plan work tasks) (clean_jobs_of meaning work (bare work.plan files))
@@ -66,15 +69,16 @@ HaveLines work lines tasks items =
 abbrev pub BuildsHaveCleanTasks : Type 0
 BuildsHaveCleanTasks =
     (meaning : Meaning) (work : Work) (lines tasks : Tasks) (items : List Item) (old new : History)
-    → IsLawful meaning old → (state_of old).children ≡ [] → IsTrueHistory meaning.next old → IsWellMade work
+    → IsLawful meaning old → (state_of old).children ≡ [] → IsTrueHistory meaning.next old
+    → IsWellMade work
     → IsSound meaning work lines (files_of old)
     → Makes work tasks (first_build work) items → Happened meaning items old new → GivesUpLast items
     → HaveLines work lines tasks items
 
--- Before a run, in which at least one job may run at once: no child runs, the history is one that may have come
--- about, and each meta file that stands tells what happened. The commands that the run asks with `!=` change no file.
--- The makefiles give the work of the run also where made files and meta files are away, and the clean build of it,
--- whose jobs have these lines, is sound.
+-- Before a run, in which at least one job may run at once: no child runs, the history is one that
+-- may have come about, and each meta file that stands tells what happened. The commands that the
+-- run asks with `!=` change no file. The makefiles give the work of the run also where made files
+-- and meta files are away, and the clean build of it, whose jobs have these lines, is sound.
 pub record IsSoundRun (meaning : Meaning) (env : Env) (order : Order) (planned_at : Option History) (work : Work)
     (lines : Tasks) (old : History) : Type 0
   where
@@ -82,12 +86,14 @@ pub record IsSoundRun (meaning : Meaning) (env : Env) (order : Order) (planned_a
     pub lawful : IsLawful meaning old
     pub idle : (state_of old).children ≡ []
     pub truth : IsTrueHistory meaning.next old
-    pub asks : (asked : List Happening) → planned_at ≡ Some (longer old asked) → AllByRecursion LeavesFiles asked
+    pub asks : (asked : List Happening) → planned_at ≡ Some (longer old asked)
+        → AllByRecursion LeavesFiles asked
     pub planned : IsPlannedOn meaning env order (bare work.plan (files_of old)) work
     pub sound : IsSound meaning work lines (files_of old)
 
 -- Where a run has built all, and its clean build is sound, it leaves what that leaves.
-abbrev pub LeavesWhatIsSound : Meaning → Env → Order → Option Built → End → History → History → Type 0
+abbrev pub LeavesWhatIsSound : Meaning → Env → Order → Option Built → End → History → History
+    → Type 0
 LeavesWhatIsSound meaning env order None end old new = Unit {0}
 LeavesWhatIsSound meaning env order (Some (dry planned_at)) end old new = Unit {0}
 LeavesWhatIsSound meaning env order (Some (build planned_at work tasks items)) end old new =
@@ -101,9 +107,10 @@ SoundRunsLeaveClean =
     (report : Report) (run : IsTrueOrderRun meaning words env order first last err report)
     → Told first.history last.history (LeavesWhatIsSound meaning env order (build_of run.run) report.end)
 
--- When a run has built, and its clean build is sound, the history behind it may have come about, each meta file that stands
--- tells what happened, and each source, which no job changes and no build leaves, stands as it did: whatever failed, whoever
--- was given up, and however the run ended. So the next run begins as this one did.
+-- When a run has built, and its clean build is sound, the history behind it may have come about,
+-- each meta file that stands tells what happened, and each source, which no job changes and no
+-- build leaves, stands as it did: whatever failed, whoever was given up, and however the run ended.
+-- So the next run begins as this one did.
 abbrev pub SoundRunsStayTrue : Type 0
 SoundRunsStayTrue =
     (meaning : Meaning) (words : List (List ℕ)) (env : Env) (order : Order) (first last : Point) (err : Held)

@@ -4,7 +4,8 @@ use Rattle.std.specs.Str.{bytes_eq}
 use Rattle.mk_strace.specs.declared.call.Call.{Call}
 use Rattle.mk_strace.specs.declared.call.Call.TheVariants.{Opens, Makes, Runs, Looks, Asks}
 use Rattle.mk_strace.specs.declared.call.Call.TheVariants.{Follows, Cuts, Nodes, Folders, Removes}
-use Rattle.mk_strace.specs.declared.call.Call.TheVariants.{RemovesFolder, Moves, Links, Points, Enters}
+use Rattle.mk_strace.specs.declared.call.Call.TheVariants.{RemovesFolder, Moves, Links, Points}
+use Rattle.mk_strace.specs.declared.call.Call.TheVariants.{Enters}
 use Rattle.mk_strace.specs.declared.call.Call.TheVariants.{EntersOpen, Lists, Forks, Parts, Hides}
 use Rattle.mk_strace.specs.declared.call.Call.TheVariants.{CutsOpen, Other}
 use Rattle.mk_strace.specs.declared.call.Form.{Form}

@@ -1,5 +1,6 @@
 -- How calls name files.
-use Rattle.std.specs.Prelude.{ℕ, Bool, true, false, not, ◌==◌, ◌&&◌, ◌||◌, nat_eq, List, [], ◌∷◌, ◌++◌}
+use Rattle.std.specs.Prelude.{ℕ, Bool, true, false, not, ◌==◌, ◌&&◌, ◌||◌, nat_eq, List, [], ◌∷◌}
+use Rattle.std.specs.Prelude.{◌++◌}
 use Rattle.std.specs.Prelude.{codes, length, take, ◌-◌, slice_index, Option, Some, None}
 use Rattle.std.specs.Prelude.{option_and_then, if◌then◌else◌}
 use Rattle.std.specs.List.{starts_with}
@@ -32,8 +33,8 @@ abbrev pub open_by : Option (List ℕ × Bool) → Name
 open_by None = Unclear
 open_by (Some shown) = open_name shown.0 shown.1
 
--- What is open: `AT_FDCWD` is the directory of the process, and an open file is a number with its path
--- in `<` and `>`.
+-- What is open: `AT_FDCWD` is the directory of the process, and an open file is a number with its
+-- path in `<` and `>`.
 abbrev pub open_in : List ℕ → Name
 open_in piece = if is_here piece then Here [] else open_by (shown_in piece)
 

@@ -19,7 +19,8 @@ abbrev pub is_touched : List ℕ → Bool
 is_touched flags = has (codes "O_WRONLY") flags
     && (has (codes "O_NONBLOCK") flags && not (has (codes "O_APPEND") flags))
 
--- What opening a file does to it. Where it is open for writing alone, nothing of it is read by that.
+-- What opening a file does to it. Where it is open for writing alone, nothing of it is read by
+-- that.
 abbrev pub how_of : List ℕ → How
 how_of flags =
     if has (codes "O_PATH") flags then how.Passes

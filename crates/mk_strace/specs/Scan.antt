@@ -57,8 +57,8 @@ abbrev pub or_later : ℕ → End → Cut → Cut
 or_later byte None later = option_map (λ cut. (byte ∷ cut.0, cut.1, cut.2)) later
 or_later byte (Some end) later = Some ([], end.0, end.1)
 
--- The next word of a call, up to a comma or the end, neither of which counts in quotes or in what is
--- shown of an open file; without commas, all words.
+-- The next word of a call, up to a comma or the end, neither of which counts in quotes or in what
+-- is shown of an open file; without commas, all words.
 unfoldable pub cut : Bool → Mode → List ℕ → Cut
 cut commas within [] = None
 cut commas within (byte ∷ text) =

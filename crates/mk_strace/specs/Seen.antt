@@ -2,7 +2,8 @@
 use Rattle.mk_strace.specs.Lines.{Line}
 use Rattle.mk_strace.specs.Lines as line
 use Rattle.mk_strace.specs.declared.line.Kind.{Kind}
-use Rattle.mk_strace.specs.declared.line.Kind.TheVariants.{Whole, Begun, Resumed, Ends, Takes, Signal}
+use Rattle.mk_strace.specs.declared.line.Kind.TheVariants.{Whole, Begun, Resumed, Ends, Takes}
+use Rattle.mk_strace.specs.declared.line.Kind.TheVariants.{Signal}
 
 abbrev pub kind_now : Kind → Line
 kind_now Whole = line.Whole

@@ -19,8 +19,8 @@ at_rest begun what = if bytes_eq begun [] then what else None
 abbrev pub resumed : List ℕ → List ℕ → Option Act
 resumed begun rest = if bytes_eq begun [] then None else act_in (begun ++ rest)
 
--- What a line says that its process did, by the call that it has begun, if there is one. What follows
--- of a call that was not begun is refused, and another call in the midst of one.
+-- What a line says that its process did, by the call that it has begun, if there is one. What
+-- follows of a call that was not begun is refused, and another call in the midst of one.
 abbrev pub act_on : List ℕ → Line → List ℕ → Option Act
 act_on begun (line.Resumed rest) text = resumed begun rest
 act_on begun (line.Takes from) text = Some (act.Takes from)
@@ -29,8 +29,8 @@ act_on begun (line.Begun start) text = at_rest begun (Some act.Nothing)
 act_on begun line.Ends text = at_rest begun (Some act.Ends)
 act_on begun line.Whole text = at_rest begun (act_in text)
 
--- The calls that are begun behind a line. A thread that takes the place of a process goes on with its
--- call there.
+-- The calls that are begun behind a line. A thread that takes the place of a process goes on with
+-- its call there.
 abbrev pub begun_behind : Texts → List ℕ → Line → Texts
 begun_behind begun process (line.Begun start) = with_text begun process start
 begun_behind begun process (line.Resumed rest) = with_text begun process []

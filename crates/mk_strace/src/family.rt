@@ -31,9 +31,9 @@ fn add_theirs(lines: &mut Text, family: &Kept, line: &[u8]) -> Result<(), NoMemo
     Ok(())
 }
 
-/// The lines of a trace that are of a process for which a text is kept, and those that name no process,
-/// in order, each with its newline. What stands behind the last newline is left out: another process may
-/// be writing there. The time is linear in the trace.
+/// The lines of a trace that are of a process for which a text is kept, and those that name no
+/// process, in order, each with its newline. What stands behind the last newline is left out:
+/// another process may be writing there. The time is linear in the trace.
 pub fn lines_of(alloc: Global, family: &Kept, trace: &[u8]) -> Result<Text, NoMemory>
     ensures { IfOk result (λ lines. lines ≡ spec.lines_of (texts_in family.now) trace.now) }
 {

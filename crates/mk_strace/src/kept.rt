@@ -7,8 +7,8 @@ use indexmap::IndexMap;
 use mk_bytes::{NoMemory, Text};
 use std::alloc::Global;
 
-/// A text for each process, by the digits of its number; the empty one where none was kept. A look-up
-/// takes about constant time.
+/// A text for each process, by the digits of its number; the empty one where none was kept. A
+/// look-up takes about constant time.
 #[derive(Drop)]
 pub struct Kept {
     alloc: Global,

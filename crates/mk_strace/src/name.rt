@@ -54,8 +54,8 @@ fn is_here(piece: &[u8]) -> bool
     piece == b"AT_FDCWD".as_slice()
 }
 
-/// What is open, by a word of a call or by its result. Where the directory of the process stands for it
-/// and is not shown, this is told by an empty path there.
+/// What is open, by a word of a call or by its result. Where the directory of the process stands
+/// for it and is not shown, this is told by an empty path there.
 pub fn open_in(alloc: Global, piece: &[u8]) -> Result<Name, NoMemory>
     ensures { IfOk result (λ name. name ≡ spec.open_in piece.now) }
 {
@@ -124,8 +124,9 @@ fn named(alloc: Global, base: Name, piece: &[u8]) -> Result<Name, NoMemory>
     }
 }
 
-/// What a call names first, and the words behind it: by one word against the directory of its process,
-/// or by two of which the first is an open directory. `None` where there are no such words.
+/// What a call names first, and the words behind it: by one word against the directory of its
+/// process, or by two of which the first is an open directory. `None` where there are no such
+/// words.
 pub fn name_at<'t>(
     alloc: Global,
     by_open: bool,

@@ -19,7 +19,8 @@ pub enum Escape {
     HexBehind(u8),
 }
 
-// What a byte of a text stands for: at most the byte of an escape that ends before it, and one more.
+// What a byte of a text stands for: at most the byte of an escape that ends before it, and one
+// more.
 #[derive(Clone, Copy)]
 struct Meant {
     before: Option<u8>,
@@ -170,8 +171,9 @@ fn last_of(escape: Escape) -> Option<Option<u8>>
     }
 }
 
-/// The bytes that are written so between quotes: `\n`, `\t`, `\r`, `\v`, `\f`, `\"`, `\\`, one to three
-/// octal digits or `x` and two hexadecimal ones behind a backslash. `None` for every other text.
+/// The bytes that are written so between quotes: `\n`, `\t`, `\r`, `\v`, `\f`, `\"`, `\\`, one to
+/// three octal digits or `x` and two hexadecimal ones behind a backslash. `None` for every other
+/// text.
 pub fn unquoted(alloc: Global, text: &[u8]) -> Result<Option<Text>, NoMemory>
     ensures { IfOk result (λ found. found ≡ spec.unquoted text.now) }
 {

@@ -70,8 +70,8 @@ fn result_at<'t>(text: &'t [u8]) -> Option<&'t [u8]>
     }
 }
 
-// Whether a word of a call ends here, and then whether it is the last one, and what follows it: the next
-// word, or the result.
+// Whether a word of a call ends here, and then whether it is the last one, and what follows it: the
+// next word, or the result.
 fn end_at<'t>(commas: bool, mode: Mode, text: &'t [u8]) -> Option<(bool, &'t [u8])>
     ensures { option_map (λ end. (end.0, end.1.now)) result ≡ spec.end_at commas mode text.now }
 {
@@ -87,9 +87,9 @@ fn end_at<'t>(commas: bool, mode: Mode, text: &'t [u8]) -> Option<(bool, &'t [u8
     }
 }
 
-/// The next word of a call, or without `commas` all words, up to a comma or the end outside of quotes
-/// and of what is shown of open files; whether it is the last one; and what follows it: the next word,
-/// or the result of the call. `None` where there is no end.
+/// The next word of a call, or without `commas` all words, up to a comma or the end outside of
+/// quotes and of what is shown of open files; whether it is the last one; and what follows it: the
+/// next word, or the result of the call. `None` where there is no end.
 pub fn cut<'t>(commas: bool, text: &'t [u8]) -> Option<(&'t [u8], bool, &'t [u8])>
     ensures { option_map (λ cut. (cut.0.now, cut.1, cut.2.now)) result
         ≡ spec.cut commas spec.mode.Plain text.now }

@@ -136,10 +136,10 @@ fn read_lines(
     Ok(rest.is_empty())
 }
 
-/// What the processes of a trace did, one event a line. `None` where a line has no known form, where
-/// what follows of a call was not begun, where a process begins another call or ends in the midst of
-/// one, and where the last line has no newline: nothing is passed over but calls and signals that say
-/// nothing of files. The time is linear in the trace.
+/// What the processes of a trace did, one event a line. `None` where a line has no known form,
+/// where what follows of a call was not begun, where a process begins another call or ends in the
+/// midst of one, and where the last line has no newline: nothing is passed over but calls and
+/// signals that say nothing of files. The time is linear in the trace.
 pub fn read_trace(alloc: Global, trace: &[u8]) -> Result<Option<Events>, NoMemory>
     ensures { IfOk result (λ events. events ≡ spec.events_of trace.now) }
 {

@@ -93,7 +93,8 @@ choice_at place nodes known name (Some own) =
     option_map (placed_chain place nodes (without_end name own))
     (first_found (is_there place) nodes known (without_end name own) own)
 
--- The chain that is chosen for a name, where these are the files: the first whose source has a place.
+-- The chain that is chosen for a name, where these are the files: the first whose source has a
+-- place.
 abbrev pub choice : Store → List Node → Seeking → List ℕ → Option Chain
 choice files nodes seeking name =
     choice_at (place_of files nodes seeking) nodes seeking.suffixes name

@@ -1,5 +1,6 @@
 -- At which place a file stands that can be a source.
-use Rattle.std.specs.Prelude.{ℕ, ◌&&◌, Bool, false, not, List, Option, Some, None, is_some, if◌then◌else◌}
+use Rattle.std.specs.Prelude.{ℕ, ◌&&◌, Bool, false, not, List, Option, Some, None, is_some}
+use Rattle.std.specs.Prelude.{if◌then◌else◌}
 use Rattle.mk_dirs.specs.Places.{place}
 use Rattle.mk_graph.specs.Marks.{has}
 use Rattle.mk_graph.specs.Nodes.{Node, node_at, number_of}
@@ -15,8 +16,8 @@ is_marked_at nodes (Some n) attr = has (node_at nodes n).marks attr
 abbrev pub is_marked : List Node → List ℕ → Attr → Bool
 is_marked nodes name attr = is_marked_at nodes (number_of nodes name) attr
 
--- By what a source is sought: the known suffixes, the directories that are searched, and the current
--- directory.
+-- By what a source is sought: the known suffixes, the directories that are searched, and the
+-- current directory.
 pub record Seeking : Type 0 where
   pub suffixes : List (List ℕ)
   pub paths : List (List ℕ)

@@ -14,8 +14,9 @@ use mk_graph::Attr;
 use mk_world::World;
 use std::alloc::Global;
 
-/// The place of a name that can be a source: the name itself where it is a target or a file that is there,
-/// else a file of it in a directory that is searched. A phony name that is no target has none.
+/// The place of a name that can be a source: the name itself where it is a target or a file that is
+/// there, else a file of it in a directory that is searched. A phony name that is no target has
+/// none.
 pub fn place_of<W: World>(
     alloc: Global,
     rules: &SuffixRules<'_>,

@@ -23,8 +23,8 @@ use mk_bytes::Text;
 use mk_world::World;
 use std::alloc::Global;
 
-// Reaches the suffix that a rule leads from to that at a place, if it was not reached before. Where its
-// file has a place, it is not reached, and the step from it is answered.
+// Reaches the suffix that a rule leads from to that at a place, if it was not reached before. Where
+// its file has a place, it is not reached, and the step from it is answered.
 fn reach<'s, W: World>(
     alloc: Global,
     rules: &SuffixRules<'s>,
@@ -146,9 +146,10 @@ fn first_found<'s, W: World>(
 /// than; the base is the name without it. A chain leads from a source, the base with another known
 /// suffix, by a rule from each suffix to the next, to the name; it has each suffix once. Shorter
 /// chains come first, and those of one length by the places of their suffixes among the known, the
-/// one nearest to the name first. The first chain is chosen whose source has a place: a target stands for
-/// itself, a phony name that is none has no place, and other names stand where a file of them is, under
-/// the name itself or below the first directory of `.PATH` that has one. The chain begins at that place.
+/// one nearest to the name first. The first chain is chosen whose source has a place: a target
+/// stands for itself, a phony name that is none has no place, and other names stand where a file of
+/// them is, under the name itself or below the first directory of `.PATH` that has one. The chain
+/// begins at that place.
 ///
 /// `None` exactly where there is no such chain. `Failed` comes only where the world's count of
 /// faults rose or is at its end, and `NoMemory` where memory runs out.
@@ -160,7 +161,8 @@ pub fn resolve<W: World>(
 ) -> Result<Option<Chain>, SuffixFault>
     requires idle { W.runs world.old [] }
 
-    // The answer is the chosen chain by what the world was asked and answered: of all files that fit the answers.
+    // The answer is the chosen chain by what the world was asked and answered: of all files that
+    // fit the answers.
     ensures told { IfOk result (λ chain. ByLooks (W.history world.old) (W.history world.new)
         (λ files. spec.choice files rules.now.nodes rules.now.seeking name.now ≡ chain)) }
     ensures made { IfOk result (λ chain. IfSome chain (IsFor rules.now.nodes)) }

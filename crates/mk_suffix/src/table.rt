@@ -17,9 +17,9 @@ pub struct Source<'s> {
     pub rule: u32,
 }
 
-/// The rules of a graph between known suffixes, in a table from which those to one suffix are read off.
-/// Beside them it lends the directories that are searched, and the current one. Contracts see the nodes,
-/// and by what sources are sought.
+/// The rules of a graph between known suffixes, in a table from which those to one suffix are read
+/// off. Beside them it lends the directories that are searched, and the current one. Contracts see
+/// the nodes, and by what sources are sought.
 #[derive(Drop)]
 pub struct SuffixRules<'g> {
     graph: &'g Graph,
@@ -109,8 +109,8 @@ fn add_row<'g>(
 }
 
 impl<'g> SuffixRules<'g> {
-    /// The rules of a graph between these suffixes, where sources are sought in these directories and
-    /// named from the current one.
+    /// The rules of a graph between these suffixes, where sources are sought in these directories
+    /// and named from the current one.
     pub fn new(
         alloc: Global,
         graph: &'g Graph,
@@ -165,8 +165,8 @@ impl<'g> SuffixRules<'g> {
         self.cwd
     }
 
-    /// The rules to a suffix, in the order in which the suffixes that they lead from are known. Takes no
-    /// memory.
+    /// The rules to a suffix, in the order in which the suffixes that they lead from are known.
+    /// Takes no memory.
     pub fn row(&self, to: &[u8]) -> &[Source<'g>]
         ensures { spec.seen_row result.now ≡ spec.row self.now.nodes self.now.seeking.suffixes to.now }
     {

@@ -15,20 +15,21 @@ generated_by (Err end) = None
 abbrev pub generated : List ℕ → List (List ℕ) → Option ℕ
 generated cwd words = generated_by (asked cwd words)
 
--- an end that comes from a generated world: from its count, or those of the sinks inside (RunsInside)
+-- an end that comes from a generated world: from its count, or those of the sinks inside
+-- (RunsInside)
 abbrev pub ComesFromInside : Option ℕ → End → Type 0
 ComesFromInside None end = ⊥
 ComesFromInside (Some n) end = EndsInside n end
 
--- The world's count of faults over a run: `WorldFault` comes only where it rose or is at its end, or from a
--- generated world, and a rise is answered by it, or by a failed write behind it.
+-- The world's count of faults over a run: `WorldFault` comes only where it rose or is at its end,
+-- or from a generated world, and a rise is answered by it, or by a failed write behind it.
 pub record WorldCause (generated : Option ℕ) (before after : ℕ) (end : End) : Type 0 where
   pub kept : before ≤ after
   pub rose : end ≡ WorldFault → Rose before after ⊎ ComesFromInside generated WorldFault
   pub answered : before < after → (end ≡ WorldFault) ⊎ (end ≡ SinkFault)
 
--- The sinks' counts: `SinkFault` comes only where one of them rose or is at its end, or from a sink inside,
--- and a rise is answered by it.
+-- The sinks' counts: `SinkFault` comes only where one of them rose or is at its end, or from a sink
+-- inside, and a rise is answered by it.
 pub record SinkCause (generated : Option ℕ) (out_before out_after err_before err_after : ℕ) (end : End)
     : Type 0
   where

@@ -14,7 +14,8 @@ use Rattle.mk_scopes.specs.declared.scopes.Env.{Env}
 use Rattle.mk_world.specs.Talks.{Meaning}
 use Rattle.mk_generate.specs.Generated.{IsGenerated}
 
--- Refused words, or want of memory for them: nothing is done, and standard error gains the line of the end.
+-- Refused words, or want of memory for them: nothing is done, and standard error gains the line of
+-- the end.
 pub record IsRefused (end : End) (words : List (List ℕ)) (first last : Point) (err : Held)
     (report : Report) : Type 0
   where
@@ -24,13 +25,15 @@ pub record IsRefused (end : End) (words : List (List ℕ)) (first last : Point) 
     pub same : last ≡ first
 
 -- a run of what words ask for, in a world that is generated, or in that which it was given
-abbrev pub Does : Meaning → List (List ℕ) → Env → Order → Option ℕ → Point → Point → Held → Report → Type 0
+abbrev pub Does : Meaning → List (List ℕ) → Env → Order → Option ℕ → Point → Point → Held → Report
+    → Type 0
 Does meaning words env order (Some n) first last err report = IsGenerated n words first last err report
 Does meaning words env order None first last err report =
     IsTrueOrderRun meaning words env order first last err report
 
 -- a run whose words ask for this, or are refused
-abbrev pub Follows : Meaning → List (List ℕ) → Env → Result Order End → Point → Point → Held → Report → Type 0
+abbrev pub Follows : Meaning → List (List ℕ) → Env → Result Order End → Point → Point → Held
+    → Report → Type 0
 Follows meaning words env (Err end) first last err report = IsRefused end words first last err report
 Follows meaning words env (Ok order) first last err report =
     Does meaning words env order order.generate first last err report

@@ -50,11 +50,12 @@ fn follow<W: World, S: Sink>(
 /// Does all that the program does. The words are those of the command line without the program's
 /// name; the environment's directory is absolute and clean.
 ///
-/// It reads the words, then the makefiles, whose messages it writes on `err`, and does with them what the
-/// words ask for: it prints, tells why targets are out of date, asks whether they are, or builds them
-/// (mk_run). With `--generate N` it reads no makefile: it runs twice in a world in memory with N generated
-/// targets, of which a source is changed in between, and tells on `out` what was done there. Every end but
-/// `Done`, `NotUpToDate` and `SinkFault` has its line on `err`, which is written last.
+/// It reads the words, then the makefiles, whose messages it writes on `err`, and does with them
+/// what the words ask for: it prints, tells why targets are out of date, asks whether they are, or
+/// builds them (mk_run). With `--generate N` it reads no makefile: it runs twice in a world in
+/// memory with N generated targets, of which a source is changed in between, and tells on `out`
+/// what was done there. Every end but `Done`, `NotUpToDate` and `SinkFault` has its line on `err`,
+/// which is written last.
 pub fn run<W: World, S: Sink>(
     alloc: Global,
     words: &Texts,

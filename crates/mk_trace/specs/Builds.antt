@@ -1,5 +1,6 @@
 -- What make has to do in a build: why each node is kept, started or refused.
-use Rattle.std.specs.Prelude.{◌≡◌, ℕ, ◌<◌, ◌^◌, ◌==◌, nat_le, nat_lt, List, [], ◌∷◌, ◌++◌, length, Option, Some, None, Bool, true, false, not, ◌&&◌, if◌then◌else◌}
+use Rattle.std.specs.Prelude.{◌≡◌, ℕ, ◌<◌, ◌^◌, ◌==◌, nat_le, nat_lt, List, [], ◌∷◌, ◌++◌, length}
+use Rattle.std.specs.Prelude.{Option, Some, None, Bool, true, false, not, ◌&&◌, if◌then◌else◌}
 use Rattle.mk_export.specs.Lists.{AreExports}
 use Rattle.mk_meta.specs.Texts as texts
 use Rattle.mk_meta.specs.Texts.{meta_text}
@@ -20,9 +21,12 @@ use Rattle.mk_decision.specs.Decisions.{Work, IsKept, IsBegun, IsRefused}
 use Rattle.mk_decision.specs.Makers.{jobs_of}
 use Rattle.mk_decision.specs.Newest.{begun_whens, raised, raised_all}
 use Rattle.mk_trace.specs.Calls.{GivesUpLast}
-use Rattle.mk_trace.specs.Collected.{IsCountable, nothing_collected, begun, with_end, has_meta, meta_of}
+use Rattle.mk_trace.specs.Collected.{IsCountable, nothing_collected, begun, with_end, has_meta}
+use Rattle.mk_trace.specs.Collected.{meta_of}
 use Rattle.mk_trace.specs.Items.{Change, gone, head, whole, cut_head, cut_whole}
-use Rattle.mk_trace.specs.Items.{Item, looks, keeps, refuses, starts, passes, waits, steps, ends, changes, leaves, reported, reported_all, happened_all, outputs_of, Happened}
+use Rattle.mk_trace.specs.Items.{Item, looks, keeps, refuses, starts, passes, waits, steps, ends}
+use Rattle.mk_trace.specs.Items.{changes, leaves, reported, reported_all, happened_all, outputs_of}
+use Rattle.mk_trace.specs.Items.{Happened}
 use Rattle.mk_trace.specs.Output.{Job, output}
 use Rattle.mk_trace.specs.Runs as run
 use Rattle.mk_trace.specs.Settled.{EachSettled}
@@ -59,8 +63,8 @@ pub data Duty : Type 0 where
   -- a write of make was refused: nothing more is done
   stop : Duty
 
--- How a build stands: its run, what was seen to decide each node, what each node's open job has, the
--- first failure, and what make has to do next.
+-- How a build stands: its run, what was seen to decide each node, what each node's open job has,
+-- the first failure, and what make has to do next.
 pub record Build : Type 0 where
   pub run : run.State
   pub seen : ℕ → List Seen
@@ -272,8 +276,8 @@ MayChange work tasks build node (cut_head path part time) =
 MayChange work tasks build node (cut_whole path part time) =
     (bytes : List ℕ) × IsWhole work tasks build node path bytes × Begins part bytes
 
--- Make looks only for the node that may be decided, so between the first look and the decision no child
--- is started and none is taken in; and at the target of a job that is over.
+-- Make looks only for the node that may be decided, so between the first look and the decision no
+-- child is started and none is taken in; and at the target of a job that is over.
 abbrev pub MayMake : Work → run.Tasks → Build → Item → Type 0
 MayMake work tasks build (looks node seen) =
     build.duty ≡ free → run.MayDecide (rules_of work) build.run node

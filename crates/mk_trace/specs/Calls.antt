@@ -8,7 +8,9 @@ use Rattle.mk_world.specs.declared.command.Cmd.{Cmd}
 use Rattle.mk_world.specs.declared.history.History.{History}
 use Rattle.mk_world.specs.declared.step.Deed.{Deed}
 use Rattle.mk_world.specs.declared.step.Ended.{Ended}
-use Rattle.mk_trace.specs.Items.{Change, gone, head, whole, cut_head, cut_whole, Item, looks, keeps, refuses, starts, passes, waits, steps, ends, changes, leaves, Happened}
+use Rattle.mk_trace.specs.Items.{Change, gone, head, whole, cut_head, cut_whole, Item, looks, keeps}
+use Rattle.mk_trace.specs.Items.{refuses, starts, passes, waits, steps, ends, changes, leaves}
+use Rattle.mk_trace.specs.Items.{Happened}
 
 -- items that are all steps of children
 abbrev pub AreStepItems : List Item → Type 0

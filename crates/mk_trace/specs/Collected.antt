@@ -1,5 +1,6 @@
 -- What the job of a node collects for its meta file.
-use Rattle.std.specs.Prelude.{ℕ, ◌<◌, ◌^◌, ◌==◌, List, [], ◌++◌, length, map, Option, Some, None, Bool, if◌then◌else◌}
+use Rattle.std.specs.Prelude.{ℕ, ◌<◌, ◌^◌, ◌==◌, List, [], ◌++◌, length, map, Option, Some, None}
+use Rattle.std.specs.Prelude.{Bool, if◌then◌else◌}
 use Rattle.mk_filemon.specs.declared.record.Rec.{Rec}
 use Rattle.mk_meta.specs.Jobs.{kept_line, numbered}
 use Rattle.mk_meta.specs.declared.meta.Meta.{Meta}
@@ -44,8 +45,8 @@ pub record IsCountable (collected : Collected) : Type 0 where
 abbrev pub has_meta : Work → ℕ → Bool
 has_meta work node = is_meta work.mode (node_at work.plan node).marks
 
--- What the meta file of a node's job tells: when the job began, the exported variables, the lines of its
--- task, what they printed and, where records count, what they recorded.
+-- What the meta file of a node's job tells: when the job began, the exported variables, the lines
+-- of its task, what they printed and, where records count, what they recorded.
 abbrev pub meta_of : Work → ℕ → List TaskLine → Collected → Meta
 meta_of work node lines collected = record {
   stamp = record { 0 = collected.owner };

@@ -9,7 +9,8 @@ use Rattle.mk_trace.specs.declared.result.BuildResult.TheVariants as ended
 use Rattle.mk_trace.specs.declared.result.Failure.{Failure}
 use Rattle.mk_trace.specs.declared.result.Failure.TheVariants as failing
 
--- a build that is over: no event may follow, the first failure is known, and make has done what it had to
+-- a build that is over: no event may follow, the first failure is known, and make has done what it
+-- had to
 pub record IsOver (work : Work) (failure : Option Failure) (build : Build) : Type 0 where
   pub over : run.IsOver (rules_of work) build.run
   pub failed : build.failure ≡ failure

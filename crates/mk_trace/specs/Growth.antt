@@ -4,7 +4,8 @@ use Rattle.mk_world.specs.Talks.{Meaning}
 use Rattle.mk_world.specs.Told.{Told}
 use Rattle.mk_world.specs.declared.command.TaskLine.{TaskLine}
 use Rattle.mk_decision.specs.Decisions.{Work}
-use Rattle.mk_trace.specs.Builds.{Build, Moment, Makes, Prints, first_build, build_after_all, job_of}
+use Rattle.mk_trace.specs.Builds.{Build, Moment, Makes, Prints, first_build, build_after_all}
+use Rattle.mk_trace.specs.Builds.{job_of}
 use Rattle.mk_trace.specs.Calls.{NoneLeft}
 use Rattle.mk_trace.specs.Items.{Item, reported_all, outputs_of, Happened}
 use Rattle.mk_trace.specs.Output.{Printed, printed_all, nothing_printed}

@@ -2,7 +2,8 @@
 use Rattle.std.specs.Prelude.{◌≡◌, ℕ, List, [], ◌∷◌, ◌++◌, Option, Some, None}
 use Rattle.mk_values.specs.declared.fault.ExpandFault.{ExpandFault}
 use Rattle.mk_world.specs.Calls.{EndsAs, when_of}
-use Rattle.mk_world.specs.History.{State as Stand, MayAll as MayHappen, after_all as stand_after, child_in, contents, state_of}
+use Rattle.mk_world.specs.History.{State as Stand, MayAll as MayHappen, after_all as stand_after}
+use Rattle.mk_world.specs.History.{child_in, contents, state_of}
 use Rattle.mk_world.specs.Looks.{Seen, dated, read}
 use Rattle.mk_world.specs.Talks.{Meaning}
 use Rattle.mk_world.specs.declared.command.Cmd.{Cmd}

@@ -1,5 +1,6 @@
 -- What a build prints.
-use Rattle.std.specs.Prelude.{ℕ, ◌+◌, ◌==◌, List, [], ◌∷◌, ◌++◌, Option, Some, None, Bool, false, not, ◌&&◌, if◌then◌else◌, get_or, codes}
+use Rattle.std.specs.Prelude.{ℕ, ◌+◌, ◌==◌, List, [], ◌∷◌, ◌++◌, Option, Some, None, Bool, false}
+use Rattle.std.specs.Prelude.{not, ◌&&◌, if◌then◌else◌, get_or, codes}
 use Rattle.mk_bytes.specs.Bytes.{newline}
 use Rattle.mk_plan.specs.Plans.{node_at}
 use Rattle.mk_plan.specs.declared.plan.PlanNode.{PlanNode}

@@ -1,5 +1,6 @@
 -- What holds of all runs, by their rules alone.
-use Rattle.std.specs.Prelude.{◌≡◌, ◌≢◌, ◌↔◌, ℕ, ◌<◌, List, ◌++◌, length, get_or, IsTrue, Option, Some, None, Bool, true, false}
+use Rattle.std.specs.Prelude.{◌≡◌, ◌≢◌, ◌↔◌, ℕ, ◌<◌, List, ◌++◌, length, get_or, IsTrue, Option}
+use Rattle.std.specs.Prelude.{Some, None, Bool, true, false}
 use Rattle.mk_graph.specs.Closed.{Reaches}
 use Rattle.mk_graph.specs.Walks.{is_among, preds_of}
 use Rattle.mk_plan.specs.Deciding.{Rules, may_decide, is_stopped, open_jobs}

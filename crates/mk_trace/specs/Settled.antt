@@ -1,7 +1,8 @@
 -- Every child that is started is taken in or given up.
 use Rattle.std.specs.Prelude.{◌≡◌, ℕ, ◌==◌, ◌+◌, Bool, false, List, [], ◌∷◌, if◌then◌else◌}
 use Rattle.mk_world.specs.declared.history.Happening.{Happening}
-use Rattle.mk_world.specs.declared.history.Happening.TheVariants.{Edit, Look, Stamp, Put, Gone, Ask, Start, Step, End, Left}
+use Rattle.mk_world.specs.declared.history.Happening.TheVariants.{Edit, Look, Stamp, Put, Gone, Ask}
+use Rattle.mk_world.specs.declared.history.Happening.TheVariants.{Start, Step, End, Left}
 
 -- a child was started with this ticket
 abbrev pub is_start : ℕ → Happening → Bool
@@ -35,4 +36,5 @@ times test (item ∷ items) = (if test item then 1 else 0) + times test items
 
 -- Under each ticket as many children were taken in or given up as were started.
 abbrev pub EachSettled : List Happening → Type 0
-EachSettled events = (ticket : ℕ) → times (is_start ticket) events ≡ times (is_settled ticket) events
+EachSettled events = (ticket : ℕ)
+    → times (is_start ticket) events ≡ times (is_settled ticket) events

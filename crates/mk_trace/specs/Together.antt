@@ -2,7 +2,8 @@
 use Rattle.std.specs.Prelude.{◌≡◌, ◌≢◌, ℕ, List, [], ◌∷◌, Some, slice_get}
 use Rattle.std.specs.List.{Contains}
 use Rattle.mk_plan.specs.declared.plan.NodeState.TheVariants.{Open}
-use Rattle.mk_world.specs.History.{State as Stand, MayAll as MayHappen, after_all as stand_after, child_in}
+use Rattle.mk_world.specs.History.{State as Stand, MayAll as MayHappen, after_all as stand_after}
+use Rattle.mk_world.specs.History.{child_in}
 use Rattle.mk_world.specs.Talks.{Meaning}
 use Rattle.mk_world.specs.declared.history.Child.{Child}
 use Rattle.mk_decision.specs.Decisions.{Work}
@@ -22,8 +23,8 @@ IsNotDue node (run.close one number) = node ≢ one
 abbrev pub HasChild : run.State → ℕ → Type 0
 HasChild state node = (slice_get state.nodes node ≡ Some Open) × IsNotDue node state.due
 
--- Each node that has a child has one under its ticket, which runs the line that the node has started
--- last. Each running child is that of such a node, and no two nodes have one ticket.
+-- Each node that has a child has one under its ticket, which runs the line that the node has
+-- started last. Each running child is that of such a node, and no two nodes have one ticket.
 pub record AreTogether (work : Work) (tasks : run.Tasks) (state : run.State) (own : ℕ → Own)
     (children : List Child) : Type 0 where
   pub child : (node : ℕ) → HasChild state node → (one : Child)

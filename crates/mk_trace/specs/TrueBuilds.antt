@@ -1,7 +1,8 @@
 -- That the meta files which a build leaves tell what happened.
 use Rattle.std.specs.Prelude.{◌≡◌, ◌⊎◌, ℕ, Bool, List, [], ◌∷◌, ◌++◌, flat_map, Some, slice_get}
 use Rattle.std.specs.List.{AllByRecursion, Contains}
-use Rattle.mk_meta.specs.TrueHistory.{JobEvent, begun as begun_event, did, ended as ended_event, Alone, IsTrueHistory, changed_paths, job_events, meta_path}
+use Rattle.mk_meta.specs.TrueHistory.{JobEvent, begun as begun_event, did, ended as ended_event}
+use Rattle.mk_meta.specs.TrueHistory.{Alone, IsTrueHistory, changed_paths, job_events, meta_path}
 use Rattle.mk_plan.specs.Plans.{node_at}
 use Rattle.mk_plan.specs.declared.plan.NodeState.TheVariants.{Open}
 use Rattle.mk_world.specs.History.{state_of, timed_effects}
@@ -13,7 +14,8 @@ use Rattle.mk_world.specs.declared.history.Happening.TheVariants as world
 use Rattle.mk_world.specs.declared.history.History.{History}
 use Rattle.mk_world.specs.declared.step.Deed.{Deed}
 use Rattle.mk_decision.specs.Decisions.{Work}
-use Rattle.mk_trace.specs.Builds.{Build, IsBuild, Makes, Moment, begin, date, close, first_build, build_after, build_after_all}
+use Rattle.mk_trace.specs.Builds.{Build, IsBuild, Makes, Moment, begin, date, close, first_build}
+use Rattle.mk_trace.specs.Builds.{build_after, build_after_all}
 use Rattle.mk_trace.specs.Calls.{GivesUpLast}
 use Rattle.mk_trace.specs.Items.{Item, changes, head, steps, happened_all, Happened}
 use Rattle.mk_trace.specs.Runs as run
@@ -39,8 +41,8 @@ deed_of ended_event = []
 abbrev pub deeds_in : ℕ → List Item → List Deed
 deeds_in stamp items = flat_map deed_of (job_events stamp (happened_all items))
 
--- Jobs keep apart: no child changes a meta file. While a job is open, nothing but its own children changes
--- its target, or what these change.
+-- Jobs keep apart: no child changes a meta file. While a job is open, nothing but its own children
+-- changes its target, or what these change.
 pub record IsApart (work : Work) (tasks : run.Tasks) (items : List Item) : Type 0 where
   pub steps_apart : (ticket owner time : ℕ) (deed : Deed) (target : List ℕ)
       → Contains items (steps ticket owner deed time)
@@ -53,8 +55,8 @@ pub record IsApart (work : Work) (tasks : run.Tasks) (items : List Item) : Type 
       → Alone stamp ((node_at work.plan node).name ∷ changed_paths (deeds_in stamp during))
       (happened_all during)
 
--- Where meta files tell what happened before a build, they do so behind it, as far as jobs have kept
--- apart, and whatever it is that was built, and however it ended.
+-- Where meta files tell what happened before a build, they do so behind it, as far as jobs have
+-- kept apart, and whatever it is that was built, and however it ended.
 abbrev pub MetaFilesStayTrue : Type 0
 MetaFilesStayTrue =
     (meaning : Meaning) (work : Work) (tasks : run.Tasks) (items : List Item) (old new : History)
@@ -66,8 +68,8 @@ MetaFilesStayTrue =
 abbrev pub behind : History → List Item → History
 behind old items = record { base = old.base; events = old.events ++ happened_all items }
 
--- Where no child runs before a build, the history is one that may have come about, and meta files tell
--- what happened, they do so at every moment of the build up to which jobs have kept apart.
+-- Where no child runs before a build, the history is one that may have come about, and meta files
+-- tell what happened, they do so at every moment of the build up to which jobs have kept apart.
 abbrev pub StaysTrue : Meaning → Work → run.Tasks → List Item → History → Type 0
 StaysTrue meaning work tasks items old =
     IsLawful meaning old → (state_of old).children ≡ [] → IsTrueHistory meaning.next old

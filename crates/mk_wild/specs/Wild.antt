@@ -1,5 +1,6 @@
 -- For which paths a name stands.
-use Rattle.std.specs.Prelude.{◌≡◌, ◌↔◌, ◌⊎◌, ℕ, true, List, [], ◌∷◌, ◌++◌, map, filter, Option, Some, None, IsTrue}
+use Rattle.std.specs.Prelude.{◌≡◌, ◌↔◌, ◌⊎◌, ℕ, true, List, [], ◌∷◌, ◌++◌, map, filter, Option}
+use Rattle.std.specs.Prelude.{Some, None, IsTrue}
 use Rattle.mk_bytes.specs.Texts.{is_among}
 use Rattle.mk_world.specs.Calls.{Adds, OwnList}
 use Rattle.mk_world.specs.Deeds.{Store}
@@ -20,8 +21,8 @@ abbrev pub taken_of : List ℕ → List (List ℕ) → List (List ℕ)
 taken_of pattern names =
     map (λ name. beside pattern name) (filter (λ name. takes (last_name pattern) name) names)
 
--- The paths that a pattern stands for, by what its directory holds. Where there is no such directory it
--- stands for nothing.
+-- The paths that a pattern stands for, by what its directory holds. Where there is no such
+-- directory it stands for nothing.
 abbrev pub taken : List ℕ → Option (List (List ℕ)) → List (List ℕ)
 taken pattern None = []
 taken pattern (Some names) = taken_of pattern names
@@ -51,8 +52,8 @@ pub record AreMatches (store : Store) (pattern : List ℕ) (paths : List (List �
   pub ordered : AreInOrder paths
   pub are : (path : List ℕ) → IsTrue (is_among paths path) ↔ IsMatch store pattern path
 
--- What a pattern stands for is exact: where its directory is listed as it stands, these are all paths
--- that match, and no others.
+-- What a pattern stands for is exact: where its directory is listed as it stands, these are all
+-- paths that match, and no others.
 abbrev pub PatternsAreExact : Type 0
 PatternsAreExact =
     (store : Store) (pattern : List ℕ) (names : Option (List (List ℕ)))

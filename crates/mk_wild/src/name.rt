@@ -69,8 +69,8 @@ fn is_hidden(name: &[u8]) -> bool
     }
 }
 
-/// Whether a pattern takes a name: by its match, where the name does not begin with `.` or the pattern
-/// does.
+/// Whether a pattern takes a name: by its match, where the name does not begin with `.` or the
+/// pattern does.
 pub fn takes(pattern: &[u8], name: &[u8]) -> bool
     ensures { result ≡ spec.takes pattern.now name.now }
 {

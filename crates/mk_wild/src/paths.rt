@@ -34,8 +34,8 @@ fn push_paths(
     Ok(())
 }
 
-/// Adds the paths that a pattern stands for, by the names in its directory, in their order; none where
-/// there is no such directory.
+/// Adds the paths that a pattern stands for, by the names in its directory, in their order; none
+/// where there is no such directory.
 pub fn push_taken(
     alloc: Global,
     paths: &mut Texts,

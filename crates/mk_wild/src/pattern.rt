@@ -22,10 +22,10 @@ fn itself(alloc: Global, name: &[u8]) -> Result<Texts, NoMemory>
     Ok(paths)
 }
 
-/// For which paths a clean name stands: a pattern for those in its directory whose last component matches,
-/// in the order of their bytes, each once, and any other name for itself. A component that begins with
-/// `.` is matched by a pattern alone that does. Its directory is looked at once; without wildcards nothing
-/// is looked at. The faults are those of the world.
+/// For which paths a clean name stands: a pattern for those in its directory whose last component
+/// matches, in the order of their bytes, each once, and any other name for itself. A component that
+/// begins with `.` is matched by a pattern alone that does. Its directory is looked at once;
+/// without wildcards nothing is looked at. The faults are those of the world.
 pub fn wild<W: World>(alloc: Global, name: &[u8], world: &mut W) -> Result<Texts, WorldFault>
     ensures plain { spec.is_pattern name.now ≡ false → IfOk result (λ paths. paths ≡ name.now ∷ []) }
     ensures nothing { spec.is_pattern name.now ≡ false → Adds W.meaning (W.history world.old)

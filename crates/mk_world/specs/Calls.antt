@@ -9,7 +9,8 @@ use Rattle.mk_world.specs.Told.{Told}
 use Rattle.mk_world.specs.declared.command.Cmd.{Cmd}
 use Rattle.mk_world.specs.declared.history.Child.{Child}
 use Rattle.mk_world.specs.declared.history.Happening.{Happening}
-use Rattle.mk_world.specs.declared.history.Happening.TheVariants.{Look, Stamp, Put, Gone, Ask, Start, Step, End, Left}
+use Rattle.mk_world.specs.declared.history.Happening.TheVariants.{Look, Stamp, Put, Gone, Ask}
+use Rattle.mk_world.specs.declared.history.Happening.TheVariants.{Start, Step, End, Left}
 use Rattle.mk_world.specs.declared.history.History.{History}
 use Rattle.mk_world.specs.declared.history.Timed.{Timed}
 use Rattle.mk_world.specs.declared.step.Deed.{Deed}
@@ -38,7 +39,8 @@ pub record AddsEvents (meaning : Meaning) (Own : State → List Happening → Ty
   pub lawful : MayAll meaning (state_of old) (early ++ (own ++ late))
   pub is_own : Own (after_all (state_of old) early) own
 
-abbrev pub Adds : Meaning → Option History → Option History → (State → List Happening → Type 0) → Type 0
+abbrev pub Adds : Meaning → Option History → Option History → (State → List Happening → Type 0)
+    → Type 0
 Adds meaning before after Own = Told before after (AddsEvents meaning Own)
 
 -- no event of its own

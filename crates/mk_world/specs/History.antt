@@ -1,5 +1,6 @@
 -- What has happened in a world, how things stand then, and what may happen next.
-use Rattle.std.specs.Prelude.{◌≡◌, ℕ, ◌<◌, ◌≤◌, ◌==◌, List, [], ◌∷◌, ◌++◌, map, Option, Some, None, if◌then◌else◌}
+use Rattle.std.specs.Prelude.{◌≡◌, ℕ, ◌<◌, ◌≤◌, ◌==◌, List, [], ◌∷◌, ◌++◌, map, Option, Some, None}
+use Rattle.std.specs.Prelude.{if◌then◌else◌}
 use Rattle.std.specs.Option.{option_map}
 use Rattle.std.specs.Str.{bytes_eq}
 use Rattle.mk_world.specs.Deeds.{Store, Spot, changes, IsRight}
@@ -7,7 +8,8 @@ use Rattle.mk_world.specs.Talks.{Meaning, NextOf, answer, deed_at, does, IsOver}
 use Rattle.mk_world.specs.declared.history.Child.{Child}
 use Rattle.mk_world.specs.declared.history.File.{File}
 use Rattle.mk_world.specs.declared.history.Happening.{Happening}
-use Rattle.mk_world.specs.declared.history.Happening.TheVariants.{Edit, Look, Stamp, Put, Gone, Ask, Start, Step, End, Left}
+use Rattle.mk_world.specs.declared.history.Happening.TheVariants.{Edit, Look, Stamp, Put, Gone, Ask}
+use Rattle.mk_world.specs.declared.history.Happening.TheVariants.{Start, Step, End, Left}
 use Rattle.mk_world.specs.declared.history.History.{History}
 use Rattle.mk_world.specs.declared.history.Timed.{Timed}
 use Rattle.mk_world.specs.declared.step.Deed.{Deed}
@@ -70,8 +72,8 @@ abbrev pub last_time : ℕ → List Effect → ℕ
 last_time time [] = time
 last_time time (effect ∷ more) = last_time effect.time more
 
--- how things stand: the files, the time of the last change, that of the last stamp, and the children
--- that run
+-- how things stand: the files, the time of the last change, that of the last stamp, and the
+-- children that run
 pub record State : Type 0 where
   pub files : FileMap
   pub clock : ℕ
@@ -162,7 +164,8 @@ NotEarlier time (effect ∷ more) = (time ≤ effect.time) × NotEarlier effect.
 
 -- a step is that of a running child of this owner: it is what the child asks for next, by what
 -- stands there, and it tells what stands there
-pub record IsStep (next : NextOf) (store : Store) (owner : ℕ) (deed : Deed) (child : Child) : Type 0 where
+pub record IsStep (next : NextOf) (store : Store) (owner : ℕ) (deed : Deed) (child : Child)
+    : Type 0 where
   pub owned : child.owner ≡ owner
   pub right : IsRight store deed
   pub request : Request
@@ -184,9 +187,9 @@ abbrev pub MayLeave : ℕ → Option Child → Type 0
 MayLeave owner None = ⊥
 MayLeave owner (Some child) = child.owner ≡ owner
 
--- what may happen, beside the times of changes: no edit falls while a child runs, a started ticket is
--- free, the steps of an asked command are its doing on the files at that moment, one after the other,
--- and a stamp is later than each stamp before it
+-- what may happen, beside the times of changes: no edit falls while a child runs, a started ticket
+-- is free, the steps of an asked command are its doing on the files at that moment, one after the
+-- other, and a stamp is later than each stamp before it
 abbrev pub MayNow : Meaning → State → Happening → Type 0
 MayNow meaning state (Edit path bytes time) = state.children ≡ []
 MayNow meaning state (Ask cmd steps) =
@@ -202,8 +205,8 @@ MayNow meaning state (Stamp path bytes time) = state.stamped < time
 MayNow meaning state (Put path bytes time) = Unit {0}
 MayNow meaning state (Gone path time) = Unit {0}
 
--- An event may happen: it may now, and none of its changes is earlier than one before it. Changes of
--- one time are allowed, since the clocks of file systems go in steps.
+-- An event may happen: it may now, and none of its changes is earlier than one before it. Changes
+-- of one time are allowed, since the clocks of file systems go in steps.
 abbrev pub May : Meaning → State → Happening → Type 0
 May meaning state event = NotEarlier state.clock (effects event) × MayNow meaning state event
 

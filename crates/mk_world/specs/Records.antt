@@ -1,5 +1,5 @@
--- What the records of steps tell of them. Records may have more looks than the steps, and fewer writes: so it is with what a
--- recorder sees of real programs.
+-- What the records of steps tell of them. Records may have more looks than the steps, and fewer
+-- writes: so it is with what a recorder sees of real programs.
 use Rattle.std.specs.Prelude.{◌≡◌, ℕ, ◌||◌, ◌&&◌, Bool, true, false, not, List, [], ◌∷◌, ◌++◌, map}
 use Rattle.std.specs.Prelude.{Option, Some, None}
 use Rattle.std.specs.List.{list_any}
@@ -68,7 +68,8 @@ EachLook told over [] = Unit {0}
 EachLook told over (deed ∷ deeds) =
     LookAt told over (saw deed) × EachLook told (over_deed over deed) deeds
 
--- Records tell of steps: of each look at a path that no earlier step has changed, and of no change but those of the steps.
+-- Records tell of steps: of each look at a path that no earlier step has changed, and of no change
+-- but those of the steps.
 pub record Tell (records : List Op) (deeds : List Deed) : Type 0 where
   pub looks : EachLook (IsToldIn records) nothing_over deeds
   pub changes : (path : List ℕ) → over_deeds nothing_over deeds path ≡ None

@@ -50,8 +50,8 @@ pub record LooksAt (path : List ℕ) (old new : History) : Type 0 where
   pub base : new.base ≡ old.base
   pub events : (new.events ≡ old.events) ⊎ (new.events ≡ old.events ++ Look path ∷ [])
 
--- make ran a command to its end, which may happen then, and the files are those after it; nothing else
--- happened
+-- make ran a command to its end, which may happen then, and the files are those after it; nothing
+-- else happened
 pub record Ran (meaning : Meaning) (cmd : Cmd) (old new : History) : Type 0 where
   pub steps : List Timed
   pub base : new.base ≡ old.base

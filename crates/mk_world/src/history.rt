@@ -24,8 +24,8 @@ pub struct Timed {
 /// Steps with their times, in order.
 pub type Timeds = Items<Timed>;
 
-/// One thing that happened. No change has an earlier time than one before it, and each stamp has a later
-/// time than the stamps before it.
+/// One thing that happened. No change has an earlier time than one before it, and each stamp has a
+/// later time than the stamps before it.
 #[derive(Drop)]
 pub enum Happening {
     /// Somebody else changed a file, to these bytes or to missing.

@@ -1,5 +1,6 @@
 //! The running children, as make holds them.
-ghost use Rattle.std.specs.Prelude.{◌≡◌, ◌<◌, [], ◌∷◌, ◌++◌, length, slice_index, slice_get, Some, remove, false, nat_eq, ◌↔◌, IsTrue, IfOk};
+ghost use Rattle.std.specs.Prelude.{◌≡◌, ◌<◌, [], ◌∷◌, ◌++◌, length, slice_index, slice_get, Some};
+ghost use Rattle.std.specs.Prelude.{remove, false, nat_eq, ◌↔◌, IsTrue, IfOk};
 ghost use Rattle.std.specs.List.{list_any};
 
 use crate::time::Ticket;
@@ -8,8 +9,8 @@ use std::alloc::Global;
 use std::marker::Model;
 
 /// The children that were started and not taken in. It must be spent: `finish` is its only end, and
-/// asks that no child is left. Contracts see the tickets and the children in the order of start, and
-/// the room.
+/// asks that no child is left. Contracts see the tickets and the children in the order of start,
+/// and the room.
 pub struct Kids<K> {
     tickets: Vec<u32>,
     kids: Vec<K>,

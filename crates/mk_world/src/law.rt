@@ -22,8 +22,8 @@ pub fn one_listing()
 {}
 
 /// What records tell of: exact ones tell of the steps whose records they are, each look at a path
-/// that no earlier step had changed, and no change but those of the steps; and records of some steps
-/// with records of the steps behind them tell of all of these.
+/// that no earlier step had changed, and no change but those of the steps; and records of some
+/// steps with records of the steps behind them tell of all of these.
 pub fn records_may_tell()
     ensures exact { ExactRecordsTell }
     ensures joined { RecordsAreJoined }

@@ -2,9 +2,9 @@
 //! prints.
 //!
 //! A world may tell its history: its files at the beginning, and everything that has happened
-//! since, each step of each child included. Then each call says what it adds to the history, and its
-//! answers are tied to the files at their moment. A world that does not tell, as that of real files,
-//! only counts its faults.
+//! since, each step of each child included. Then each call says what it adds to the history, and
+//! its answers are tied to the files at their moment. A world that does not tell, as that of real
+//! files, only counts its faults.
 #![tactic(auto)]
 
 mod command;

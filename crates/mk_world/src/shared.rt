@@ -6,8 +6,8 @@ use std::alloc::Global;
 use std::marker::Model;
 use std::rc::Rc;
 
-/// A list of pairs that tasks and commands share: it stands in memory once, and whoever holds it holds no
-/// copy. Contracts see the list of pairs.
+/// A list of pairs that tasks and commands share: it stands in memory once, and whoever holds it
+/// holds no copy. Contracts see the list of pairs.
 #[derive(Drop)]
 pub struct SharedPairs {
     // none where the list is empty

@@ -1,4 +1,5 @@
-ghost use Rattle.std.specs.Prelude.{◌≡◌, ◌<◌, ◌≤◌, ℕ, List, Option, [], length, take, IfOk, OnOk, OnErr};
+ghost use Rattle.std.specs.Prelude.{◌≡◌, ◌<◌, ◌≤◌, ℕ, List, Option, [], length, take, IfOk, OnOk};
+ghost use Rattle.std.specs.Prelude.{OnErr};
 ghost use Rattle.mk_world.specs.Causes.{HasCause};
 ghost use Rattle.mk_world.specs.Sinks.{Gains, GainsPart, all_of};
 ghost use Rattle.mk_world.specs.declared.fault.SinkFault.TheVariants.{Failed};

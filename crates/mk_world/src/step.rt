@@ -64,8 +64,8 @@ pub enum Op {
 /// The records of several steps, in order.
 pub type Ops = Items<Op>;
 
-/// A child that was taken in, or a command that was run to its end: its exit status, what it printed,
-/// and the records of its steps, where there are any.
+/// A child that was taken in, or a command that was run to its end: its exit status, what it
+/// printed, and the records of its steps, where there are any.
 #[derive(Drop)]
 pub struct Ended {
     pub ticket: Ticket,

@@ -1,7 +1,10 @@
-ghost use Rattle.std.specs.Prelude.{◌≡◌, ◌<◌, ℕ, List, [], ◌∷◌, ◌++◌, Option, Some, false, length, nat_eq, IsTrue, IfOk, IfSome, OnOk, OnErr};
+ghost use Rattle.std.specs.Prelude.{◌≡◌, ◌<◌, ℕ, List, [], ◌∷◌, ◌++◌, Option, Some, false, length};
+ghost use Rattle.std.specs.Prelude.{nat_eq, IsTrue, IfOk, IfSome, OnOk, OnErr};
 ghost use Rattle.std.specs.List.{list_any};
 ghost use Rattle.mk_bytes.specs.Paths.{is_clean_directory};
-ghost use Rattle.mk_world.specs.Calls.{Adds, OwnNothing, OwnRead, OwnList, OwnTime, OwnStamp, OwnStampPart, OwnPut, OwnPutPart, OwnGone, OwnAsk, OwnUnanswered, OwnStart, OwnEnd, OwnLeft, TakenOut};
+ghost use Rattle.mk_world.specs.Calls.{Adds, OwnNothing, OwnRead, OwnList, OwnTime, OwnStamp};
+ghost use Rattle.mk_world.specs.Calls.{OwnStampPart, OwnPut, OwnPutPart, OwnGone, OwnAsk};
+ghost use Rattle.mk_world.specs.Calls.{OwnUnanswered, OwnStart, OwnEnd, OwnLeft, TakenOut};
 ghost use Rattle.mk_world.specs.Causes.{HasCause};
 ghost use Rattle.mk_world.specs.History.{state_of, tickets_of};
 ghost use Rattle.mk_world.specs.Listings.{AreInOrder};
@@ -23,8 +26,8 @@ use std::alloc::Global;
 ///
 /// Every call adds to the history, where the world tells it, steps of running children and the
 /// events of its own that its clauses name, and nothing else; a refused call adds none of its own,
-/// except that a refused `stamp`, `put` or `ask` may. `Failed` comes only where the count of faults rose in the call
-/// or is at its end.
+/// except that a refused `stamp`, `put` or `ask` may. `Failed` comes only where the count of faults
+/// rose in the call or is at its end.
 pub trait World {
     /// A running child.
     type Kid;
@@ -56,17 +59,18 @@ pub trait World {
         ensures cause { HasCause Failed (faults self.old) (faults self.new) result }
         ensures children { (kids : List ℕ) → runs self.old kids → runs self.new kids };
 
-    /// The time at which a file was changed last in any way: in its bytes, or by another file that was
-    /// moved to its path with an older time of its own. A world that tells has one time for both.
+    /// The time at which a file was changed last in any way: in its bytes, or by another file that
+    /// was moved to its path with an older time of its own. A world that tells has one time for
+    /// both.
     fn changed(&mut self, alloc: Global, path: &[u8]) -> Result<When, WorldFault>
         ensures done { IfOk result (λ when. Adds meaning (history self.old) (history self.new) (OwnTime path.now when)) }
         ensures refused { OnErr result (Adds meaning (history self.old) (history self.new) OwnNothing) }
         ensures cause { HasCause Failed (faults self.old) (faults self.new) result }
         ensures children { (kids : List ℕ) → runs self.old kids → runs self.new kids };
 
-    /// The names directly below a directory, each once, in the order of their bytes, or `None` where there
-    /// is no such directory: what stands at the moment of the look. A world that tells has files alone:
-    /// a directory is there where a file lies below it, and `.` is always there.
+    /// The names directly below a directory, each once, in the order of their bytes, or `None`
+    /// where there is no such directory: what stands at the moment of the look. A world that tells
+    /// has files alone: a directory is there where a file lies below it, and `.` is always there.
     fn list(&mut self, alloc: Global, dir: &[u8]) -> Result<Option<Texts>, WorldFault>
         ensures done { IfOk result (λ names. Adds meaning (history self.old) (history self.new) (OwnList dir.now names)) }
         ensures ordered { IfOk result (λ names. IfSome names AreInOrder) }
@@ -74,9 +78,9 @@ pub trait World {
         ensures cause { HasCause Failed (faults self.old) (faults self.new) result }
         ensures children { (kids : List ℕ) → runs self.old kids → runs self.new kids };
 
-    /// Writes the head of a meta file, with which a job begins, and gives the file's time, which is later
-    /// than `after`. After a refusal the file is as before, or holds a part of the head from its
-    /// beginning.
+    /// Writes the head of a meta file, with which a job begins, and gives the file's time, which is
+    /// later than `after`. After a refusal the file is as before, or holds a part of the head from
+    /// its beginning.
     fn stamp(
         &mut self,
         alloc: Global,
@@ -92,8 +96,8 @@ pub trait World {
         ensures cause { HasCause Failed (faults self.old) (faults self.new) result }
         ensures children { (kids : List ℕ) → runs self.old kids → runs self.new kids };
 
-    /// Writes a whole file, and gives its time, which is later than `after`. After a refusal the file
-    /// is as before, or holds a part of the bytes from their beginning.
+    /// Writes a whole file, and gives its time, which is later than `after`. After a refusal the
+    /// file is as before, or holds a part of the bytes from their beginning.
     fn put(
         &mut self,
         alloc: Global,
@@ -109,8 +113,8 @@ pub trait World {
         ensures cause { HasCause Failed (faults self.old) (faults self.new) result }
         ensures children { (kids : List ℕ) → runs self.old kids → runs self.new kids };
 
-    /// Takes a file away. A missing file is no fault: it is removed like another one, at a time of its
-    /// own. After a refusal it is as it was.
+    /// Takes a file away. A missing file is no fault: it is removed like another one, at a time of
+    /// its own. After a refusal it is as it was.
     fn remove(&mut self, alloc: Global, path: &[u8]) -> Result<(), WorldFault>
         ensures done { OnOk result (Adds meaning (history self.old) (history self.new) (OwnGone path.now)) }
         ensures refused { OnErr result (Adds meaning (history self.old) (history self.new) OwnNothing) }
@@ -118,8 +122,8 @@ pub trait World {
         ensures children { (kids : List ℕ) → runs self.old kids → runs self.new kids };
 
     /// Runs a command to its end, with nothing between its steps, and answers with its status, what
-    /// it printed, and the records of its steps, where there are any; the ticket of the answer is 0.
-    /// After a refusal the command has not run, or has run to its end.
+    /// it printed, and the records of its steps, where there are any; the ticket of the answer is
+    /// 0. After a refusal the command has not run, or has run to its end.
     fn ask(&mut self, alloc: Global, cmd: &Cmd) -> Result<Ended, WorldFault>
         requires directory { IsTrue (is_clean_directory cmd.now.cwd) }
         ensures done { IfOk result (λ ended. Adds meaning (history self.old) (history self.new) (OwnAsk meaning cmd.now ended)) }
@@ -128,8 +132,9 @@ pub trait World {
         ensures cause { HasCause Failed (faults self.old) (faults self.new) result }
         ensures children { (kids : List ℕ) → runs self.old kids → runs self.new kids };
 
-    /// Starts a child with a ticket that is not held, for an owner, the start stamp of its job or 0.
-    /// It is added at the end of `kids`; after a refusal `kids` is as before and no child was made.
+    /// Starts a child with a ticket that is not held, for an owner, the start stamp of its job or
+    /// 0. It is added at the end of `kids`; after a refusal `kids` is as before and no child was
+    /// made.
     fn start(
         &mut self,
         alloc: Global,
@@ -151,8 +156,8 @@ pub trait World {
         ensures children { runs self.new kids.new.tickets };
 
     /// Waits until a child has ended, and takes it out of `kids`; the others stay in order. After a
-    /// refusal `kids` is as before. Meanwhile the progress may be shown, where there is one to show: no
-    /// answer hangs on it.
+    /// refusal `kids` is as before. Meanwhile the progress may be shown, where there is one to
+    /// show: no answer hangs on it.
     fn wait_any(
         &mut self,
         alloc: Global,

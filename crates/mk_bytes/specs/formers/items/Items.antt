@@ -35,7 +35,8 @@ the_empty = []
 abbrev pub the_items : (X : Type 0) → List X → List X
 the_items X all = all
 
-pub the_items_listed : (X : Type 0) (all : List X) → listed _ (children (the_former this) X all) ≡ the_items X all
+pub the_items_listed : (X : Type 0) (all : List X)
+    → listed _ (children (the_former this) X all) ≡ the_items X all
 the_items_listed X all = list-listed X all
 
 -- inside, it is the one field, a vector
@@ -45,7 +46,8 @@ fields =
     (λ X list. refl) (λ X held. refl)
 
 module _ (R S : RattleType) (h : R.Denot → S.Denot) where
-  pub the_places : Alike R S h → Alike (items.the_row R) (items.the_row S) ((the_former this).map R.Denot S.Denot h)
+  pub the_places : Alike R S h
+      → Alike (items.the_row R) (items.the_row S) ((the_former this).map R.Denot S.Denot h)
   the_places alike =
       view_places fields (list this) view (λ X Y k u. refl) (λ X u. refl)
       R.Denot S.Denot h (items.the_row R).coded (items.the_row S).coded
@@ -57,5 +59,6 @@ module _ (R S : RattleType) (h : R.Denot → S.Denot) where
       (struct_places (inside.the_type R) (inside.the_type S) (vec.mapped h, tt) _ (λ u. refl) refl
       (laid _ _ _ (vec.the_places heap.the_row ghosts R S h alike), tt))
 
-  pub the_codes_placed : Recodes R S h → Recodes (items.the_row R) (items.the_row S) ((the_former this).map R.Denot S.Denot h)
+  pub the_codes_placed : Recodes R S h
+      → Recodes (items.the_row R) (items.the_row S) ((the_former this).map R.Denot S.Denot h)
   the_codes_placed recodes all = sym (code_map R.coded.code S.coded.code h (λ x. sym (recodes x)) all)

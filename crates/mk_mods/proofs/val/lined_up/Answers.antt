@@ -1,4 +1,4 @@
-use Rattle.std.proofs.Common.{◌≡◌, ◌≤◌, ◌+◌, ◌++◌, ◌∷◌, [], length, length-append, take, get_or, refl, arith}
+use Rattle.std.proofs.Common.{◌≡◌, ◌≤◌, ◌+◌, ◌++◌, ◌∷◌, [], length, length-append, take, get_or, refl, ◌∙◌, arith}
 use Rattle.std.proofs.lemmas.Grind.{common_steps}
 use Rattle.std.proofs.lemmas.List.{take_more}
 use Rattle.mk_pool.specs.declared.region.Piece.{Piece}
@@ -26,18 +26,16 @@ loop-piece-preserved c =
     omega (arith, long, c.len.ensures.value) in
     let end : c.args.len + c.len-in-loop-piece.result ≡ length first + length (before ++ text) =
     rw (← c.in_ok-push.ensures.ok) (omega (arith, long, c.len-in-loop-piece.ensures.value)) in
-    let piece : Piece = record {
-      start = c.args.len + c.len.result;
-      end = c.args.len + c.len-in-loop-piece.result;
-    } in
+    let piece = c.in_ok-piece_between.field-0 in
+    let lies = c.in_ok-piece_between.ensures in
     let shows = Shows-begins (first ++ before) (first ++ (before ++ text)) c.loop-piece.moved.items
     texts (Begins-under first before (before ++ text) (Begins-append before text))
     c.loop-piece.invariant.shows in
-    let within : piece.end ≤ length (first ++ (before ++ text)) = rw length-append (omega (arith, end)) in
+    let within : piece.end ≤ length (first ++ (before ++ text)) = rw length-append (omega (arith, end, lies.1)) in
     record {
       shows = rw (c.in_ok-push-2.ensures.items, c.in_ok-push.ensures.ok, grown)
           (Shows-push (first ++ (before ++ text)) c.loop-piece.moved.items texts piece text shows within
-          (bytes_of-new first before text piece.start piece.end start end));
+          (bytes_of-new first before text piece.start piece.end (lies.0 ∙ start) (lies.1 ∙ end)));
       small = rw (c.in_ok-push.ensures.ok, grown, total-push, length-append)
           (omega (arith, c.loop-piece.invariant.small));
     }

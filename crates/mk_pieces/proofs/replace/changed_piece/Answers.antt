@@ -12,7 +12,7 @@ use Rattle.mk_pieces.proofs.ReplaceLemmas.{word_changed-none, word_changed-some}
 use Rattle.mk_pieces.proofs.replace.changed_piece.Goals as goal
 
 -- what is put behind the bytes, for a word that is changed
-put : (c : goal.After-len-4) → (text : List ℕ)
+put : (c : goal.In_ok-piece_between) → (text : List ℕ)
     × (changed_word c.args.change (bytes_of c.args.region.now.bytes c.args.word) ≡ Some text)
     × (c.args.out.now.items ++ text ≡ c.changed_word.new.out.items)
 put c =
@@ -57,11 +57,12 @@ returns-clause-shown c =
     let old = c.args.out.now.items in
     let new = put c in
     let word = bytes_of region c.args.word in
-    let start : c.len.result + c.len-2.result ≡ length region + length old =
-    grind (arith, common_steps, c.len.ensures.value, c.len-2.ensures) in
-    let end : c.len-3.result + c.len-4.result ≡ length region + length (old ++ new.0) =
+    let piece = c.in_ok-piece_between.ensures in
+    let start : c.in_ok-piece_between.field-0.start ≡ length region + length old =
+    piece.0 ∙ grind (arith, common_steps, c.len.ensures.value, c.len-2.ensures) in
+    let to : c.len-3.result + c.len-4.result ≡ length region + length (old ++ new.0) =
     rw new.2 (grind (arith, common_steps, c.len-3.ensures.value, c.len-4.ensures)) in
-    rw (← new.2, bytes_of-new region old new.0 _ _ start end)
+    rw (← new.2, bytes_of-new region old new.0 _ _ start (piece.1 ∙ to))
     (sym (word_changed-some c.args.ready (changed_word c.args.change) word new.0
     c.if-not-ready.false new.1))
 
@@ -71,7 +72,13 @@ returns-clause-changed c = rw (c.if-not-ready.false, (put c).1) refl
 pub returns-clause-within : goal.returns-clause-within
 returns-clause-within c =
     rw length-append
-    (omega (arith, c.len-3.ensures.value, c.len-4.ensures, c.changed_word.new.out.ok))
+    (omega (
+      arith,
+      c.in_ok-piece_between.ensures.1,
+      c.len-3.ensures.value,
+      c.len-4.ensures,
+      c.changed_word.new.out.ok,
+    ))
 
 pub returns-clause-begins : goal.returns-clause-begins
 returns-clause-begins c =
