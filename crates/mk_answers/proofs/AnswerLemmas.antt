@@ -16,7 +16,7 @@ use Rattle.mk_values.specs.Chains.{Chain, applied, name_condition}
 use Rattle.mk_values.specs.Chains.{chain_of}
 use Rattle.mk_values.specs.Conditions as cond
 use Rattle.mk_values.specs.Conditions.{trimmed, lone_reference}
-use Rattle.mk_values.specs.Evaluators.{Counted, Finder, Progress, progress, with_reference}
+use Rattle.mk_values.specs.Evaluators.{Counted, Finder, Progress, noting, progress, with_reference}
 use Rattle.mk_values.specs.Limits.{max_open, max_references}
 use Rattle.mk_values.specs.ModFaults.{with_fault}
 use Rattle.mk_bytes.specs.Paths.{clean}
@@ -291,8 +291,9 @@ module _ (one other : Answers) (find : Finder) (finds : IsByAnswers one other fi
   variable c p name =
       Same-looking one other _ name _ _
       (Same-either one other _ (is_among c.open_names name) _ _ _ _
-      (Same-tried one other (Err (Recursive name)) p)
-      (Same-then one other _ _ _ _ _ (Same-tried one other (raw_of c name) p) (λ v. expanded c v.1 name v.0)))
+      (Same-tried one other (Err (Recursive name)) (noting name p))
+      (Same-then one other _ _ _ _ _ (Same-tried one other (raw_of c name) (noting name p))
+      (λ v. expanded c v.1 name v.0)))
 
   reference : (c : Context) (p : Progress) (name : Tree) (mods : Mods)
       → Same one other p.asked (value.reference find (answered one c) p name mods)

@@ -17,8 +17,8 @@ use Rattle.mk_world.specs.Listings.{Lists}
 use Rattle.mk_world.specs.Talks.{Meaning, does}
 use Rattle.mk_world.specs.declared.history.History.{History}
 
--- A command that is run on these files changes none, not even to what it holds; and a directory that is listed has
--- these names, as the files have it.
+-- A command that is run on these files changes none, not even to what it holds; and a directory
+-- that is listed has these names, as the files have it.
 abbrev pub ChangesNone : Meaning → Store → Listings → Act → Type 0
 ChangesNone meaning files listings (ran cmd) = changed_paths (does meaning cmd files).deeds ≡ []
 ChangesNone meaning files listings (listed dir) = Lists files dir (listings dir)
@@ -26,10 +26,11 @@ ChangesNone meaning files listings (wrote message) = Unit {0}
 ChangesNone meaning files listings (looked path) = Unit {0}
 ChangesNone meaning files listings (dated path) = Unit {0}
 
--- Where the commands that the reading of these files asks for change none of them, a reading in the world, which
--- answers each question at its moment, is that of the files that stood at its beginning, whatever it gave: as far as
--- it came, where the outside failed or memory ran out. What it asked for are the files, times, listings and commands
--- of that one, and perhaps further times; so no command that was run changed a file.
+-- Where the commands that the reading of these files asks for change none of them, a reading in the
+-- world, which answers each question at its moment, is that of the files that stood at its
+-- beginning, whatever it gave: as far as it came, where the outside failed or memory ran out. What
+-- it asked for are the files, times, listings and commands of that one, and perhaps further times;
+-- so no command that was run changed a file.
 abbrev pub WorldsAreReadAsFiles : Type 0
 WorldsAreReadAsFiles =
     (meaning : Meaning) (old new : History) (held held_after : Option (List ℕ)) (answer : Result Made ReadFault)

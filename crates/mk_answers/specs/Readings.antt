@@ -6,7 +6,8 @@ use Rattle.mk_makefile.specs.Questions.{Answers}
 use Rattle.mk_makefile.specs.Reading.{reading}
 use Rattle.mk_scopes.specs.declared.scopes.Env.{Env}
 
--- how many questions of each sort were asked so far: of times, of files, of directories and of commands
+-- how many questions of each sort were asked so far: of times, of files, of directories and of
+-- commands
 pub record Counts : Type 0 where
   pub dated : ℕ
   pub read : ℕ
@@ -31,9 +32,12 @@ behind_acts so_far (act ∷ acts) = behind_acts (behind_act so_far act) acts
 -- both answer an act the same; a message is no question
 abbrev pub AnswerAlike : Answers → Answers → Counts → Act → Type 0
 AnswerAlike one other so_far (wrote message) = Unit {0}
-AnswerAlike one other so_far (looked path) = other.contents so_far.read path ≡ one.contents so_far.read path
-AnswerAlike one other so_far (dated path) = other.exists so_far.dated path ≡ one.exists so_far.dated path
-AnswerAlike one other so_far (listed dir) = other.listings so_far.listed dir ≡ one.listings so_far.listed dir
+AnswerAlike one other so_far (looked path) = other.contents so_far.read path
+    ≡ one.contents so_far.read path
+AnswerAlike one other so_far (dated path) = other.exists so_far.dated path
+    ≡ one.exists so_far.dated path
+AnswerAlike one other so_far (listed dir) = other.listings so_far.listed dir
+    ≡ one.listings so_far.listed dir
 AnswerAlike one other so_far (ran cmd) = other.outputs so_far.ran cmd ≡ one.outputs so_far.ran cmd
 
 -- Wherever these acts and those come to one act behind the same ones, both answer it the same.
@@ -43,8 +47,9 @@ AreAnsweredAlike one other so_far acts other_acts =
     → acts ≡ common ++ act ∷ rest → other_acts ≡ common ++ act ∷ other_rest
     → AnswerAlike one other (behind_acts so_far common) act
 
--- Two readings of the same words in the same environment, by any answers, part at a question alone: where they are
--- answered the same as long as they ask the same, they do the same outside and give the same, or the same fault.
+-- Two readings of the same words in the same environment, by any answers, part at a question alone:
+-- where they are answered the same as long as they ask the same, they do the same outside and give
+-- the same, or the same fault.
 abbrev pub ReadingsPartAtQuestions : Type 0
 ReadingsPartAtQuestions =
     (one other : Answers) (env : Env) (order : Order)

@@ -1,6 +1,7 @@
 pub mod Ends
 pub mod FaultPlaces
 pub mod PieceLemmas
+pub mod PlainTexts
 pub mod ReadAgain
 pub mod ReadParts
 mod ReadRows

@@ -1,17 +1,18 @@
 -- How one level of a tree of the code is spelled.
 use Rattle.std.proofs.Common.{◌≡◌, ℕ, Bool, List, [], ◌∷◌, ◌++◌, Some, None, codes, refl}
+use Rattle.std.proofs.lemmas.List.{append-nil}
 use Rattle.mk_bytes.specs.Bytes.{dollar, backslash, colon, question_mark, at_sign, equals_sign}
 use Rattle.mk_bytes.specs.Bytes.{square_open, square_close}
 use Rattle.mk_ast.specs.Spell.{opener, closer, spell, spell_part, spell_mods, spell_mod}
 use Rattle.mk_ast.specs.View.{part_view, tree_view, mod_view, mods_view}
-use Rattle.mk_ast.specs.declared.tree.Part.{Part, Plain, Escaped, Double, Lone, Short, Ref}
+use Rattle.mk_ast.specs.declared.tree.Part.{Part, Plain, Escaped, Double, Lone, Short, Named, Ref}
 use Rattle.mk_ast.specs.declared.tree.ModTree.{ModTree, Keep, Without, Subst, Head, Tail, Root}
 use Rattle.mk_ast.specs.declared.tree.ModTree.{Extension, Sort, SortBack, Unique, Lower, Upper}
 use Rattle.mk_ast.specs.declared.tree.ModTree.{Quote, QuoteDollar, Separator, OneWord, ManyWords}
 use Rattle.mk_ast.specs.declared.tree.ModTree.{Select, Range, IfUndefined, IfDefined, NameOf}
 use Rattle.mk_ast.specs.declared.tree.ModTree.{Choose, Each, Suffix, Empty}
 use Rattle.mk_ast.proofs.Views.{view-Plain, view-Escaped, view-Double, view-Lone, view-Short}
-use Rattle.mk_ast.proofs.Views.{view-Ref, view-Keep, view-Without, view-Subst, view-Head, view-Tail}
+use Rattle.mk_ast.proofs.Views.{view-Named, view-Ref, view-Keep, view-Without, view-Subst, view-Head, view-Tail}
 use Rattle.mk_ast.proofs.Views.{view-Root, view-Extension, view-Sort, view-SortBack, view-Unique}
 use Rattle.mk_ast.proofs.Views.{view-Lower, view-Upper, view-Quote, view-QuoteDollar}
 use Rattle.mk_ast.proofs.Views.{view-Separator, view-OneWord, view-ManyWords, view-Select}
@@ -37,6 +38,12 @@ spell-Lone = rw view-Lone refl
 pub spell-Short : (byte : ℕ) → spell_part (part_view (Short byte)) ≡ dollar ∷ byte ∷ []
 unfolding spell
 spell-Short byte = rw (view-Short byte) refl
+
+pub spell-Named : (round : Bool) (name : List ℕ) (mods : List ModTree)
+    → spell_part (part_view (Named round name mods))
+    ≡ dollar ∷ opener round ∷ (name ++ (spell_mods (mods_view mods) ++ closer round ∷ []))
+unfolding spell
+spell-Named round name mods = rw (view-Named round name mods) (simp append-nil)
 
 pub spell-Ref : (round : Bool) (name : List Part) (mods : List ModTree)
     → spell_part (part_view (Ref round name mods))
@@ -182,6 +189,7 @@ pub ruleset spells = (
   spell-Double,
   spell-Lone,
   spell-Short,
+  spell-Named,
   spell-Ref,
   spell-Keep,
   spell-Without,

@@ -1,12 +1,12 @@
 -- A tree of the code as plain data, one level at a time.
 use Rattle.std.proofs.Common.{◌≡◌, ℕ, Bool, List, [], ◌∷◌, ◌++◌, Some, None, refl, ap, rules}
-use Rattle.mk_ast.specs.Tree.{part, mod_then, tree_append, mods_append, plain, escaped, double}
+use Rattle.mk_ast.specs.Tree.{end, part, mod_then, tree_append, mods_append, plain, escaped, double}
 use Rattle.mk_ast.specs.Tree.{lone, short, ref, keep, without, subst, head, tail, root, extension}
 use Rattle.mk_ast.specs.Tree.{sort, sort_back, unique, lower, upper, quote, quote_dollar, separator}
 use Rattle.mk_ast.specs.Tree.{one_word, many_words, select, range, range_to, if_undefined}
 use Rattle.mk_ast.specs.Tree.{if_defined, name_of, choose, each, suffix, empty}
 use Rattle.mk_ast.specs.View.{part_view, mod_view, tree_view, mods_view}
-use Rattle.mk_ast.specs.declared.tree.Part.{Part, Plain, Escaped, Double, Lone, Short, Ref}
+use Rattle.mk_ast.specs.declared.tree.Part.{Part, Plain, Escaped, Double, Lone, Short, Named, Ref}
 use Rattle.mk_ast.specs.declared.tree.Part.{the_lemmas}
 use Rattle.mk_ast.specs.declared.tree.ModTree.{ModTree, Keep, Without, Subst, Head, Tail, Root}
 use Rattle.mk_ast.specs.declared.tree.ModTree.{Extension, Sort, SortBack, Unique, Lower, Upper}
@@ -28,6 +28,10 @@ view-Lone = search (rules, the_lemmas)
 
 pub view-Short : (byte : ℕ) → part_view (Short byte) ≡ short byte
 view-Short byte = search (rules, the_lemmas)
+
+pub view-Named : (round : Bool) (name : List ℕ) (mods : List ModTree)
+    → part_view (Named round name mods) ≡ ref round (part (plain name) end) (mods_view mods)
+view-Named round name mods = search (rules, the_lemmas)
 
 pub view-Ref : (round : Bool) (name : List Part) (mods : List ModTree)
     → part_view (Ref round name mods) ≡ ref round (tree_view name) (mods_view mods)
@@ -125,6 +129,7 @@ pub ruleset views = (
   view-Double,
   view-Lone,
   view-Short,
+  view-Named,
   view-Ref,
   view-Keep,
   view-Without,

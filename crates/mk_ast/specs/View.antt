@@ -55,6 +55,8 @@ part_step Part-F.Double = tree.double
 part_step Part-F.Lone = tree.lone
 part_step (Part-F.Short byte) = tree.short byte
 part_step (Part-F.Ref round name mods) = tree.ref round (tree_of name) (mods_of mods)
+part_step (Part-F.Named round name mods) =
+    tree.ref round (part (tree.plain name) end) (mods_of mods)
 
 abbrev pub part_view : CodePart → Part
 part_view = fold-Part Mod Part mod_step part_step

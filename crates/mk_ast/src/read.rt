@@ -11,9 +11,9 @@ ghost use Rattle.mk_ast.specs.declared.fault.AstFault.TheVariants.{NoMemory as n
 use crate::fault::AstFault;
 use crate::modifier::modifier_at;
 use crate::place::{Place, after, is_anchor, is_escape, is_over};
-use crate::run::{is_lone_before, plain_at};
+use crate::run::{is_lone_before, plain_at, plain_text_len};
 use crate::tree::{ModTrees, Part, Tree};
-use mk_bytes::{Items, skip};
+use mk_bytes::{Items, Text, skip};
 use std::alloc::Global;
 
 /// How deep a reading is in a text of `total` bytes: `depth` more references may be open at once.
@@ -23,7 +23,8 @@ pub struct Level {
     pub depth: usize,
 }
 
-// Most texts have one part, and most references one modifier at most: a list of one has room for one.
+// Most texts have one part, and most references one modifier at most: a list of one has room for
+// one.
 fn part_room(place: Place, text: &[u8]) -> usize {
     if is_over(place, text) { 0 } else { 1 }
 }
@@ -140,7 +141,14 @@ fn ref_at<'t>(
         total: level.total,
         depth: level.depth - 1,
     };
-    let (name, rest) = text_at(alloc, inner, Place::Name { round, nested: 0 }, text)?;
+    let place = Place::Name { round, nested: 0 };
+    if let Some(len) = plain_text_len(place, text) {
+        let (name, rest) = text.split_at(len);
+        let name = Text::from_bytes(alloc, name)?;
+        let (mods, rest) = mods_at(alloc, inner, opened, round, rest)?;
+        return Ok((Part::Named { round, name, mods }, rest));
+    }
+    let (name, rest) = text_at(alloc, inner, place, text)?;
     let (mods, rest) = mods_at(alloc, inner, opened, round, rest)?;
     Ok((Part::Ref { round, name, mods }, rest))
 }

@@ -1,9 +1,11 @@
 //! Runs of plain bytes.
-ghost use Rattle.std.specs.Prelude.{◌≡◌, ◌+◌, ◌^◌, ◌<◌, ◌≤◌, true, length, slice_index, take, drop, IfOk};
+ghost use Rattle.std.specs.Prelude.{◌≡◌, ◌+◌, ◌^◌, ◌<◌, ◌≤◌, true, length, slice_index, take, drop};
+ghost use Rattle.std.specs.Prelude.{Ok, IfOk, IfSome};
 ghost use Rattle.mk_bytes.specs.Agrees.{Agrees};
 ghost use Rattle.mk_ast.specs.Places as places;
 ghost use Rattle.mk_ast.specs.Places.{nesting};
 ghost use Rattle.mk_ast.specs.Text as spec;
+ghost use Rattle.mk_ast.specs.Tree.{end, part, plain};
 ghost use Rattle.mk_ast.specs.View.{part_view};
 ghost use Rattle.mk_ast.specs.declared.fault.AstFault.TheVariants.{NoMemory as no_memory};
 
@@ -60,6 +62,21 @@ fn plain_run(place: Place, text: &[u8]) -> (usize, Place)
         Place::Piece(Piece::Quoted) => run_from(Place::Piece(Piece::Quoted), text),
         Place::Piece(Piece::Argument) => run_from(Place::Piece(Piece::Argument), text),
         _ => run_from(place, text),
+    }
+}
+
+/// How many bytes the text up to its end is, where it is plain bytes alone and at least one.
+pub fn plain_text_len(place: Place, text: &[u8]) -> Option<usize>
+    requires { nesting place + length text.now < 2 ^ 64 }
+    ensures plain { IfSome result (λ len. (refs : spec.Refs) → spec.text_in refs place text.now
+        ≡ Ok (part (plain (take len text.now)) end, drop len text.now)) }
+    ensures within { IfSome result (λ len. len ≤ length text.now) }
+{
+    let (len, next) = plain_run(place, text);
+    if len > 0 && is_over(next, skip(text, len)) {
+        Some(len)
+    } else {
+        None
     }
 }
 

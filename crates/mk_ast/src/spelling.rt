@@ -65,6 +65,13 @@ fn put_part(out: &mut Text, part: &Part) -> Result<(), NoMemory>
         Part::Double => put(out, b"$$"),
         Part::Lone => put(out, b"$"),
         Part::Short(byte) => put(out, &[b'$', *byte]),
+        Part::Named { round, name, mods } => {
+            out.push(&[b'$', opener(*round)])?;
+            out.push(name.bytes())?;
+            put_mods(out, mods)?;
+            out.push(&[closer(*round)])?;
+            Ok(())
+        }
         Part::Ref { round, name, mods } => {
             out.push(&[b'$', opener(*round)])?;
             put_tree(out, name)?;

@@ -26,7 +26,17 @@ pub enum Part {
     /// `$c`, the variable with the name `c`.
     Short(u8),
 
-    /// `${name:modifiers}`, or `$(name:modifiers)` where it is `round`.
+    /// `${name:modifiers}`, or `$(name:modifiers)` where it is `round`, with a name of plain bytes
+    /// alone. It is the [`Ref`](Part::Ref) whose name is these bytes as one `Plain`, without the
+    /// room of a tree.
+    Named {
+        round: bool,
+        name: Text,
+        mods: ModTrees,
+    },
+
+    /// `${name:modifiers}`, or `$(name:modifiers)` where it is `round`. [`parse`](crate::parse)
+    /// gives it where the name is empty or has other parts than plain bytes.
     Ref {
         round: bool,
         name: Tree,

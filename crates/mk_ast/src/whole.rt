@@ -41,8 +41,9 @@ pub fn parse(alloc: Global, text: &[u8]) -> Result<Tree, AstFault>
     Ok(tree)
 }
 
-/// The form that `text` begins with behind its `$`, and what is left behind it, or the first fault inside it. The
-/// text is the end of a whole of `total` bytes, from the beginning of which places are counted.
+/// The form that `text` begins with behind its `$`, and what is left behind it, or the first fault
+/// inside it. The text is the end of a whole of `total` bytes, from the beginning of which places
+/// are counted.
 pub fn form_at<'t>(
     alloc: Global,
     total: usize,

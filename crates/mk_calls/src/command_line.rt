@@ -10,8 +10,8 @@ const CWD: &[u8] = b"/w";
 
 type Words = &'static [&'static [u8]];
 
-/// The number of jobs, whether the build goes on after a failure, how many makefiles, assignments and
-/// prints there are, and the targets.
+/// The number of jobs, whether the build goes on after a failure, how many makefiles, assignments
+/// and prints there are, and the targets.
 type Asked = (u32, bool, usize, usize, usize, Words);
 
 // What a row shows, the words, and what they ask for.

@@ -15,6 +15,8 @@ mod logs;
 #[cfg(test)]
 mod looks;
 #[cfg(test)]
+mod lookups;
+#[cfg(test)]
 mod loops;
 #[cfg(test)]
 mod meta_files;

@@ -95,8 +95,8 @@ fn next_of(
     Ok(Some(next_behind(&mut sched, started)))
 }
 
-// What a row shows, whether each of three nodes waits for the one before it, the number of jobs, how
-// many nodes were started, and what comes next.
+// What a row shows, whether each of three nodes waits for the one before it, the number of jobs,
+// how many nodes were started, and what comes next.
 struct NextRow(&'static str, bool, u32, u32, Next);
 
 impl Row for NextRow {

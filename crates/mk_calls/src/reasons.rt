@@ -1,5 +1,5 @@
-//! Why targets are out of date. The task of a row is written as a meta file too; each of its lines is
-//! compared but those that begin with `any`.
+//! Why targets are out of date. The task of a row is written as a meta file too; each of its lines
+//! is compared but those that begin with `any`.
 use crate::refused::Refused;
 use crate::rows::{Row, check};
 use mk_bytes::{Items, NoMemory};

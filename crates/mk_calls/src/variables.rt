@@ -9,7 +9,7 @@ use std::process::Abort;
 
 /// Refuses every question, as want of memory does: that may stand in place of any answer.
 #[derive(Drop)]
-struct Untold;
+pub struct Untold;
 
 impl Facts for Untold {
     ghost use Rattle.std.specs.Prelude.{[]};

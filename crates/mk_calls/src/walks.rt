@@ -118,7 +118,8 @@ fn closed_walks_are_met(rt: HostRuntime) {
     check(&rt, rt.alloc(), &CYCLES);
 }
 
-// What a row shows, the predecessors of the last of many nodes, and how many nodes the closed walk has.
+// What a row shows, the predecessors of the last of many nodes, and how many nodes the closed walk
+// has.
 struct ChainRow(&'static str, &'static [u32], usize);
 
 impl Row for ChainRow {

@@ -1,5 +1,5 @@
--- What is evaluated of a condition, and in which order (make(1), the directive `.if`). The parts of `&&` and `||` come
--- from left to right, and what does not decide is not evaluated.
+-- What is evaluated of a condition, and in which order (make(1), the directive `.if`). The parts of
+-- `&&` and `||` come from left to right, and what does not decide is not evaluated.
 use Rattle.std.specs.Prelude.{ℕ, ◌+◌, Bool, List, [], ◌∷◌, if◌then◌else◌}
 use Rattle.mk_ast.specs.View.{tree_view}
 use Rattle.mk_cond.specs.Cond.{Cond, Conds, any, all, negate, test, alone, both, no_more, cond_then}
@@ -11,8 +11,8 @@ use Rattle.mk_cond.specs.declared.walk.Leaf.TheVariants.{Known, Test, Alone, Bot
 use Rattle.mk_cond.specs.declared.walk.Outer.TheVariants.{Not, Any, All}
 use Rattle.mk_cond.specs.declared.walk.Step.TheVariants.{Inside, AtLeaf}
 
--- A walk ends with a truth, or evaluates a condition without conditions inside, and goes on by its truth: the first
--- walk where that is true, the second where it is false.
+-- A walk ends with a truth, or evaluates a condition without conditions inside, and goes on by its
+-- truth: the first walk where that is true, the second where it is false.
 pub data Walk : Type 0 where
   ends : Bool → Walk
   asks : Cond → Walk → Walk → Walk

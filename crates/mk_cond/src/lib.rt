@@ -1,8 +1,8 @@
 //! Conditions of make: their grammar, and the truth of a value and of a comparison.
 //!
 //! A condition is what NetBSD make(1) describes under the directive `.if`. A text has one condition
-//! or one first fault. Both are read by [`parse_cond`]. In which order its parts are evaluated is told by [`entered`] and
-//! [`left_behind`]; the evaluation of each is left to a higher crate.
+//! or one first fault. Both are read by [`parse_cond`]. In which order its parts are evaluated is
+//! told by [`entered`] and [`left_behind`]; the evaluation of each is left to a higher crate.
 #![tactic(auto)]
 
 mod bytes;

@@ -1,6 +1,6 @@
-//! The order in which the parts of a condition are evaluated. The conditions round the one that is evaluated stand in
-//! a list and not on the stack, so that conditions in the names of `:?` inside conditions may each be as deep as the
-//! grammar allows.
+//! The order in which the parts of a condition are evaluated. The conditions round the one that is
+//! evaluated stand in a list and not on the stack, so that conditions in the names of `:?` inside
+//! conditions may each be as deep as the grammar allows.
 ghost use Rattle.std.specs.Prelude.{◌≡◌, ◌+◌, ◌<◌, IfOk};
 ghost use Rattle.mk_cond.specs.View.{cond_view, conds_view};
 ghost use Rattle.mk_cond.specs.Walk as spec;
@@ -72,8 +72,9 @@ fn all_of<'c>(outer: &mut Vec<Outer<'c>>, conds: &'c [Cond]) -> Result<Step<'c>,
     Ok(Step::Inside(first))
 }
 
-/// What is evaluated first of a condition. What is left of it is kept behind the conditions round it, in `outer`, the
-/// innermost last: the walk goes on with it as the condition's own does. `NoMemory` where the list cannot grow.
+/// What is evaluated first of a condition. What is left of it is kept behind the conditions round
+/// it, in `outer`, the innermost last: the walk goes on with it as the condition's own does.
+/// `NoMemory` where the list cannot grow.
 pub fn entered<'c>(outer: &mut Vec<Outer<'c>>, cond: &'c Cond) -> Result<Step<'c>, NoMemory>
     ensures same { IfOk result (λ step. (ways : spec.Ways)
         → spec.step_walk step (spec.behind_all outer.new.items ways)
@@ -94,8 +95,9 @@ pub fn entered<'c>(outer: &mut Vec<Outer<'c>>, cond: &'c Cond) -> Result<Step<'c
     }
 }
 
-/// What is evaluated next behind a condition whose truth is known, by the innermost one round it, `one`, which is taken
-/// from the list `outer`: nothing of it where that truth decides. `NoMemory` where the list cannot grow.
+/// What is evaluated next behind a condition whose truth is known, by the innermost one round it,
+/// `one`, which is taken from the list `outer`: nothing of it where that truth decides. `NoMemory`
+/// where the list cannot grow.
 pub fn left_behind<'c>(
     outer: &mut Vec<Outer<'c>>,
     one: Outer<'c>,

@@ -1,5 +1,6 @@
 //! The value of a tree: the values of its parts, joined.
 ghost use Rattle.std.specs.Prelude.{◌≡◌, ◌∷◌, [], OnOk};
+ghost use Rattle.mk_ast.specs.Tree.{end, part, plain};
 ghost use Rattle.mk_ast.specs.View.{mods_view, part_view, tree_view};
 ghost use Rattle.mk_values.specs.Calls.{AsksOf, Finds, FindsAs, Keeps};
 ghost use Rattle.mk_values.specs.Parts as joint;
@@ -11,8 +12,9 @@ use crate::modifiers::chained;
 use mk_ast::{ModTrees, Part, Tree, parse};
 use mk_bytes::{Text, is_among};
 use mk_values::{
-    ExpandFault, Facts, Found, Names, Run, append, append_found, double, has_dollar, known,
-    lent_word, nothing_found, open_reference, plain_bytes, plain_found, plain_value, raw_above,
+    ExpandFault, Facts, Found, MAX_TEXT, Names, Run, append, append_found, double, has_dollar,
+    known, lent_word, note, nothing_found, open_reference, plain_bytes, plain_found, plain_value,
+    raw_above,
 };
 
 /// The value of a text, which is read as a whole first.
@@ -102,6 +104,11 @@ pub fn append_part<F: Facts>(
         Part::Double => append(text, double(keep)),
         Part::Lone => append(text, b"$"),
         Part::Short(_) => append_reference(names, run, facts, room, keep, text, part),
+        Part::Named {
+            round: _,
+            name: _,
+            mods: _,
+        } => append_reference(names, run, facts, room, keep, text, part),
         Part::Ref {
             round: _,
             name: _,
@@ -127,8 +134,9 @@ fn append_reference<F: Facts>(
     ensures run { OnOk result (Keeps run.old run.new) }
     ensures facts { AsksOf F.Facts facts.old facts.new result }
 {
-    if let Some(word) = lent_word(run.open_names.as_slice(), run.bound.as_slice(), part) {
+    if let Some((name, word)) = lent_word(run.open_names.as_slice(), run.bound.as_slice(), part) {
         open_reference(&mut run.references, room)?;
+        note(names.alloc, &mut run.noted, name)?;
         return append(text, word);
     }
     let found = found(names, run, facts, room, keep, part)?;
@@ -171,6 +179,11 @@ fn found_inside<F: Facts>(
 {
     match part {
         Part::Short(byte) => variable(names, run, facts, room, keep, &[*byte]),
+        Part::Named {
+            round: _,
+            name,
+            mods,
+        } => plain_reference(names, run, facts, room, keep, name.bytes(), mods),
         Part::Ref {
             round: _,
             name,
@@ -178,6 +191,29 @@ fn found_inside<F: Facts>(
         } => reference(names, run, facts, room, keep, name, mods),
         _ => Ok(nothing_found(names.alloc)),
     }
+}
+
+// What a name of plain bytes with modifiers finds. The name is its own value.
+#[cycle(value)]
+fn plain_reference<F: Facts>(
+    names: &Names<'_>,
+    run: &mut Run,
+    facts: &mut F,
+    room: usize,
+    keep: bool,
+    name: &[u8],
+    mods: &ModTrees,
+) -> Result<Found, ExpandFault>
+    ensures value { Finds F.Facts names.now keep run.old run.new facts.old facts.new result
+        (λ c p. spec.reference (found_at room) c p (part (plain name.now) end)
+        (mods_view mods.now)) }
+    ensures run { OnOk result (Keeps run.old run.new) }
+    ensures facts { AsksOf F.Facts facts.old facts.new result }
+{
+    if name.len() > MAX_TEXT {
+        return Err(ExpandFault::TooLong);
+    }
+    named(names, run, facts, room, keep, name, mods)
 }
 
 // What a name with modifiers finds. Its name is expanded without `keep`.
@@ -223,7 +259,7 @@ fn named<F: Facts>(
     chained(names, run, facts, room, name, found, mods)
 }
 
-// The value of a variable's raw value. One without any `$` is its own value.
+// The value of a variable's raw value, whose name is kept. One without any `$` is its own value.
 #[cycle(value)]
 fn variable<F: Facts>(
     names: &Names<'_>,
@@ -238,6 +274,7 @@ fn variable<F: Facts>(
     ensures run { OnOk result (Keeps run.old run.new) }
     ensures facts { AsksOf F.Facts facts.old facts.new result }
 {
+    note(names.alloc, &mut run.noted, name)?;
     if is_among(run.open_names.as_slice(), name) {
         return Err(ExpandFault::Recursive(Text::from_bytes(names.alloc, name)?));
     }

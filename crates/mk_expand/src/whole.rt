@@ -12,21 +12,23 @@ ghost use Rattle.mk_world.specs.Causes.{HasCause};
 use crate::conditions::truth_of;
 use crate::evaluation::{text_value, tree_value};
 use mk_ast::{Part, Tree};
-use mk_bytes::{Items, NoMemory, Text};
+use mk_bytes::{Items, NoMemory, Text, Texts};
 use mk_cond::Cond;
 use mk_pool::Region;
 use mk_scopes::Scopes;
 use mk_values::{ExpandFault, Facts, Locals, MAX_OPEN, Names, Run, has_dollar, plain_value};
 use std::alloc::Global;
 
-fn first_run(alloc: Global) -> Result<Run, NoMemory>
-    ensures { IfOk result (λ run. IsFirst run) }
+// A run before its first reference, which keeps the names behind these.
+pub(crate) fn first_run(alloc: Global, noted: Option<Texts>) -> Result<Run, NoMemory>
+    ensures { IfOk result (λ run. IsFirst noted run) }
 {
     Ok(Run {
         open_names: Items::new(alloc, 0)?,
         bound: Vec::new(alloc),
         references: 0,
         region: Region::new(alloc)?,
+        noted,
     })
 }
 
@@ -59,7 +61,7 @@ pub fn expand<F: Facts>(
         scopes,
         locals,
     };
-    let mut run = first_run(alloc)?;
+    let mut run = first_run(alloc, None)?;
     tree_value(&names, &mut run, facts, MAX_OPEN, keep, tree)
 }
 
@@ -92,7 +94,7 @@ pub fn value_of_text<F: Facts>(
         scopes,
         locals,
     };
-    let mut run = first_run(alloc)?;
+    let mut run = first_run(alloc, None)?;
     text_value(&names, &mut run, facts, MAX_OPEN, keep, text)
 }
 
@@ -122,7 +124,7 @@ pub fn eval_cond<F: Facts>(
         scopes,
         locals,
     };
-    let mut run = first_run(alloc)?;
+    let mut run = first_run(alloc, None)?;
     truth_of(&names, &mut run, facts, MAX_OPEN, cond)
 }
 
@@ -130,12 +132,10 @@ pub fn eval_cond<F: Facts>(
 pub fn name_tree(alloc: Global, name: &[u8]) -> Result<Tree, NoMemory>
     ensures { IfOk result (λ tree. tree_view tree ≡ name_tree name.now) }
 {
-    let mut inside = Items::new(alloc, 1)?;
-    inside.push(Part::Plain(Text::from_bytes(alloc, name)?))?;
     let mut tree = Items::new(alloc, 1)?;
-    tree.push(Part::Ref {
+    tree.push(Part::Named {
         round: false,
-        name: inside,
+        name: Text::from_bytes(alloc, name)?,
         mods: Items::new(alloc, 0)?,
     })?;
     Ok(tree)

@@ -17,7 +17,7 @@ use Rattle.mk_values.specs.Chains.{Chain, substitution, given_as, applied, with_
 use Rattle.mk_values.specs.Chains.{chain_of, undefined, defined_as}
 use Rattle.mk_values.specs.Conditions as cond
 use Rattle.mk_values.specs.Conditions.{trimmed, lone_reference}
-use Rattle.mk_values.specs.Evaluators.{Counted, Finder, Progress, gives, with_reference}
+use Rattle.mk_values.specs.Evaluators.{Counted, Finder, Progress, gives, noting, with_reference}
 use Rattle.mk_values.specs.Limits.{max_open, max_references}
 use Rattle.mk_looks.specs.Looks.{ConditionsAreByNames, Raw, TreesAreByNames, with_raw}
 use Rattle.mk_values.specs.ModFaults.{with_fault}
@@ -90,7 +90,7 @@ module _ (one other : Raw) (find : Finder) (finds : IsByNames one other find) wh
       (cond.answer_of (with_raw other c) p fun text)
   answer_of c p Defined text =
       Same-looking one other (trimmed text) _
-      (λ raw. gives (is_defined (last_value c.bound (trimmed text)) raw) p)
+      (λ raw. gives (is_defined (last_value c.bound (trimmed text)) raw) (noting (trimmed text) p))
       (Same-gives one other _ _)
   answer_of c p Empty text = Same-gives one other _ _
   answer_of c p Make text = Same-gives one other _ _
@@ -285,11 +285,12 @@ module _ (one other : Raw) (find : Finder) (finds : IsByNames one other find) wh
       (value.variable find (with_raw other c) p name)
   variable c p name =
       Same-looking one other name _
-      (λ raw. value.variable_by find (with_raw other c) p name (or_below (last_value c.bound name) raw))
+      (λ raw. value.variable_by find (with_raw other c) (noting name p) name
+      (or_below (last_value c.bound name) raw))
       (Same-either one other (is_among c.open_names name) _ _ _ _
-      (Same-tried one other (Err (Recursive name)) p)
+      (Same-tried one other (Err (Recursive name)) (noting name p))
       (Same-then one other _ _ _ _
-      (Same-tried one other (or_below (last_value c.bound name) (one name)) p)
+      (Same-tried one other (or_below (last_value c.bound name) (one name)) (noting name p))
       (λ v. expanded c v.1 name v.0)))
 
   reference : (c : Context) (p : Progress) (name : Tree) (mods : Mods)

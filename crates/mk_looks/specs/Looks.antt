@@ -28,8 +28,8 @@ AgreeOn one other (name ∷ names) = (one name ≡ other name) × AgreeOn one ot
 abbrev pub with_raw : Raw → Context → Context
 with_raw raw c = record c { raw = raw }
 
--- What a tree gives is by the names that are looked up in it: where those have the same raw values, it
--- gives the same, be it a value or a fault, with the same references, questions and names.
+-- What a tree gives is by the names that are looked up in it: where those have the same raw values,
+-- it gives the same, be it a value or a fault, with the same references, questions and names.
 abbrev pub TreesAreByNames : Type 0
 TreesAreByNames =
     (c : Context) (raw : Raw) (p : Progress) (tree : Tree)

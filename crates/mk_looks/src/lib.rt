@@ -1,7 +1,7 @@
 //! What values are by: the names that are looked up in a text or a condition.
 //!
-//! No code stands here but the law, the contract of a function. Rows of values and truths, computed by
-//! their definitions, stand among the proofs.
+//! No code stands here but the law, the contract of a function. Rows of values and truths, computed
+//! by their definitions, stand among the proofs.
 #![tactic(auto)]
 
 mod law;

@@ -1,16 +1,16 @@
 -- How one level of a tree of the code refers to the newer sources.
-use Rattle.std.proofs.Common.{◌≡◌, ℕ, ◌+◌, ◌<◌, ◌≤◌, ◌||◌, Bool, false, List, [], ◌∷◌, Some, None}
+use Rattle.std.proofs.Common.{◌≡◌, ℕ, ◌+◌, ◌<◌, ◌≤◌, ◌||◌, Bool, true, false, List, [], ◌∷◌, Some, None}
 use Rattle.std.proofs.Common.{length, drop, get_or, refl, sym, ap, ◌∙◌}
 use Rattle.std.proofs.lemmas.List.{drop_more, at_drop_all}
 use Rattle.mk_ast.specs.View.{part_view, mod_view, tree_view, mods_view}
-use Rattle.mk_ast.specs.declared.tree.Part.{Part, Plain, Escaped, Double, Lone, Short, Ref}
+use Rattle.mk_ast.specs.declared.tree.Part.{Part, Plain, Escaped, Double, Lone, Short, Named, Ref}
 use Rattle.mk_ast.specs.declared.tree.ModTree.{ModTree, Keep, Without, Subst, Head, Tail, Root}
 use Rattle.mk_ast.specs.declared.tree.ModTree.{Extension, Sort, SortBack, Unique, Lower, Upper}
 use Rattle.mk_ast.specs.declared.tree.ModTree.{Quote, QuoteDollar, Separator, OneWord, ManyWords}
 use Rattle.mk_ast.specs.declared.tree.ModTree.{Select, Range, IfUndefined, IfDefined, NameOf}
 use Rattle.mk_ast.specs.declared.tree.ModTree.{Choose, Each, Suffix, Empty}
 use Rattle.mk_ast.proofs.Views.{view-Plain, view-Escaped, view-Double, view-Lone, view-Short}
-use Rattle.mk_ast.proofs.Views.{view-Ref, view-Keep, view-Without, view-Subst, view-Head, view-Tail}
+use Rattle.mk_ast.proofs.Views.{view-Named, view-Ref, view-Keep, view-Without, view-Subst, view-Head, view-Tail}
 use Rattle.mk_ast.proofs.Views.{view-Root, view-Extension, view-Sort, view-SortBack, view-Unique}
 use Rattle.mk_ast.proofs.Views.{view-Lower, view-Upper, view-Quote, view-QuoteDollar}
 use Rattle.mk_ast.proofs.Views.{view-Separator, view-OneWord, view-ManyWords, view-Select}
@@ -41,6 +41,16 @@ pub refers-Short : (byte : ℕ)
     → part_refers (part_view (Short byte)) ≡ is_oodate (byte ∷ [])
 unfolding refers
 refers-Short byte = rw (view-Short byte) refl
+
+named-refers : (first second : Bool) → (first || (false || false) || second) ≡ (first || second)
+named-refers true second = refl
+named-refers false second = refl
+
+pub refers-Named : (round : Bool) (name : List ℕ) (mods : List ModTree)
+    → part_refers (part_view (Named round name mods)) ≡ (is_oodate name || mods_refer (mods_view mods))
+unfolding refers
+refers-Named round name mods =
+    rw (view-Named round name mods) (named-refers (is_oodate name) (mods_refer (mods_view mods)))
 
 pub refers-Ref : (round : Bool) (name : List Part) (mods : List ModTree)
     → part_refers (part_view (Ref round name mods))
@@ -178,6 +188,7 @@ pub ruleset referring = (
   refers-Double,
   refers-Lone,
   refers-Short,
+  refers-Named,
   refers-Ref,
   refers-Keep,
   refers-Without,

@@ -1,5 +1,5 @@
--- What questions of `exists` leave in a world: looks at times, and beside them steps of the children
--- that run.
+-- What questions of `exists` leave in a world: looks at times, and beside them steps of the
+-- children that run.
 use Rattle.std.specs.Prelude.{◌≡◌, Bool, not, List, ◌++◌, map, Option, Some, None, false, slice_get}
 use Rattle.std.specs.Option.{option_map}
 use Rattle.mk_values.specs.Facts.{Answers}

@@ -25,8 +25,8 @@ all_sources nodes = map (λ (node : PlanNode). node.sources) nodes
 abbrev pub DependsOn : List PlanNode → ℕ → ℕ → Type 0
 DependsOn nodes node other = Reaches (all_sources nodes) (preds_of (all_sources nodes) node) other
 
--- Where each node stands behind its predecessors and waits for its sources, it stands behind all that
--- it depends on.
+-- Where each node stands behind its predecessors and waits for its sources, it stands behind all
+-- that it depends on.
 abbrev pub DependenceGoesBack : Type 0
 DependenceGoesBack =
     (nodes : List PlanNode) → are_ordered 0 nodes ≡ true → are_sourced nodes ≡ true

@@ -61,7 +61,8 @@ IsOwn fault = IsFree fault → ⊥
 abbrev pub IsTaskFault : {A : Type 0} → TaskFault → Result A TaskFault → Type 0
 IsTaskFault fault defined = IsFree fault ⊎ (defined ≡ Err fault)
 
--- An answer of a call on lines is what is defined by the answers to all that was asked up to its end.
+-- An answer of a call on lines is what is defined by the answers to all that was asked up to its
+-- end.
 abbrev pub MeansLines : {X Y : Type 0} → List Asked → (X → Y) → Result X TaskFault
     → (Answers → Result Y TaskFault) → Type 0
 MeansLines asked view answer defined =

@@ -1,5 +1,6 @@
 -- Tasks: the command lines of a node, expanded.
-use Rattle.std.specs.Prelude.{ℕ, ◌+◌, ◌==◌, ◌||◌, ◌&&◌, Bool, true, false, not, List, [], ◌∷◌, ◌++◌, length, take, drop, position, unwrap_or, Result, Ok, Err}
+use Rattle.std.specs.Prelude.{ℕ, ◌+◌, ◌==◌, ◌||◌, ◌&&◌, Bool, true, false, not, List, [], ◌∷◌, ◌++◌}
+use Rattle.std.specs.Prelude.{length, take, drop, position, unwrap_or, Result, Ok, Err}
 use Rattle.std.specs.List.{list_any}
 use Rattle.mk_ast.specs.Tree.{Tree}
 use Rattle.mk_bytes.specs.Agrees.{◌>>=◌}
@@ -115,8 +116,8 @@ abbrev pub names_at : List PlanNode → List ℕ → List (List ℕ)
 names_at nodes [] = []
 names_at nodes (place ∷ places) = (node_at nodes place).name ∷ names_at nodes places
 
--- What the local names stand for where a node is made, by the known suffixes, the plan, the node and
--- the sources that are newer.
+-- What the local names stand for where a node is made, by the known suffixes, the plan, the node
+-- and the sources that are newer.
 abbrev pub locals_of : List (List ℕ) → List PlanNode → ℕ → List (List ℕ) → Locals
 locals_of suffixes nodes n oodate = record {
   target = (node_at nodes n).name;
@@ -141,7 +142,8 @@ task_of k suffixes nodes n oodate mode flags asked =
     >>= λ lines. Ok (task_with k.variables mode.exports (node_at nodes n).name lines.0, lines.1)
 
 -- The questions of `exists` behind it, also behind its fault.
-abbrev pub task_questions : Setting → List (List ℕ) → List PlanNode → ℕ → List (List ℕ) → Mode → Flags
+abbrev pub task_questions : Setting → List (List ℕ) → List PlanNode → ℕ → List (List ℕ) → Mode
+    → Flags
     → List Asked → List Asked
 task_questions k suffixes nodes n oodate mode flags asked =
     questions_from k (locals_of suffixes nodes n oodate) (manner_of mode flags (node_at nodes n).marks)

@@ -40,7 +40,8 @@ fn is_wanted(main: &Texts, requested: &Texts, pattern: &[u8]) -> bool
 }
 
 impl<'a, W: World> MadeFacts<'a, W> {
-    /// The facts of what was read, for these requested names, in this world, behind these questions.
+    /// The facts of what was read, for these requested names, in this world, behind these
+    /// questions.
     pub fn new(
         made: &'a Made,
         requested: &'a Texts,
@@ -59,6 +60,13 @@ impl<'a, W: World> MadeFacts<'a, W> {
             world,
             asked,
         }
+    }
+
+    /// What was asked so far, with the answers, in order. Takes no memory.
+    pub fn asked(&self) -> &[Asked]
+        ensures { result.now ≡ self.now.asked.now.items }
+    {
+        self.asked.as_slice()
     }
 
     // Asks the world for the time of a path.

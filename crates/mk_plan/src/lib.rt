@@ -7,6 +7,7 @@
 mod facts;
 mod fault;
 mod law;
+mod lookups;
 mod making;
 mod metas;
 mod names;
@@ -18,6 +19,7 @@ mod tasks;
 pub use facts::MadeFacts;
 pub use fault::{PlanFault, TaskFault};
 pub use law::newer_sources_do_not_count;
+pub use lookups::task_names;
 pub use making::make_plan;
 pub use metas::is_meta;
 pub use names::PlanNames;

@@ -1,7 +1,9 @@
 //! Making a plan.
-ghost use Rattle.std.specs.Prelude.{◌≡◌, ℕ, ◌+◌, ◌<◌, ◌≤◌, ◌^◌, [], ◌∷◌, ◌++◌, length, map, get_or, IsTrue, Ok, IfOk, IfErr, OnOk};
+ghost use Rattle.std.specs.Prelude.{◌≡◌, ℕ, ◌+◌, ◌<◌, ◌≤◌, ◌^◌, [], ◌∷◌, ◌++◌, length, map, get_or};
+ghost use Rattle.std.specs.Prelude.{IsTrue, Ok, IfOk, IfErr, OnOk};
 ghost use Rattle.mk_bytes.specs.Agrees.{Agrees};
-ghost use Rattle.mk_closure.specs.Members.{all_preds, listed, numbers_from, planned_of, sourced_of, sources_in};
+ghost use Rattle.mk_closure.specs.Members.{all_preds, listed, numbers_from, planned_of, sourced_of};
+ghost use Rattle.mk_closure.specs.Members.{sources_in};
 ghost use Rattle.mk_closure.specs.Names.{name_in};
 ghost use Rattle.mk_graph.specs.Numbers.{AreBelow};
 ghost use Rattle.mk_graph.specs.Orders.{IsOrder};
@@ -341,15 +343,16 @@ fn plan_of(
 
 /// The plan of the requested names, or where there are none of the main targets: the nodes of their
 /// closure, each behind its predecessors, which are its sources and then the nodes that are ordered
-/// before it, a source that stands in a directory of `.PATH` by the node of its place; in the order in which a walk over these from the names on is done with them. `.BEGIN`
-/// with commands stands first and before all others, and `.END` with commands last and behind all,
-/// unless it is only asked (`query`) what is to do.
+/// before it, a source that stands in a directory of `.PATH` by the node of its place; in the order
+/// in which a walk over these from the names on is done with them. `.BEGIN` with commands stands
+/// first and before all others, and `.END` with commands last and behind all, unless it is only
+/// asked (`query`) what is to do.
 ///
 /// `NoTarget` exactly where no name is requested and there is no main target; then `NoRule` and
 /// `Limit`, as the closure is refused first; then `Cycle` for the first closed walk over
-/// predecessors, its first name repeated at the end. All this is by what the world was asked and answered: the
-/// plan, or its refusal, is that of all files that fit the answers. `Failed` comes only where the world's count of
-/// faults rose or is at its end.
+/// predecessors, its first name repeated at the end. All this is by what the world was asked and
+/// answered: the plan, or its refusal, is that of all files that fit the answers. `Failed` comes
+/// only where the world's count of faults rose or is at its end.
 pub fn make_plan<W: World>(
     alloc: Global,
     made: &Made,

@@ -56,6 +56,11 @@ fn part_refers(part: &Part) -> bool
         Part::Double => false,
         Part::Lone => false,
         Part::Short(byte) => is_oodate(&[*byte]),
+        Part::Named {
+            round: _,
+            name,
+            mods,
+        } => is_oodate(name.bytes()) || mods_refer(mods),
         Part::Ref {
             round: _,
             name,

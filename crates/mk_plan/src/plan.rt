@@ -40,8 +40,8 @@ pub struct PlanNode {
     pub marks: Marks,
 }
 
-/// Nodes in the order in which one job would make them: each stands behind its predecessors, which its
-/// sources are among.
+/// Nodes in the order in which one job would make them: each stands behind its predecessors, which
+/// its sources are among.
 #[derive(Drop)]
 pub struct Plan {
     nodes: Items<PlanNode>,
@@ -70,14 +70,21 @@ impl Plan {
         }
     }
 
-    /// The plan of these nodes, each of which stands behind its predecessors and has its sources among
-    /// them.
+    /// The plan of these nodes, each of which stands behind its predecessors and has its sources
+    /// among them.
     pub fn of(nodes: Items<PlanNode>) -> Plan
         requires ordered { IsTrue (are_ordered 0 nodes) }
         requires sourced { IsTrue (are_sourced nodes) }
         ensures { result ≡ nodes }
     {
         Plan { nodes }
+    }
+
+    /// The nodes, in order. Takes no memory.
+    pub fn nodes(&self) -> &[PlanNode]
+        ensures { result.now ≡ self.now }
+    {
+        self.nodes.as_slice()
     }
 
     /// How many nodes there are. Takes no memory.

@@ -1,5 +1,6 @@
 //! What holds of plans.
-ghost use Rattle.mk_plan.specs.PlanLaws.{DependenceGoesBack, PlannedNamesDiffer, PlansAreReached, PlansAreSourced};
+ghost use Rattle.mk_plan.specs.PlanLaws.{DependenceGoesBack, PlannedNamesDiffer, PlansAreReached};
+ghost use Rattle.mk_plan.specs.PlanLaws.{PlansAreSourced};
 
 /// A node of a plan stands behind all that it depends on through sources.
 pub fn dependence_goes_back()
@@ -11,8 +12,8 @@ pub fn plans_have_their_sources()
     ensures { PlansAreSourced }
 {}
 
-/// A plan has exactly the nodes that are reached from the wanted names, each once, and perhaps `.BEGIN`
-/// before and `.END` behind them.
+/// A plan has exactly the nodes that are reached from the wanted names, each once, and perhaps
+/// `.BEGIN` before and `.END` behind them.
 pub fn planned_nodes_are_reached()
     ensures { PlansAreReached }
 {}

@@ -1,5 +1,6 @@
 //! The task of a node: its command lines, expanded.
-ghost use Rattle.std.specs.Prelude.{◌≡◌, ◌<◌, ◌+◌, ◌^◌, [], length, position, Ok, IfSome, IfOk, IfErr, if◌then◌else◌};
+ghost use Rattle.std.specs.Prelude.{◌≡◌, ◌<◌, ◌+◌, ◌^◌, [], length, position, Ok, IfSome, IfOk};
+ghost use Rattle.std.specs.Prelude.{IfErr, if◌then◌else◌};
 ghost use Rattle.mk_bytes.specs.Agrees.{Agrees};
 ghost use Rattle.mk_values.specs.Calls.{Asks};
 ghost use Rattle.mk_values.specs.Facts.{Means, RefusedBehind as RefusedText};
@@ -145,7 +146,7 @@ pub fn names_at(alloc: Global, plan: &Plan, places: &Nodes) -> Result<Texts, NoM
     Ok(names)
 }
 
-fn locals_of(
+pub(crate) fn locals_of(
     alloc: Global,
     suffixes: &Texts,
     plan: &Plan,
@@ -169,12 +170,13 @@ fn locals_of(
 /// The task of a node of a plan: its command lines, expanded with its local names, where these of
 /// its sources are newer than it. `@` before a line's text makes it silent, `-` ignored and `+`
 /// always run; the options and the attributes `.SILENT` and `.IGNORE` make all lines so, and a true
-/// `silent` of `.MAKE.MODE` those of a node in meta mode silent. A line whose raw text has a reference
-/// with the plain name `.OODATE` or `?` anywhere in it is not compared with that of another build.
+/// `silent` of `.MAKE.MODE` those of a node in meta mode silent. A line whose raw text has a
+/// reference with the plain name `.OODATE` or `?` anywhere in it is not compared with that of
+/// another build.
 ///
-/// A fault has the number of its line, the first such, counted from 1; it is `Failed` only where the
-/// count of the facts rose in this call or is at its end. The questions of `exists` are those of the
-/// lines up to it.
+/// A fault has the number of its line, the first such, counted from 1; it is `Failed` only where
+/// the count of the facts rose in this call or is at its end. The questions of `exists` are those
+/// of the lines up to it.
 pub fn task<F: Facts>(
     alloc: Global,
     plan: &Plan,

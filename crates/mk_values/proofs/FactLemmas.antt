@@ -6,7 +6,8 @@ use Rattle.mk_bytes.specs.Agrees.{Agrees, AgreesErr, AgreesBut}
 use Rattle.mk_values.specs.Calls.{Asks, Extends, Gives, Keeps}
 use Rattle.mk_pieces.proofs.PieceLemmas.{Begins-trans}
 use Rattle.mk_values.specs.declared.run.Run.{Run}
-use Rattle.mk_values.specs.Evaluators.{Answer, Counted, Progress, answer_then, behind, progress}
+use Rattle.mk_values.specs.Evaluators.{Answer, Counted, Progress, answer_then, behind}
+use Rattle.mk_values.specs.Evaluators as of_progress
 use Rattle.mk_values.specs.Value.{questions_of, with_asked}
 use Rattle.mk_values.specs.Facts.{Answers, AnsweredBy, AsksMore, IsOutside, Lists, RefusedBehind}
 use Rattle.mk_values.specs.declared.facts.Asked.{Asked}
@@ -161,28 +162,28 @@ pub fault_of_all : {Y Z : Type 0} {p : Progress} (fault : ExpandFault) (first : 
 fault_of_all fault first next (inl free) = inl free
 fault_of_all fault first next (inr is) = inr (ap (λ one. answer_then one next) is)
 
-abbrev with_references : {X : Type 0} → ℕ → Result (X × List Asked) ExpandFault → Answer X
-with_references references (Ok told) = Ok (told.0, progress references told.1)
-with_references references (Err fault) = Err (fault, progress references [])
+abbrev told_at : {X : Type 0} → Progress → Result (X × List Asked) ExpandFault → Answer X
+told_at p (Ok told) = Ok (told.0, of_progress.with_asked p told.1)
+told_at p (Err fault) = Err (fault, p)
 
 -- the progress behind the answer of a fact
-pub agrees_progress : {X : Type 0} (references : ℕ) (asked : List Asked)
+pub agrees_progress : {X : Type 0} (p : Progress) (asked : List Asked)
     (answer : Result X ExpandFault) (told : X × List Asked)
     → AgreesBut IsOutside (λ value. (value, asked)) answer (Ok told)
-    → Gives (λ value. value) (progress references asked) answer
-    (Ok (told.0, progress references told.1))
-agrees_progress references asked (Ok x) told is = ap (with_references references) is
-agrees_progress references asked (Err fault) told (inl free) = inl free
-agrees_progress references asked (Err fault) told (inr is) = absurd cc
+    → Gives (λ value. value) (of_progress.with_asked p asked) answer
+    (Ok (told.0, of_progress.with_asked p told.1))
+agrees_progress p asked (Ok x) told is = ap (told_at p) is
+agrees_progress p asked (Err fault) told (inl free) = inl free
+agrees_progress p asked (Err fault) told (inr is) = absurd cc
 
 -- the questions in place of the progress
-pub agrees_asked : {X : Type 0} (references : ℕ) (asked : List Asked) (answer : Result X ExpandFault)
-    (defined : Answer X)
-    → Gives (λ value. value) (progress references asked) answer defined
-    → AgreesBut {Y = X × List Asked} IsOutside (λ value. (value, asked)) answer (with_asked defined)
-agrees_asked references asked (Ok x) defined is = ap with_asked is
-agrees_asked references asked (Err fault) defined (inl free) = inl free
-agrees_asked references asked (Err fault) defined (inr is) = inr (ap with_asked is)
+pub agrees_asked : {X : Type 0} (p : Progress) (answer : Result X ExpandFault) (defined : Answer X)
+    → Gives (λ value. value) p answer defined
+    → AgreesBut {Y = X × List Asked} IsOutside (λ value. (value, p.asked)) answer
+    (with_asked defined)
+agrees_asked p (Ok x) defined is = ap with_asked is
+agrees_asked p (Err fault) defined (inl free) = inl free
+agrees_asked p (Err fault) defined (inr is) = inr (ap with_asked is)
 
 refused_one : {X : Type 0} (fault : ExpandFault) (p : Progress) (defined : Answer X)
     → IsOutside fault ⊎ (defined ≡ Err (fault, p))
@@ -191,11 +192,11 @@ refused_one fault p defined (inl free) = inl free
 refused_one fault p defined (inr is) = inr (ap questions_of is)
 
 -- the questions behind a fault
-pub refused_behind : {X : Type 0} (references : ℕ) (asked : List Asked) (answer : Result X ExpandFault)
+pub refused_behind : {X : Type 0} (p : Progress) (answer : Result X ExpandFault)
     (defined : Answers → Answer X)
-    → ((answers : Answers) → AnsweredBy answers asked
-    → Gives (λ value. value) (progress references asked) answer (defined answers))
-    → RefusedBehind asked answer (λ answers. questions_of (defined answers))
-refused_behind references asked (Ok x) defined told = tt
-refused_behind references asked (Err fault) defined told = λ answers by.
-    refused_one fault (progress references asked) (defined answers) (told answers by)
+    → ((answers : Answers) → AnsweredBy answers p.asked
+    → Gives (λ value. value) p answer (defined answers))
+    → RefusedBehind p.asked answer (λ answers. questions_of (defined answers))
+refused_behind p (Ok x) defined told = tt
+refused_behind p (Err fault) defined told = λ answers by.
+    refused_one fault p (defined answers) (told answers by)

@@ -9,7 +9,8 @@ use Rattle.mk_bytes.specs.Texts.{is_among}
 use Rattle.mk_bytes.specs.declared.pair.Pair.{Pair}
 use Rattle.mk_values.specs.Calls.{Gives}
 use Rattle.mk_values.specs.Chains.{chained, defined_as}
-use Rattle.mk_values.specs.Evaluators.{Answer, Counted, Finder, Progress, ◌>>=◌, answer_then, behind, gives, tried}
+use Rattle.mk_values.specs.Evaluators.{Answer, Counted, Finder, Progress, ◌>>=◌, answer_then}
+use Rattle.mk_values.specs.Evaluators.{behind, gives, noting, tried}
 use Rattle.mk_values.specs.Limits.{appended, max_text}
 use Rattle.mk_values.specs.Names.{Context, in_name, last_value, raw_of}
 use Rattle.mk_values.specs.Parts.{reference_appended, shown}
@@ -27,22 +28,23 @@ pub lends : (open_names : List (List ℕ)) (bound : List Pair) (one : tree.Part)
     → IsNamed one name → length name ≤ max_text
     → is_among open_names name ≡ false → last_value bound name ≡ Some word
     → has_dollar word ≡ false → length word ≤ max_text
-    → Lends open_names bound one word
+    → Lends open_names bound one name word
 lends open_names bound one name word named short among is none fits find c p opened same =
     let above : raw_of c name ≡ Ok (Some word) = rw (same, is) refl in
     let shut : is_among c.open_names name ≡ false = rw opened among in
     let small : nat_lt max_text (length {A = ℕ} [] + length word) ≡ false =
     grind (arith, nat_tests, fits) in
-    let value : (variable find c p name).answer ≡ Ok (defined_as word, p) =
+    let value : (variable find c p name).answer ≡ Ok (defined_as word, noting name p) =
     ap (λ (one : Counted Found). one.answer) (variable-plain find c p name word shut above none)
     ∙ rw small refl in
     ap (λ one. one.answer) (named find c p)
     ∙ ap (λ (text : Counted (List ℕ)). (text >>= λ n. variable find c n.1 n.0
     >>= λ v. chained find (in_name c) v.1 n.0 v.0 no_mods).answer)
     (tree_value-plain find (in_name c) p name short)
-    ∙ ap (λ (one : Answer Found). answer_then one (λ v. chained find (in_name c) v.1 name v.0 no_mods))
+    ∙ ap (λ (one : Answer Found). answer_then one
+    (λ v. chained find (in_name c) v.1 name v.0 no_mods))
     value
-    ∙ ap (λ one. one.answer) (chained_none find (in_name c) p name (defined_as word))
+    ∙ ap (λ one. one.answer) (chained_none find (in_name c) (noting name p) name (defined_as word))
 
 -- what such a word gives behind a text
 appended-lent : (find : Finder) (c : Context) (p q : Progress) (text : List ℕ) (one : tree.Part)
@@ -51,7 +53,8 @@ appended-lent : (find : Finder) (c : Context) (p q : Progress) (text : List ℕ)
     → (reference_appended find c p text one).answer ≡ behind (appended text word) q
 appended-lent find c p q text one word is =
     ap (λ (found : Answer Found). answer_then
-    (answer_then found (λ f. gives (shown c.keep one f.0) f.1)) (λ v. tried (appended text v.0) v.1)) is
+    (answer_then found (λ f. gives (shown c.keep one f.0) f.1))
+    (λ v. tried (appended text v.0) v.1)) is
 
 pub gives-lent : {X : Type 0} (find : Finder) (c : Context) (p q : Progress) (text : List ℕ)
     (one : tree.Part) (word : List ℕ) (view : X → List ℕ) (answer : Result X ExpandFault)
@@ -71,4 +74,5 @@ pub gives-not : (find : Finder) (c : Context) (p : Progress) (text : List ℕ) (
     → (reference_appended find c p text one).answer ≡ Err (fault, p)
 gives-not find c p text one fault is =
     ap (λ (found : Counted Found). answer_then
-    (answer_then found.answer (λ f. gives (shown c.keep one f.0) f.1)) (λ v. tried (appended text v.0) v.1)) is
+    (answer_then found.answer (λ f. gives (shown c.keep one f.0) f.1))
+    (λ v. tried (appended text v.0) v.1)) is

@@ -2,6 +2,8 @@ pub mod ChainLemmas
 pub mod ConditionLemmas
 pub mod FactLemmas
 pub mod FaultLemmas
+pub mod KeepingLemmas
+pub mod KeptLemmas
 pub mod LentLemmas
 pub mod NameLemmas
 pub mod NeverLemmas

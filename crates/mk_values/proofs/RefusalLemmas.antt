@@ -1,5 +1,5 @@
 -- What is known of an answer that is a refusal.
-use Rattle.std.proofs.Common.{◌≡◌, ◌⊎◌, ℕ, List, Result, Ok, Err, refl}
+use Rattle.std.proofs.Common.{◌≡◌, ◌⊎◌, ℕ, List, Option, Result, Ok, Err, refl}
 use Rattle.std.proofs.Common.{IsErrAnd, OnOk}
 use Rattle.mk_ast.specs.declared.fault.AstFault.{AstFault}
 use Rattle.mk_ast.specs.declared.fault.AstFault.TheVariants as of_trees
@@ -22,6 +22,10 @@ never-of_tree of_trees.NoMemory is = cc
 
 pub Keeps-same : (run : Run) → Keeps run run
 Keeps-same run = record { open_names = refl; bound = refl; region = refl }
+
+pub Keeps-noted : (run : Run) (noted : Option (List (List ℕ)))
+    → Keeps run (record run { noted = noted })
+Keeps-noted run noted = record { open_names = refl; bound = refl; region = refl }
 
 module _ {A : Type 0} where
   -- a run behind a call that went well and one more call

@@ -8,8 +8,7 @@ use Rattle.mk_ast.specs.Tree.{Tree, end, part, plain}
 use Rattle.mk_ast.specs.Tree as tree
 use Rattle.mk_ast.specs.View.{part_view, tree_view}
 use Rattle.mk_ast.specs.declared.tree.Part.{Part}
-use Rattle.mk_values.specs.Evaluators.{Finder, Progress, ◌>>=◌, gives, progress, tried}
-use Rattle.mk_values.specs.declared.facts.Asked.{Asked}
+use Rattle.mk_values.specs.Evaluators.{Finder, Progress, ◌>>=◌, gives, progress_with, tried}
 use Rattle.mk_values.specs.Limits.{MayOpen, MayNotOpen, appended}
 use Rattle.mk_values.specs.Names.{Context}
 use Rattle.mk_values.specs.Parts.{part_appended, joined, tree_value}
@@ -78,25 +77,23 @@ pub old_text_none : (find : Finder) (c : Context) (p : Progress) (from before : 
 old_text_none find c p from before ends none = rw (← ends, without_start-none before none) refl
 
 -- a reference that may not be opened
-pub found-not : (room references : ℕ) (asked : List Asked) (c : Context) (one : tree.Part)
-    (fault : ExpandFault)
-    → MayNotOpen room references fault
-    → found_at room c (progress references asked) one ≡ tried (Err fault) (progress references asked)
+pub found-not : (room : ℕ) (p : Progress) (c : Context) (one : tree.Part) (fault : ExpandFault)
+    → MayNotOpen room p.references fault → found_at room c p one ≡ tried (Err fault) p
 unfolding found_at
-found-not zero references asked c one fault (inl deep) = rw deep.1 refl
-found-not (suc room) references asked c one fault (inl deep) = absurd (omega (arith, deep.0))
-found-not zero references asked c one fault (inr many) = absurd (omega (arith, many.0))
-found-not (suc room) references asked c one fault (inr many) =
+found-not zero p c one fault (inl deep) = rw deep.1 refl
+found-not (suc room) p c one fault (inl deep) = absurd (omega (arith, deep.0))
+found-not zero p c one fault (inr many) = absurd (omega (arith, many.0))
+found-not (suc room) p c one fault (inr many) =
     rw many.2 (grind (arith, nat_tests, many.1))
 
 -- a reference that is opened
-pub found-may : (room references after : ℕ) (asked : List Asked) (c : Context) (one : tree.Part)
-    → MayOpen room references × (after ≡ references + 1)
-    → found_at room c (progress references asked) one
-    ≡ found (found_at (room - 1)) c (progress after asked) one
+pub found-may : (room after : ℕ) (p : Progress) (c : Context) (one : tree.Part)
+    → MayOpen room p.references × (after ≡ p.references + 1)
+    → found_at room c p one
+    ≡ found (found_at (room - 1)) c (progress_with p.noted after p.asked) one
 unfolding found_at
-found-may zero references after asked c one may = absurd (omega (arith, may.0.0))
-found-may (suc room) references after asked c one may =
-    let few : nat_lt references 1048576 ≡ true = grind (arith, nat_tests, may.0.1) in
+found-may zero after p c one may = absurd (omega (arith, may.0.0))
+found-may (suc room) after p c one may =
+    let few : nat_lt p.references 1048576 ≡ true = grind (arith, nat_tests, may.0.1) in
     let one_less : suc room - 1 ≡ room = omega arith in
     rw (few, one_less, may.1) refl

@@ -1,10 +1,10 @@
 -- What one call of an evaluation is given, and what it leaves.
-use Rattle.std.specs.Prelude.{◌≡◌, ◌⊎◌, ℕ, Bool, false, List, [], Result, Ok, Err}
+use Rattle.std.specs.Prelude.{◌≡◌, ◌⊎◌, ℕ, Bool, false, List, [], Option, Result, Ok, Err}
 use Rattle.mk_pieces.specs.Pieces.{Begins}
 use Rattle.mk_scopes.specs.Scopes.{Variables}
 use Rattle.mk_world.specs.Causes.{HasCause}
 use Rattle.mk_values.specs.Chains.{Chain}
-use Rattle.mk_values.specs.Evaluators.{Answer, Counted, Progress, progress}
+use Rattle.mk_values.specs.Evaluators.{Answer, Counted, Progress, progress_with}
 use Rattle.mk_values.specs.Facts.{Answers, AnsweredBy, AsksMore, IsOutside, Lists}
 use Rattle.mk_values.specs.declared.facts.Asked.{Asked}
 use Rattle.mk_values.specs.declared.facts.Facts.{Ghosts}
@@ -31,10 +31,10 @@ here variables locals lists run keep answers = record {
 
 -- how far the evaluation is
 abbrev pub at : Run → List Asked → Progress
-at run asked = progress run.references asked
+at run asked = progress_with run.noted run.references asked
 
--- A call's answer, seen by `view`, is what is defined, and so is the progress behind it, also behind a
--- fault. Want of memory and a failure of the outside may stand in place of any answer.
+-- A call's answer, seen by `view`, is what is defined, and so is the progress behind it, also
+-- behind a fault. Want of memory and a failure of the outside may stand in place of any answer.
 abbrev pub Gives : {X Y : Type 0} → (X → Y) → Progress → Result X ExpandFault → Answer Y → Type 0
 Gives view p (Ok given) defined = defined ≡ Ok (view given, p)
 Gives view p (Err fault) defined = IsOutside fault ⊎ (defined ≡ Err (fault, p))
@@ -79,8 +79,8 @@ pub record Extends (old new : Run) : Type 0 where
   pub bound : new.bound.items ≡ old.bound.items
   pub begins : Begins old.region.bytes new.region.bytes
 
--- What a call asks of the facts: they lead from one to the other, the lists stay, questions are only
--- added, and a failure has its cause.
+-- What a call asks of the facts: they lead from one to the other, the lists stay, questions are
+-- only added, and a failure has its cause.
 pub record Asks {A : Type 0} (leads : Type 0) (old_lists new_lists : Lists) (old new : List Asked)
     (before after : ℕ) (answer : Result A ExpandFault) : Type 0
   where
@@ -95,6 +95,7 @@ AsksOf meaning before after answer =
     Asks (meaning.leads before after) (meaning.lists before) (meaning.lists after)
     (meaning.asked before) (meaning.asked after) (meaning.faults before) (meaning.faults after) answer
 
--- a run before its first reference
-abbrev pub IsFirst : Run → Type 0
-IsFirst run = (run.open_names ≡ []) × (run.bound.items ≡ []) × (run.references ≡ 0)
+-- a run before its first reference, in which the names are kept behind these
+abbrev pub IsFirst : Option (List (List ℕ)) → Run → Type 0
+IsFirst noted run =
+    (run.open_names ≡ []) × (run.bound.items ≡ []) × (run.references ≡ 0) × (run.noted ≡ noted)

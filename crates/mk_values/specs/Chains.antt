@@ -13,7 +13,8 @@ use Rattle.mk_mods.specs.Modifiers.{apply}
 use Rattle.mk_mods.specs.Results.{no_results, with_result}
 use Rattle.mk_mods.specs.State.{State, plain, text_of, words_of, with_items, items_of}
 use Rattle.mk_mods.specs.declared.modifier.Mod.{Mod}
-use Rattle.mk_mods.specs.declared.modifier.Mod.TheVariants.{Keep, Without, Subst, Suffix, Head, Tail}
+use Rattle.mk_mods.specs.declared.modifier.Mod.TheVariants.{Keep, Without, Subst, Suffix, Head}
+use Rattle.mk_mods.specs.declared.modifier.Mod.TheVariants.{Tail}
 use Rattle.mk_mods.specs.declared.modifier.Mod.TheVariants.{Root, Extension, Sort, SortBack, Unique}
 use Rattle.mk_mods.specs.declared.modifier.Mod.TheVariants.{Lower, Upper, Quote, QuoteDollar}
 use Rattle.mk_mods.specs.declared.modifier.Mod.TheVariants.{Separator, OneWord, ManyWords, Select}
@@ -145,8 +146,8 @@ chosen find c p name first second =
     >>= λ cond. truth_of find c cond.1 cond.0
     >>= λ t. tree_value find c t.1 (if t.0 then first else second)
 
--- The body of `:@` for each word, for which its variable stands, behind the results so far. They are
--- too long from the first one on with which their printed text is.
+-- The body of `:@` for each word, for which its variable stands, behind the results so far. They
+-- are too long from the first one on with which their printed text is.
 unfoldable pub each_behind : Finder → Context → Progress → List ℕ → Tree → State → List (List ℕ)
     → Counted State
 each_behind find c p name body results [] = gives results p

@@ -18,8 +18,9 @@ use Rattle.mk_cond.specs.declared.walk.Leaf.{Leaf}
 use Rattle.mk_cond.specs.declared.walk.Leaf.TheVariants as leaves
 use Rattle.mk_cond.specs.View.{side_view}
 use Rattle.mk_ast.specs.View.{tree_view}
-use Rattle.mk_values.specs.Evaluators.{Progress, Counted, Finder, ◌>>=◌, either, gives, looking, tried}
-use Rattle.mk_values.specs.Evaluators.{with_asked}
+use Rattle.mk_values.specs.Evaluators.{Progress, Counted, Finder, ◌>>=◌, either, gives, looking}
+use Rattle.mk_values.specs.Evaluators.{tried}
+use Rattle.mk_values.specs.Evaluators.{noting, with_asked}
 use Rattle.mk_values.specs.Facts.{Answers, Lists, fact_of, asked_with}
 use Rattle.mk_values.specs.declared.facts.Asked.{Asked}
 use Rattle.mk_values.specs.Names.{Context, is_defined, last_value}
@@ -59,7 +60,8 @@ path_answer c p fun name = fact_answer c p fun (clean c.cwd name)
 
 -- The name is looked up. No value is put together for it.
 abbrev pub defined_answer : Context → Progress → List ℕ → Counted Bool
-defined_answer c p name = looking name (gives (is_defined (last_value c.bound name) (c.raw name)) p)
+defined_answer c p name =
+    looking name (gives (is_defined (last_value c.bound name) (c.raw name)) (noting name p))
 
 -- The answer of a function to the value of its argument, which is trimmed. Paths are cleaned.
 abbrev pub answer_of : Context → Progress → Fun → List ℕ → Counted Bool

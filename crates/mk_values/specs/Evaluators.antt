@@ -1,33 +1,49 @@
 -- How far an evaluation is, what it gives, and what evaluates references.
-use Rattle.std.specs.Prelude.{ℕ, ◌+◌, Bool, List, [], ◌∷◌, ◌++◌, Result, Ok, Err, if◌then◌else◌}
+use Rattle.std.specs.Prelude.{ℕ, ◌+◌, Bool, List, [], ◌∷◌, ◌++◌, Option, Some, None, Result, Ok}
+use Rattle.std.specs.Prelude.{Err}
+use Rattle.std.specs.Prelude.{if◌then◌else◌}
 use Rattle.mk_ast.specs.Tree.{Part}
 use Rattle.mk_values.specs.declared.facts.Asked.{Asked}
 use Rattle.mk_values.specs.Names.{Context}
 use Rattle.mk_values.specs.declared.chain.Found.{Found}
 use Rattle.mk_values.specs.declared.fault.ExpandFault.{ExpandFault}
 
--- the number of references evaluated so far, and the paths that `exists` was asked of, with the
--- answers
+-- the number of references evaluated so far; the paths that `exists` was asked of, with the
+-- answers; and the names that were looked up, where they are kept
 pub record Progress : Type 0 where
   pub references : ℕ
   pub asked : List Asked
+  pub noted : Option (List (List ℕ))
 
+abbrev pub progress_with : Option (List (List ℕ)) → ℕ → List Asked → Progress
+progress_with noted references asked =
+    record { references = references; asked = asked; noted = noted }
+
+-- where no names are kept
 abbrev pub progress : ℕ → List Asked → Progress
-progress references asked = record { references = references; asked = asked }
+progress references asked = progress_with None references asked
 
 abbrev pub with_reference : Progress → Progress
-with_reference p = progress (p.references + 1) p.asked
+with_reference p = progress_with p.noted (p.references + 1) p.asked
 
 abbrev pub with_asked : Progress → List Asked → Progress
-with_asked p asked = progress p.references asked
+with_asked p asked = progress_with p.noted p.references asked
+
+-- a name behind those that are kept
+abbrev pub noted_with : Option (List (List ℕ)) → List ℕ → Option (List (List ℕ))
+noted_with None name = None
+noted_with (Some names) name = Some (names ++ name ∷ [])
+
+abbrev pub noting : List ℕ → Progress → Progress
+noting name p = progress_with (noted_with p.noted name) p.references p.asked
 
 -- What is found, or the first fault, and the progress behind it.
 abbrev pub Answer : Type 0 → Type 0
 Answer A = Result (A × Progress) (ExpandFault × Progress)
 
--- What an evaluation gives: its answer, and the names that are looked up in it, behind those of before.
--- They are the name of each reference that is evaluated, a variable of `:@` too, and each argument of
--- `defined`, in order, as often as they are looked up.
+-- What an evaluation gives: its answer, and the names that are looked up in it, behind those of
+-- before. They are the name of each reference that is evaluated, a variable of `:@` too, and each
+-- argument of `defined`, in order, as often as they are looked up.
 pub record Counted (A : Type 0) : Type 0 where
   pub answer : Answer A
   pub names : List (List ℕ) → List (List ℕ)

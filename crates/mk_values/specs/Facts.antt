@@ -1,5 +1,6 @@
 -- Facts: what conditions ask of what is outside them.
-use Rattle.std.specs.Prelude.{◌≡◌, ◌⊎◌, ℕ, Bool, true, false, List, [], ◌∷◌, ◌++◌, length, slice_get}
+use Rattle.std.specs.Prelude.{◌≡◌, ◌⊎◌, ℕ, Bool, true, false, List, [], ◌∷◌, ◌++◌, length}
+use Rattle.std.specs.Prelude.{slice_get}
 use Rattle.std.specs.Prelude.{Some, Result, Ok, Err}
 use Rattle.std.specs.List.{list_any}
 use Rattle.std.specs.Str.{bytes_eq}
@@ -15,8 +16,8 @@ use Rattle.mk_values.specs.declared.facts.FactFault.TheVariants as of_facts
 use Rattle.mk_values.specs.declared.fault.ExpandFault.{ExpandFault}
 use Rattle.mk_values.specs.declared.fault.ExpandFault.TheVariants.{Failed, NoMemory}
 
--- What answers every fact but `exists`: the requested names, or the main targets so far where none is
--- requested; the targets; and the targets with commands.
+-- What answers every fact but `exists`: the requested names, or the main targets so far where none
+-- is requested; the targets; and the targets with commands.
 pub record Lists : Type 0 where
   pub requested : List (List ℕ)
   pub targets : List (List ℕ)

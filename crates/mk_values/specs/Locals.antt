@@ -1,5 +1,6 @@
 -- The local names: they stand for what is made at the moment.
-use Rattle.std.specs.Prelude.{ℕ, ◌==◌, ◌||◌, ◌&&◌, Bool, false, List, [], ◌∷◌, ◌++◌, Option, Some, None}
+use Rattle.std.specs.Prelude.{ℕ, ◌==◌, ◌||◌, ◌&&◌, Bool, false, List, [], ◌∷◌, ◌++◌, Option, Some}
+use Rattle.std.specs.Prelude.{None}
 use Rattle.std.specs.Prelude.{Result, Ok, is_some, if◌then◌else◌, codes}
 use Rattle.std.specs.Option.{option_map}
 use Rattle.std.specs.Str.{bytes_eq}
@@ -39,8 +40,8 @@ local_named name =
     else (if is_either name (codes ".OODATE") (codes "?") then Some Oodate
     else None))))
 
--- the part of each word that `D` or `F` behind a short form names: its head, as `:H` gives it, or its
--- tail, as `:T` does
+-- the part of each word that `D` or `F` behind a short form names: its head, as `:H` gives it, or
+-- its tail, as `:T` does
 abbrev pub part_named : ℕ → Option Mod
 part_named byte = if byte == 68 then Some Head else (if byte == 70 then Some Tail else None)
 

@@ -11,10 +11,10 @@ use Rattle.mk_values.specs.Locals.{local_raw}
 use Rattle.mk_values.specs.declared.fault.ExpandFault.{ExpandFault}
 use Rattle.mk_values.specs.declared.local.Locals.{Locals}
 
--- What names and facts mean where a text is evaluated: the raw value of a name that is no variable of
--- `:@`, or none, or the fault that there is; the current directory, the lists of facts and the answers
--- of `exists`; the variables of `:@` with the innermost last, the variables whose values are being
--- expanded, and the flag of `:=`.
+-- What names and facts mean where a text is evaluated: the raw value of a name that is no variable
+-- of `:@`, or none, or the fault that there is; the current directory, the lists of facts and the
+-- answers of `exists`; the variables of `:@` with the innermost last, the variables whose values
+-- are being expanded, and the flag of `:=`.
 pub record Context : Type 0 where
   pub raw : List ℕ → Result (Option (List ℕ)) ExpandFault
   pub cwd : List ℕ
@@ -82,7 +82,7 @@ abbrev pub has_value : Result (Option (List ℕ)) ExpandFault → Bool
 has_value (Ok raw) = is_some raw
 has_value (Err fault) = true
 
--- Whether a name has a raw value, also one that is too long: by its value among the variables of `:@`,
--- and by that outside of them.
+-- Whether a name has a raw value, also one that is too long: by its value among the variables of
+-- `:@`, and by that outside of them.
 abbrev pub is_defined : Option (List ℕ) → Result (Option (List ℕ)) ExpandFault → Bool
 is_defined bound raw = is_some bound || has_value raw

@@ -1,6 +1,7 @@
 -- How `:S` is written: the anchors of its old text, and the `&` of its new one. They count where
 -- they are written, and not where a value has them.
-use Rattle.std.specs.Prelude.{ℕ, ◌==◌, Bool, true, false, List, [], ◌∷◌, drop, flat_map, if◌then◌else◌}
+use Rattle.std.specs.Prelude.{ℕ, ◌==◌, Bool, true, false, List, [], ◌∷◌, drop, flat_map}
+use Rattle.std.specs.Prelude.{if◌then◌else◌}
 use Rattle.mk_bytes.specs.Bytes.{ampersand, caret}
 use Rattle.mk_ast.specs.Tree.{Tree, Part, end, part, plain, lone}
 

@@ -1,5 +1,6 @@
 -- The value of a text, and the truth of a condition.
-use Rattle.std.specs.Prelude.{ℕ, zero, suc, Bool, false, nat_lt, List, [], ◌∷◌, Option, Some, None}
+use Rattle.std.specs.Prelude.{ℕ, zero, suc, Bool, false, nat_lt, List, [], ◌∷◌, ◌++◌, Option, Some}
+use Rattle.std.specs.Prelude.{None}
 use Rattle.std.specs.Prelude.{Result, Ok, Err}
 use Rattle.mk_bytes.specs.Texts.{is_among}
 use Rattle.mk_ast.specs.Tree.{Tree, Part, Mods, short, ref}
@@ -7,8 +8,9 @@ use Rattle.mk_cond.specs.Cond.{Cond}
 use Rattle.mk_scopes.specs.Scopes.{Variables}
 use Rattle.mk_values.specs.Chains.{undefined, defined_as, chained}
 use Rattle.mk_values.specs.Conditions.{truth_of}
-use Rattle.mk_values.specs.Evaluators.{Answer, Progress, Counted, Finder, ◌>>=◌, either, gives, looking}
-use Rattle.mk_values.specs.Evaluators.{progress, tried, with_reference}
+use Rattle.mk_values.specs.Evaluators.{Answer, Progress, Counted, Finder, ◌>>=◌, either, gives}
+use Rattle.mk_values.specs.Evaluators.{looking}
+use Rattle.mk_values.specs.Evaluators.{noting, progress, tried, with_reference}
 use Rattle.mk_values.specs.Facts.{Answers, Lists}
 use Rattle.mk_values.specs.declared.facts.Asked.{Asked}
 use Rattle.mk_values.specs.Limits.{max_open, max_references}
@@ -38,10 +40,10 @@ variable_by find c p name raw =
 
 -- A variable, whose name is looked up.
 abbrev pub variable : Finder → Context → Progress → List ℕ → Counted Found
-variable find c p name = looking name (variable_by find c p name (raw_of c name))
+variable find c p name = looking name (variable_by find c (noting name p) name (raw_of c name))
 
--- The name is expanded first, then the variable's value, and then come the modifiers. Nothing of the
--- name and the modifiers stays as it is written.
+-- The name is expanded first, then the variable's value, and then come the modifiers. Nothing of
+-- the name and the modifiers stays as it is written.
 abbrev pub reference : Finder → Context → Progress → Tree → Mods → Counted Found
 reference find c p name mods =
     tree_value find (in_name c) p name
@@ -115,3 +117,17 @@ truth variables locals lists answers asked cond =
 abbrev pub names : Variables → Locals → Lists → Answers → Bool → List Asked → Tree → List (List ℕ)
 names variables locals lists answers keep asked tree =
     (of_tree variables locals lists answers keep asked tree).names []
+
+-- these names and the questions, where something is found, or the first fault
+abbrev pub names_where : {A : Type 0} → Answer A → List (List ℕ)
+    → Result (List (List ℕ) × List Asked) ExpandFault
+names_where (Ok found) names = Ok (names, found.1.asked)
+names_where (Err fault) names = Err fault.0
+
+-- The names of before, and behind them those that are looked up where a tree is evaluated; or its
+-- first fault.
+abbrev pub names_behind : Variables → Locals → Lists → Answers → List Asked → Tree → List (List ℕ)
+    → Result (List (List ℕ) × List Asked) ExpandFault
+names_behind variables locals lists answers asked tree before =
+    names_where (of_tree variables locals lists answers false asked tree).answer
+    (before ++ names variables locals lists answers false asked tree)

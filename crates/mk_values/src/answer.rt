@@ -1,10 +1,10 @@
 //! The answers of functions to the values of their arguments, and sides that have to be defined.
-ghost use Rattle.std.specs.Prelude.{◌≡◌, false, IsTrue, Ok};
+ghost use Rattle.std.specs.Prelude.{◌≡◌, false, IsTrue, Ok, OnOk};
 ghost use Rattle.std.specs.Option.{option_copied, option_map};
 ghost use Rattle.mk_ast.specs.View.{part_view, tree_view};
 ghost use Rattle.mk_bytes.specs.Agrees.{Agrees};
 ghost use Rattle.mk_bytes.specs.Paths.{clean};
-ghost use Rattle.mk_values.specs.Calls.{AsksOf, Finds};
+ghost use Rattle.mk_values.specs.Calls.{AsksOf, Finds, Keeps};
 ghost use Rattle.mk_values.specs.Conditions as spec;
 ghost use Rattle.mk_values.specs.Facts.{Means, is_fact};
 ghost use Rattle.mk_values.specs.Names.{is_defined, last_value, raw_in};
@@ -16,7 +16,7 @@ use crate::facts::Facts;
 use crate::fault::ExpandFault;
 use crate::local::is_local;
 use crate::name::{Names, known};
-use crate::run::Run;
+use crate::run::{Run, note};
 use crate::trim::{is_white_alone, trimmed};
 use mk_ast::Part;
 use mk_bytes::{Text, clean_path};
@@ -69,17 +69,22 @@ fn ask_path<F: Facts>(
 /// The answer of a function to the value of its argument.
 pub fn answer_of<F: Facts>(
     names: &Names<'_>,
-    run: &Run,
+    run: &mut Run,
     facts: &mut F,
     fun: Fun,
     value: &[u8],
 ) -> Result<bool, ExpandFault>
-    ensures value { Finds F.Facts names.now false run.now run.now facts.old facts.new result
+    ensures value { Finds F.Facts names.now false run.old run.new facts.old facts.new result
         (λ c p. spec.answer_of c p fun value.now) }
+    ensures run { OnOk result (Keeps run.old run.new) }
     ensures facts { AsksOf F.Facts facts.old facts.new result }
 {
     match fun {
-        Fun::Defined => Ok(is_defined(names, run.bound.as_slice(), trimmed(value))),
+        Fun::Defined => {
+            let name = trimmed(value);
+            note(names.alloc, &mut run.noted, name)?;
+            Ok(is_defined(names, run.bound.as_slice(), name))
+        }
         Fun::Empty => Ok(is_white_alone(value)),
         Fun::Make => ask(names.alloc, facts, fun, trimmed(value)),
         Fun::Exists => ask_path(names, facts, fun, trimmed(value)),
@@ -93,6 +98,11 @@ fn is_reference(part: &Part) -> bool
 {
     match part {
         Part::Short(_) => true,
+        Part::Named {
+            round: _,
+            name: _,
+            mods: _,
+        } => true,
         Part::Ref {
             round: _,
             name: _,

@@ -13,8 +13,8 @@ use mk_bytes::{NoMemory, Text, is_among};
 use std::alloc::Global;
 use std::marker::Model;
 
-/// A variable of `:@`, and the word for which it stands. Contracts see the pair of its name and that
-/// word.
+/// A variable of `:@`, and the word for which it stands. Contracts see the pair of its name and
+/// that word.
 #[derive(Drop)]
 pub struct Binding {
     name: Text,
@@ -102,6 +102,11 @@ fn plain_name<'t>(part: &'t Part) -> Option<&'t [u8]>
     ensures short { IfSome result (λ name. length name.now ≤ max_text) }
 {
     match part {
+        Part::Named {
+            round: _,
+            name,
+            mods,
+        } if mods.is_empty() && name.len() <= MAX_TEXT => Some(name.bytes()),
         Part::Ref {
             round: _,
             name,
@@ -111,16 +116,20 @@ fn plain_name<'t>(part: &'t Part) -> Option<&'t [u8]>
     }
 }
 
-/// The word that a reference without modifiers finds: that of a variable of `:@` that is not open,
-/// where the word has no `$`.
-pub fn lent_word<'b>(open_names: &[Text], bound: &'b [Binding], part: &Part) -> Option<&'b [u8]>
-    ensures { IfSome result (λ word.
-        Lends open_names.now bound.now (part_view part.now) word.now) }
+/// The name that a reference without modifiers looks up and the word that it finds: that of a
+/// variable of `:@` that is not open, where the word has no `$`.
+pub fn lent_word<'b, 't>(
+    open_names: &[Text],
+    bound: &'b [Binding],
+    part: &'t Part,
+) -> Option<(&'t [u8], &'b [u8])>
+    ensures { IfSome result (λ found.
+        Lends open_names.now bound.now (part_view part.now) found.0.now found.1.now) }
 {
     let name = plain_name(part)?;
     let word = last_value(bound, name)?;
     if word.len() > MAX_TEXT || has_dollar(word) || is_among(open_names, name) {
         return None;
     }
-    Some(word)
+    Some((name, word))
 }

@@ -66,10 +66,10 @@ pub fn given(
     })
 }
 
-/// A chain, whose items are placed anew behind the first `len` bytes of the region where the modifiers
-/// so far have placed more bytes behind those than a text may have. So a long chain does not keep the
-/// texts of all its modifiers: behind those bytes stand no more than a text may have, or than the items
-/// have.
+/// A chain, whose items are placed anew behind the first `len` bytes of the region where the
+/// modifiers so far have placed more bytes behind those than a text may have. So a long chain does
+/// not keep the texts of all its modifiers: behind those bytes stand no more than a text may have,
+/// or than the items have.
 pub fn compacted(
     alloc: Global,
     region: &mut Region,

@@ -68,8 +68,8 @@ pub trait Facts {
     ghost leads: { Self → Self → Type 0 };
 
     /// The answer of a function to an argument, which for all but `make` is a clean path. An answer
-    /// of `exists` is added to `asked`, and nothing else changes that. `Failed` comes only where the
-    /// count of faults rose in this call or is at its end.
+    /// of `exists` is added to `asked`, and nothing else changes that. `Failed` comes only where
+    /// the count of faults rose in this call or is at its end.
     fn fact(&mut self, alloc: Global, fun: Fun, argument: &[u8]) -> Result<bool, FactFault>
         requires { IsTrue (is_fact fun) }
         ensures told { IfOk result (λ answer. IsTold (lists self.old) fun argument.now answer) }

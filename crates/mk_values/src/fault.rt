@@ -4,8 +4,8 @@ use mk_bytes::{NoMemory, Text};
 use mk_cond::{CondFault, NoNumber};
 use mk_mods::ModFault;
 
-/// Why a text has no value, or a condition no truth: the first fault, where a text is read as a whole
-/// before any of it is evaluated, and is evaluated from left to right.
+/// Why a text has no value, or a condition no truth: the first fault, where a text is read as a
+/// whole before any of it is evaluated, and is evaluated from left to right.
 #[derive(Drop)]
 pub enum ExpandFault {
     /// A reference names this variable, whose own value is being expanded.
@@ -21,8 +21,8 @@ pub enum ExpandFault {
     /// The condition of a `:?` has a fault of its grammar at this place, counted from 0. A fault of
     /// a reference in it is `Tree`.
     Cond(usize),
-    /// `<`, `<=`, `>` or `>=` of a condition has a side that is a quoted text or no number. It comes
-    /// after the faults of both sides.
+    /// `<`, `<=`, `>` or `>=` of a condition has a side that is a quoted text or no number. It
+    /// comes after the faults of both sides.
     NoNumber,
     /// A side of a condition is an undefined reference, and nothing else.
     Undefined,

@@ -1,9 +1,10 @@
-//! What texts with references to variables mean (make(1), "VARIABLE ASSIGNMENTS"), and what conditions do;
-//! and the parts of their evaluation in which nothing is evaluated.
+//! What texts with references to variables mean (make(1), "VARIABLE ASSIGNMENTS"), and what
+//! conditions do; and the parts of their evaluation in which nothing is evaluated.
 //!
-//! A value is defined in `specs/Value.antt`, by what names stand for (`specs/Names.antt`), what modifiers do
-//! (`specs/Chains.antt`) and what conditions ask of [`Facts`]. The functions look up names, keep to the
-//! limits, read how modifiers are written, and answer the functions of conditions. mk_expand evaluates.
+//! A value is defined in `specs/Value.antt`, by what names stand for (`specs/Names.antt`), what
+//! modifiers do (`specs/Chains.antt`) and what conditions ask of [`Facts`]. The functions look up
+//! names, keep to the limits, read how modifiers are written, and answer the functions of
+//! conditions. mk_expand evaluates.
 #![tactic(auto)]
 
 mod answer;
@@ -27,9 +28,9 @@ pub use chain::{
 };
 pub use facts::{Asked, FactFault, Facts};
 pub use fault::ExpandFault;
-pub use limit::{MAX_OPEN, append, open_reference};
+pub use limit::{MAX_OPEN, MAX_TEXT, append, open_reference};
 pub use local::Locals;
 pub use name::{Names, known, raw_above};
 pub use plain::{double, has_dollar, plain_bytes, plain_value};
-pub use run::Run;
+pub use run::{Run, note};
 pub use substitution::{append_with_old, at_end, at_start, has_flag, starting, without_end};

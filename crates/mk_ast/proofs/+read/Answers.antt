@@ -14,7 +14,7 @@ use Rattle.mk_ast.proofs.Turns.{after_parts, after_mods, after_parts-more, after
 use Rattle.mk_ast.proofs.Turns.{tree_append-end, mods_append-none, text_at-over, text_at-more}
 use Rattle.mk_ast.proofs.Turns.{mods_at-unclosed, mods_at-closed, mods_at-more, ref_at-more}
 use Rattle.mk_ast.proofs.Turns.{argument_at-made, new_at-more, subst_at-more}
-use Rattle.mk_ast.proofs.Views.{view-Ref, view-Subst, view-Select, view-Choose, view-Suffix}
+use Rattle.mk_ast.proofs.Views.{view-Named, view-Ref, view-Subst, view-Select, view-Choose, view-Suffix}
 use Rattle.mk_ast.proofs.Views.{tree_view-append, mods_view-append}
 use Rattle.mk_ast.proofs.+read.Goals as goal
 
@@ -94,20 +94,6 @@ pub read::ref_at-returns-then-level-eq0-clause-gives
 unfolding ref_at
 read::ref_at-returns-then-level-eq0-clause-gives t c = rw c.if-level-eq0.true (inr refl)
 
-pub read::ref_at-returns-in_err-name-clause-gives
-    : goal.read::ref_at-returns-in_err-name-clause-gives
-read::ref_at-returns-in_err-name-clause-gives t c =
-    let is = err_from_is_err_and c.from_residual.result c.from_residual.ensures.1 in
-    let fault = c.in_err-name.field-0.0 in
-    rw (
-      is.1,
-      is.2,
-      ref_at-more c.args.level.total c.args.level.depth c.args.round c.args.text.now
-          c.if-level-eq0.false,
-    )
-    (AgreesErr-bind no_memory fault _ _
-    (AgreesErr-bind no_memory fault _ _ c.in_err-name.ensures.gives))
-
 pub read::ref_at-returns-in_err-mods-clause-gives
     : goal.read::ref_at-returns-in_err-mods-clause-gives
 read::ref_at-returns-in_err-mods-clause-gives t c =
@@ -119,19 +105,64 @@ read::ref_at-returns-in_err-mods-clause-gives t c =
       is.2,
       ref_at-more c.args.level.total c.args.level.depth c.args.round c.args.text.now
           c.if-level-eq0.false,
-      c.in_ok-name.ensures.gives,
+      c.in-Some.ensures.plain (ref_at c.args.level.total (c.args.level.depth - 1)),
+      ← c.split_at.ensures.back,
     )
     (AgreesErr-bind no_memory fault _ _
     (AgreesErr-bind no_memory fault _ _ c.in_err-mods.ensures.gives))
+
+pub read::ref_at-returns-in-Some-clause-gives : goal.read::ref_at-returns-in-Some-clause-gives
+read::ref_at-returns-in-Some-clause-gives t c =
+    rw (
+      ref_at-more c.args.level.total c.args.level.depth c.args.round c.args.text.now
+          c.if-level-eq0.false,
+      c.in-Some.ensures.plain (ref_at c.args.level.total (c.args.level.depth - 1)),
+      ← c.split_at.ensures.back,
+      c.in_ok-mods.ensures.gives,
+      view-Named c.args.round c.in_ok-name.name c.in_ok-mods.mods,
+      c.in_ok-name.ensures,
+      c.split_at.ensures.front,
+    ) refl
+
+pub read::ref_at-returns-in_err-name-2-clause-gives
+    : goal.read::ref_at-returns-in_err-name-2-clause-gives
+read::ref_at-returns-in_err-name-2-clause-gives t c =
+    let is = err_from_is_err_and c.from_residual-in_err-name-2.result
+    c.from_residual-in_err-name-2.ensures.1 in
+    let fault = c.in_err-name-2.field-0.0 in
+    rw (
+      is.1,
+      is.2,
+      ref_at-more c.args.level.total c.args.level.depth c.args.round c.args.text.now
+          c.if-level-eq0.false,
+    )
+    (AgreesErr-bind no_memory fault _ _
+    (AgreesErr-bind no_memory fault _ _ c.in_err-name-2.ensures.gives))
+
+pub read::ref_at-returns-in_err-mods-2-clause-gives
+    : goal.read::ref_at-returns-in_err-mods-2-clause-gives
+read::ref_at-returns-in_err-mods-2-clause-gives t c =
+    let is = err_from_is_err_and c.from_residual-in_err-mods-2.result
+    c.from_residual-in_err-mods-2.ensures.1 in
+    let fault = c.in_err-mods-2.field-0.0 in
+    rw (
+      is.1,
+      is.2,
+      ref_at-more c.args.level.total c.args.level.depth c.args.round c.args.text.now
+          c.if-level-eq0.false,
+      c.in_ok-name-2.ensures.gives,
+    )
+    (AgreesErr-bind no_memory fault _ _
+    (AgreesErr-bind no_memory fault _ _ c.in_err-mods-2.ensures.gives))
 
 pub read::ref_at-returns-clause-gives : goal.read::ref_at-returns-clause-gives
 read::ref_at-returns-clause-gives t c =
     rw (
       ref_at-more c.args.level.total c.args.level.depth c.args.round c.args.text.now
           c.if-level-eq0.false,
-      c.in_ok-name.ensures.gives,
-      c.in_ok-mods.ensures.gives,
-      view-Ref c.args.round c.in_ok-name.name c.in_ok-mods.mods,
+      c.in_ok-name-2.ensures.gives,
+      c.in_ok-mods-2.ensures.gives,
+      view-Ref c.args.round c.in_ok-name-2.name c.in_ok-mods-2.mods,
     ) refl
 
 pub read::text_at-returns-in_err-part-clause-gives

@@ -2,11 +2,12 @@ use Rattle.std.proofs.Common.{◌≡◌, ℕ, List, ◌+◌, ◌-◌, ◌<◌, �
 use Rattle.std.proofs.lemmas.Grind.{common_steps}
 use Rattle.std.proofs.lemmas.Result.{err_from_is_err_and}
 use Rattle.mk_ast.proofs.Views as trees
-use Rattle.mk_ast.proofs.Views.{view-Plain, view-Escaped, view-Double, view-Lone, view-Short, view-Ref}
+use Rattle.mk_ast.proofs.Views.{view-Plain, view-Escaped, view-Double, view-Lone, view-Short}
+use Rattle.mk_ast.proofs.Views.{view-Named, view-Ref}
 use Rattle.mk_ast.proofs.Views.{view-Keep, view-Without, view-Subst, view-Select, view-Suffix}
 use Rattle.mk_ast.proofs.Views.{view-IfUndefined, view-IfDefined, view-NameOf, view-Choose, view-Each}
 use Rattle.mk_ast.specs.Tree.{range_to}
-use Rattle.mk_ast.specs.View.{mod_view, part_view, tree_view}
+use Rattle.mk_ast.specs.View.{mod_view, mods_view, part_view, tree_view}
 use Rattle.mk_ast.specs.declared.tree.ModTree.{the_lemmas as mod_lemmas}
 use Rattle.mk_bytes.specs.declared.pair.Pair.{Pair}
 use Rattle.mk_bytes.proofs.RefusalLemmas.{holds, refused, refused_if}
@@ -29,11 +30,13 @@ use Rattle.mk_values.proofs.FactLemmas.{Keeps-then, Extends-then, fault_of_all, 
 use Rattle.mk_values.proofs.FaultLemmas.{never-appended, never-raw_above, err_never, fault_never}
 use Rattle.mk_values.proofs.FaultLemmas.{never-of_cond, never-of_mod, never-opened}
 use Rattle.mk_values.proofs.RefusalLemmas.{never-of_tree, refused_as}
-use Rattle.mk_values.proofs.RefusalLemmas.{Asks-refused, Asks-never, Keeps-behind, Keeps-same}
-use Rattle.mk_values.specs.Evaluators.{Counted, gives, progress}
+use Rattle.mk_values.proofs.RefusalLemmas.{Asks-refused, Asks-never, Keeps-behind, Keeps-noted}
+use Rattle.mk_values.proofs.RefusalLemmas.{Keeps-same}
+use Rattle.mk_values.specs.Evaluators.{Counted, gives, noting, progress_with}
 use Rattle.mk_values.proofs.LentLemmas.{gives-lent, gives-not}
 use Rattle.mk_values.proofs.NameLemmas.{raw_of-above, raw_of-fault}
-use Rattle.mk_values.proofs.PlainLemmas.{opened_value-plain}
+use Rattle.mk_values.specs.Limits.{max_text}
+use Rattle.mk_values.proofs.PlainLemmas.{opened_value-plain, reference-long}
 use Rattle.mk_values.proofs.PlainLemmas.{side_value-plain, text_value-plain, tree_value-plain}
 use Rattle.mk_values.proofs.PlainLemmas.{variable-plain, variable-fault}
 use Rattle.mk_values.proofs.ValueLemmas.{joined-part, joined-end, joined-new, joined-new-end}
@@ -371,13 +374,14 @@ pub evaluation::found-returns-in_err-open_reference-clause-value : goal.evaluati
 evaluation::found-returns-in_err-open_reference-clause-value g t c =
     let p = err_from_is_err_and c.from_residual.result c.from_residual.ensures.1 in
     rw (p.1, p.2, c.in_err-open_reference.ensures.refused) (λ answers by.
-    inr (ap (λ one. one.answer) (found-not c.args.room c.args.run.now.references _ _ _ _
+    inr (ap (λ one. one.answer) (found-not c.args.room _ _ _ _
     c.in_err-open_reference.ensures.err)))
 
 pub evaluation::found-returns-clause-value : goal.evaluation::found-returns-clause-value
 evaluation::found-returns-clause-value g t c =
     λ answers by.
-    rw (found-may c.args.room c.args.run.now.references c.open_reference.new.references _ _ _
+    let p = at c.args.run.now (g.F.Facts.asked c.args.facts.now) in
+    rw (found-may c.args.room c.open_reference.new.references p _ _
     c.in_ok-open_reference.ensures.ok) (c.found_inside.ensures.value answers by)
 
 pub evaluation::append_reference-returns-in_err-open_reference-clause-value : goal.evaluation::append_reference-returns-in_err-open_reference-clause-value
@@ -387,7 +391,7 @@ evaluation::append_reference-returns-in_err-open_reference-clause-value g t c =
     let here = here c.args.names.now.scopes.now c.args.names.now.locals.now
     (g.F.Facts.lists c.args.facts.now) c.args.run.now c.args.keep answers in
     let p = at c.args.run.now (g.F.Facts.asked c.args.facts.now) in
-    let none = found-not c.args.room c.args.run.now.references (g.F.Facts.asked c.args.facts.now) here
+    let none = found-not c.args.room p here
     (part_view c.args.part.now) _ c.in_err-open_reference.ensures.err in
     inr (gives-not (found_at c.args.room) here p c.args.text.now (part_view c.args.part.now) _ none))
 
@@ -398,15 +402,16 @@ evaluation::append_reference-returns-in-Some-clause-value g t c =
     (g.F.Facts.lists c.args.facts.now) c.args.run.now c.args.keep answers in
     let asked = g.F.Facts.asked c.args.facts.now in
     let p = at c.args.run.now asked in
-    let q = progress c.open_reference.new.references asked in
+    let q = progress_with c.args.run.now.noted c.open_reference.new.references asked in
     let one = part_view c.args.part.now in
-    let may = found-may c.args.room c.args.run.now.references c.open_reference.new.references asked here one
+    let may = found-may c.args.room c.open_reference.new.references p here one
     c.in_ok-open_reference.ensures.ok in
     let lent = c.in-Some.ensures (found_at (c.args.room - 1)) here q (sym c.as_slice.ensures.value)
     (sym c.as_slice-2.ensures.value) in
-    gives-lent (found_at c.args.room) here p q c.args.text.now one c.in-Some.word.now
-    (λ done. c.append.new.text) c.append.result
-    (ap (λ (found : Counted Found). found.answer) may ∙ lent) c.append.ensures
+    rw c.in_ok-note.ensures
+    (gives-lent (found_at c.args.room) here p (noting c.in-Some.name.now q) c.args.text.now one
+    c.in-Some.word.now (λ done. c.append.new.text) c.append.result
+    (ap (λ (found : Counted Found). found.answer) may ∙ lent) c.append.ensures)
 
 pub words::suffix-returns-in_err-new-clause-value : goal.words::suffix-returns-in_err-new-clause-value
 words::suffix-returns-in_err-new-clause-value g t c =
@@ -493,14 +498,18 @@ evaluation::variable-returns-then-not-has_dollar-clause-value g t c =
     let above = rw (c.as_slice-2.ensures.value, c.in-Some.is) at c.in_ok-raw.ensures in
     let raw_is = raw_of-above c.args.names.now.scopes.now c.args.names.now.locals.now
     c.args.run.now.bound.items name raw above in
-    rw (ap (λ one. one.answer) (variable-plain (found_at c.args.room) here p name raw among raw_is plain))
-    (gives_at (λ found. found) p c.plain_found.result _ c.plain_found.ensures)
+    rw (
+      c.in_ok-note.ensures,
+      ap (λ one. one.answer)
+          (variable-plain (found_at c.args.room) here p name raw among raw_is plain),
+    )
+    (gives_at (λ found. found) (noting name p) c.plain_found.result _ c.plain_found.ensures)
 
 pub evaluation::variable-returns-in_err-raw-clause-value : goal.evaluation::variable-returns-in_err-raw-clause-value
 evaluation::variable-returns-in_err-raw-clause-value g t c =
     let p = err_from_is_err_and c.from_residual-in_err-raw.result c.from_residual-in_err-raw.ensures.1 in
     let among = rw c.as_slice.ensures.value at (sym c.is_among.ensures ∙ c.if-is_among.false) in
-    rw (p.1, p.2) (λ answers by.
+    rw (p.1, p.2, c.in_ok-note.ensures) (λ answers by.
     let here = here c.args.names.now.scopes.now c.args.names.now.locals.now
     (g.F.Facts.lists c.args.facts.now) c.args.run.now c.args.keep answers in
     variable-fault (found_at c.args.room) here (at c.args.run.now (g.F.Facts.asked c.args.facts.now))
@@ -698,6 +707,37 @@ evaluation::named-returns-clause-value g t c =
       c.in_ok-found.ensures.facts.lists,
     ) at (c.chained.ensures.value answers by) in
     rw found behind
+
+pub evaluation::plain_reference-returns-then-name-gt-MAX_TEXT-clause-value : goal.evaluation::plain_reference-returns-then-name-gt-MAX_TEXT-clause-value
+evaluation::plain_reference-returns-then-name-gt-MAX_TEXT-clause-value g t c =
+    λ answers by.
+    let here = here c.args.names.now.scopes.now c.args.names.now.locals.now
+    (g.F.Facts.lists c.args.facts.now) c.args.run.now c.args.keep answers in
+    let p = at c.args.run.now (g.F.Facts.asked c.args.facts.now) in
+    inr (reference-long (found_at c.args.room) here p c.args.name.now (mods_view c.args.mods.now)
+    c.if-name-gt-MAX_TEXT.true)
+
+pub evaluation::plain_reference-returns-then-name-gt-MAX_TEXT-clause-facts : goal.evaluation::plain_reference-returns-then-name-gt-MAX_TEXT-clause-facts
+evaluation::plain_reference-returns-then-name-gt-MAX_TEXT-clause-facts g t c =
+    Asks-none (g.met.F.Facts.stays _) _ _ _ _ (err_never _ (λ is. cc))
+
+pub evaluation::plain_reference-returns-clause-value : goal.evaluation::plain_reference-returns-clause-value
+evaluation::plain_reference-returns-clause-value g t c =
+    λ answers by.
+    let here = here c.args.names.now.scopes.now c.args.names.now.locals.now
+    (g.F.Facts.lists c.args.facts.now) c.args.run.now false answers in
+    let p = at c.args.run.now (g.F.Facts.asked c.args.facts.now) in
+    let short : length c.args.name.now ≤ max_text = omega (arith, c.if-name-gt-MAX_TEXT.false) in
+    rw (tree_value-plain (found_at c.args.room) here p c.args.name.now short)
+    (c.named.ensures.value answers by)
+
+pub evaluation::plain_reference-returns-clause-run : goal.evaluation::plain_reference-returns-clause-run
+evaluation::plain_reference-returns-clause-run g t c =
+    c.named.ensures.run
+
+pub evaluation::plain_reference-returns-clause-facts : goal.evaluation::plain_reference-returns-clause-facts
+evaluation::plain_reference-returns-clause-facts g t c =
+    c.named.ensures.facts
 
 pub evaluation::reference-returns-in-Some-clause-value : goal.evaluation::reference-returns-in-Some-clause-value
 evaluation::reference-returns-in-Some-clause-value g t c =
@@ -944,7 +984,7 @@ conditions::side_value-returns-in_ok-found-in-Some-clause-run g t c =
 
 pub conditions::test_truth-returns-in-Some-clause-run : goal.conditions::test_truth-returns-in-Some-clause-run
 conditions::test_truth-returns-in-Some-clause-run g t c =
-    holds _ (Keeps-same c.args.run.now)
+    c.answer_of.ensures.run
 
 pub conditions::test_truth-returns-in-Some-clause-facts : goal.conditions::test_truth-returns-in-Some-clause-facts
 conditions::test_truth-returns-in-Some-clause-facts g t c =
@@ -964,7 +1004,7 @@ conditions::test_truth-returns-in_err-value-clause-value g t c =
 
 pub conditions::test_truth-returns-clause-run : goal.conditions::test_truth-returns-clause-run
 conditions::test_truth-returns-clause-run g t c =
-    holds _ c.in_ok-value.ensures.run
+    Keeps-behind _ _ _ _ c.in_ok-value.ensures.run c.answer_of-2.ensures.run
 
 pub conditions::test_truth-returns-clause-facts : goal.conditions::test_truth-returns-clause-facts
 conditions::test_truth-returns-clause-facts g t c =
@@ -1054,6 +1094,14 @@ pub evaluation::append_part-returns-in-Short-clause-facts : goal.evaluation::app
 evaluation::append_part-returns-in-Short-clause-facts g t c =
     c.append_reference.ensures.facts
 
+pub evaluation::append_part-returns-in-Named-clause-run : goal.evaluation::append_part-returns-in-Named-clause-run
+evaluation::append_part-returns-in-Named-clause-run g t c =
+    c.append_reference-in-Named.ensures.run
+
+pub evaluation::append_part-returns-in-Named-clause-facts : goal.evaluation::append_part-returns-in-Named-clause-facts
+evaluation::append_part-returns-in-Named-clause-facts g t c =
+    c.append_reference-in-Named.ensures.facts
+
 pub evaluation::append_part-returns-in-Ref-clause-run : goal.evaluation::append_part-returns-in-Ref-clause-run
 evaluation::append_part-returns-in-Ref-clause-run g t c =
     c.append_reference-in-Ref.ensures.run
@@ -1094,6 +1142,18 @@ pub evaluation::append_reference-returns-in_err-open_reference-clause-facts : go
 evaluation::append_reference-returns-in_err-open_reference-clause-facts g t c =
     Asks-refused _ c.from_residual.ensures.1 (Asks-none (g.met.F.Facts.stays _) _ _ _ _ (err_never _ (never-opened _ _ _ c.in_err-open_reference.ensures.err)))
 
+pub evaluation::append_reference-returns-in_err-note-clause-run : goal.evaluation::append_reference-returns-in_err-note-clause-run
+evaluation::append_reference-returns-in_err-note-clause-run g t c =
+    refused _ _ c.from_residual-in_err-note.result c.from_residual-in_err-note.ensures.1
+
+pub evaluation::append_reference-returns-in_err-note-clause-facts : goal.evaluation::append_reference-returns-in_err-note-clause-facts
+evaluation::append_reference-returns-in_err-note-clause-facts g t c =
+    Asks-refused _ c.from_residual-in_err-note.ensures.1 (Asks-none (g.met.F.Facts.stays _) _ _ _ _ (err_never _ (λ is. cc)))
+
+pub evaluation::append_reference-returns-in_err-note-clause-value : goal.evaluation::append_reference-returns-in_err-note-clause-value
+evaluation::append_reference-returns-in_err-note-clause-value g t c =
+    λ answers by. refused_as _ c.from_residual-in_err-note.result c.from_residual-in_err-note.ensures.1 (inl (inl refl))
+
 pub evaluation::append_reference-returns-in-Some-clause-facts : goal.evaluation::append_reference-returns-in-Some-clause-facts
 evaluation::append_reference-returns-in-Some-clause-facts g t c =
     Asks-none (g.met.F.Facts.stays _) _ _ _ c.append.result (never_fails _ _ _ c.append.ensures (never-appended _ _))
@@ -1133,6 +1193,14 @@ evaluation::found_inside-returns-in-Short-clause-run g t c =
 pub evaluation::found_inside-returns-in-Short-clause-facts : goal.evaluation::found_inside-returns-in-Short-clause-facts
 evaluation::found_inside-returns-in-Short-clause-facts g t c =
     c.variable.ensures.facts
+
+pub evaluation::found_inside-returns-in-Named-clause-run : goal.evaluation::found_inside-returns-in-Named-clause-run
+evaluation::found_inside-returns-in-Named-clause-run g t c =
+    c.plain_reference.ensures.run
+
+pub evaluation::found_inside-returns-in-Named-clause-facts : goal.evaluation::found_inside-returns-in-Named-clause-facts
+evaluation::found_inside-returns-in-Named-clause-facts g t c =
+    c.plain_reference.ensures.facts
 
 pub evaluation::found_inside-returns-in-Ref-clause-run : goal.evaluation::found_inside-returns-in-Ref-clause-run
 evaluation::found_inside-returns-in-Ref-clause-run g t c =
@@ -1186,17 +1254,29 @@ pub evaluation::named-returns-clause-facts : goal.evaluation::named-returns-clau
 evaluation::named-returns-clause-facts g t c =
     Asks-then (g.met.F.Facts.goes_on _ _ _) c.in_ok-found.ensures.facts c.chained.ensures.facts
 
+pub evaluation::variable-returns-in_err-note-clause-run : goal.evaluation::variable-returns-in_err-note-clause-run
+evaluation::variable-returns-in_err-note-clause-run g t c =
+    refused _ _ c.from_residual.result c.from_residual.ensures.1
+
+pub evaluation::variable-returns-in_err-note-clause-facts : goal.evaluation::variable-returns-in_err-note-clause-facts
+evaluation::variable-returns-in_err-note-clause-facts g t c =
+    Asks-refused _ c.from_residual.ensures.1 (Asks-none (g.met.F.Facts.stays _) _ _ _ _ (err_never _ (λ is. cc)))
+
+pub evaluation::variable-returns-in_err-note-clause-value : goal.evaluation::variable-returns-in_err-note-clause-value
+evaluation::variable-returns-in_err-note-clause-value g t c =
+    λ answers by. refused_as _ c.from_residual.result c.from_residual.ensures.1 (inl (inl refl))
+
 pub evaluation::variable-returns-in_err-from_bytes-clause-run : goal.evaluation::variable-returns-in_err-from_bytes-clause-run
 evaluation::variable-returns-in_err-from_bytes-clause-run g t c =
-    refused _ _ c.from_residual.result c.from_residual.ensures.1
+    refused _ _ c.from_residual-in_err-from_bytes.result c.from_residual-in_err-from_bytes.ensures.1
 
 pub evaluation::variable-returns-in_err-from_bytes-clause-facts : goal.evaluation::variable-returns-in_err-from_bytes-clause-facts
 evaluation::variable-returns-in_err-from_bytes-clause-facts g t c =
-    Asks-refused _ c.from_residual.ensures.1 (Asks-none (g.met.F.Facts.stays _) _ _ _ _ (err_never _ (λ is. cc)))
+    Asks-refused _ c.from_residual-in_err-from_bytes.ensures.1 (Asks-none (g.met.F.Facts.stays _) _ _ _ _ (err_never _ (λ is. cc)))
 
 pub evaluation::variable-returns-in_err-from_bytes-clause-value : goal.evaluation::variable-returns-in_err-from_bytes-clause-value
 evaluation::variable-returns-in_err-from_bytes-clause-value g t c =
-    λ answers by. refused_as _ c.from_residual.result c.from_residual.ensures.1 (inl (inl refl))
+    λ answers by. refused_as _ c.from_residual-in_err-from_bytes.result c.from_residual-in_err-from_bytes.ensures.1 (inl (inl refl))
 
 pub evaluation::variable-returns-then-is_among-clause-run : goal.evaluation::variable-returns-then-is_among-clause-run
 evaluation::variable-returns-then-is_among-clause-run g t c =
@@ -1212,11 +1292,11 @@ evaluation::variable-returns-in_err-raw-clause-run g t c =
 
 pub evaluation::variable-returns-then-not-has_dollar-clause-run : goal.evaluation::variable-returns-then-not-has_dollar-clause-run
 evaluation::variable-returns-then-not-has_dollar-clause-run g t c =
-    holds _ (Keeps-same c.args.run.now)
+    holds _ (Keeps-noted c.args.run.now c.note.new.noted)
 
 pub evaluation::variable-returns-in-Some-clause-run : goal.evaluation::variable-returns-in-Some-clause-run
 evaluation::variable-returns-in-Some-clause-run g t c =
-    c.opened_value.ensures.run
+    Keeps-behind _ _ _ _ (Keeps-noted c.args.run.now c.note.new.noted) c.opened_value.ensures.run
 
 pub evaluation::variable-returns-in-Some-clause-facts : goal.evaluation::variable-returns-in-Some-clause-facts
 evaluation::variable-returns-in-Some-clause-facts g t c =
@@ -1224,7 +1304,7 @@ evaluation::variable-returns-in-Some-clause-facts g t c =
 
 pub evaluation::variable-returns-in-Some-known-clause-run : goal.evaluation::variable-returns-in-Some-known-clause-run
 evaluation::variable-returns-in-Some-known-clause-run g t c =
-    c.known_value.ensures.run
+    Keeps-behind _ _ _ _ (Keeps-noted c.args.run.now c.note.new.noted) c.known_value.ensures.run
 
 pub evaluation::variable-returns-in-Some-known-clause-facts : goal.evaluation::variable-returns-in-Some-known-clause-facts
 evaluation::variable-returns-in-Some-known-clause-facts g t c =
@@ -1232,7 +1312,7 @@ evaluation::variable-returns-in-Some-known-clause-facts g t c =
 
 pub evaluation::variable-returns-in-None-clause-run : goal.evaluation::variable-returns-in-None-clause-run
 evaluation::variable-returns-in-None-clause-run g t c =
-    Keeps-same c.args.run.now
+    Keeps-noted c.args.run.now c.note.new.noted
 
 pub evaluation::variable-returns-in-None-clause-facts : goal.evaluation::variable-returns-in-None-clause-facts
 evaluation::variable-returns-in-None-clause-facts g t c =
@@ -2078,6 +2158,10 @@ pub modifiers::word_modified-returns-in-None-clause-facts : goal.modifiers::word
 modifiers::word_modified-returns-in-None-clause-facts g t c =
     Asks-ok _ c.in_ok-modifier.ensures.facts
 
+pub evaluation::append_part-returns-in-Named-clause-value : goal.evaluation::append_part-returns-in-Named-clause-value
+evaluation::append_part-returns-in-Named-clause-value g t c =
+    rw (c.in-Named.is, view-Named) (rw (c.in-Named.is, view-Named) at c.append_reference-in-Named.ensures.value)
+
 pub evaluation::append_part-returns-in-Ref-clause-value : goal.evaluation::append_part-returns-in-Ref-clause-value
 evaluation::append_part-returns-in-Ref-clause-value g t c =
     rw (c.in-Ref.is, view-Ref) (rw (c.in-Ref.is, view-Ref) at c.append_reference-in-Ref.ensures.value)
@@ -2109,6 +2193,10 @@ evaluation::append_part-returns-in-Double-clause-value g t c =
 pub evaluation::found_inside-returns-in-Short-clause-value : goal.evaluation::found_inside-returns-in-Short-clause-value
 evaluation::found_inside-returns-in-Short-clause-value g t c =
     rw (c.in-Short.is, view-Short) c.variable.ensures.value
+
+pub evaluation::found_inside-returns-in-Named-clause-value : goal.evaluation::found_inside-returns-in-Named-clause-value
+evaluation::found_inside-returns-in-Named-clause-value g t c =
+    rw (c.in-Named.is, view-Named) (rw c.bytes.ensures.value at c.plain_reference.ensures.value)
 
 pub evaluation::found_inside-returns-in-Ref-clause-value : goal.evaluation::found_inside-returns-in-Ref-clause-value
 evaluation::found_inside-returns-in-Ref-clause-value g t c =

@@ -45,6 +45,9 @@ decreases-evaluation::variable g l = 4096 * l.room + 8
 abbrev pub decreases-evaluation::named : goal.decreases-evaluation::named
 decreases-evaluation::named g l = 4096 * l.room + 2069
 
+abbrev pub decreases-evaluation::plain_reference : goal.decreases-evaluation::plain_reference
+decreases-evaluation::plain_reference g l = 4096 * l.room + 2070
+
 abbrev pub decreases-evaluation::reference : goal.decreases-evaluation::reference
 decreases-evaluation::reference g l = 4096 * l.room + 2070
 

@@ -4,7 +4,7 @@ use Rattle.mk_ast.specs.Spell.{spell_mod}
 use Rattle.mk_ast.specs.View.{mod_view}
 use Rattle.mk_ast.proofs.SpelledLists.{parts_text-turn, parts_text-done, mods_text-turn}
 use Rattle.mk_ast.proofs.SpelledLists.{mods_text-done}
-use Rattle.mk_ast.proofs.Spells.{spell-Ref, spell-Subst, spell-Choose, spell-Suffix}
+use Rattle.mk_ast.proofs.Spells.{spell-Named, spell-Ref, spell-Subst, spell-Choose, spell-Suffix}
 use Rattle.mk_ast.proofs.spelling.+put.Goals as goal
 
 pub put_mod-returns-in_ok-push-in-Subst-2 : goal.put_mod-returns-in_ok-push-in-Subst-2
@@ -74,6 +74,20 @@ put_part-returns-in_ok-push-in-Ref-2 t c =
       c.in_ok-put_mods-in-Ref.ensures,
       c.in_ok-put_tree-in-Ref.ensures,
       c.in_ok-push-in-Ref.ensures.ok,
+      c.opener-in-Ref.ensures,
+      c.closer-in-Ref.ensures,
+    ) (simp append_assoc)
+
+pub put_part-returns-in_ok-push-in-Named-3 : goal.put_part-returns-in_ok-push-in-Named-3
+put_part-returns-in_ok-push-in-Named-3 t c =
+    rw (
+      c.in-Named.is,
+      spell-Named c.in-Named.round c.in-Named.name c.in-Named.mods,
+      c.in_ok-push-in-Named-3.ensures.ok,
+      c.in_ok-put_mods-in-Named.ensures,
+      c.in_ok-push-in-Named-2.ensures.ok,
+      c.bytes-in-Named.ensures.value,
+      c.in_ok-push-in-Named.ensures.ok,
       c.opener.ensures,
       c.closer.ensures,
     ) (simp append_assoc)

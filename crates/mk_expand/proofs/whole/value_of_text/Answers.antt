@@ -10,16 +10,17 @@ use Rattle.mk_expand.proofs.whole.value_of_text.Goals as goal
 pub returns-clause-value : goal.returns-clause-value
 returns-clause-value g c = λ answers by.
     let first = c.in_ok-run.ensures in
-    agrees_asked _ _ _ _
-    (rw (first.0, first.1, first.2) at (c.text_value.ensures.value answers by))
+    agrees_asked _ _ _
+    (rw (first.0, first.1, first.2, first.3) at (c.text_value.ensures.value answers by))
 
 pub returns-clause-questions : goal.returns-clause-questions
 returns-clause-questions g c =
     let first = c.in_ok-run.ensures in
-    refused_behind _ _ _
+    refused_behind _ _
     (λ answers. (of_text c.args.scopes.now c.args.locals.now (g.F.Facts.lists c.args.facts.now)
     answers c.args.keep (g.F.Facts.asked c.args.facts.now) c.args.text.now).answer)
-    (λ answers by. rw (first.0, first.1, first.2) at (c.text_value.ensures.value answers by))
+    (λ answers by.
+    rw (first.0, first.1, first.2, first.3) at (c.text_value.ensures.value answers by))
 
 pub returns-then-not-has_dollar-clause-value : goal.returns-then-not-has_dollar-clause-value
 returns-then-not-has_dollar-clause-value g c =
@@ -28,7 +29,7 @@ returns-then-not-has_dollar-clause-value g c =
     λ answers by.
     let here = context c.args.scopes.now c.args.locals.now (g.F.Facts.lists c.args.facts.now) answers
     c.args.keep in
-    agrees_asked 0 asked _ _
+    agrees_asked (progress 0 asked) _ _
     (rw (ap (λ one. one.answer) (text_value-plain finder here (progress 0 asked) c.args.text.now none))
     (gives_at (λ value. value) (progress 0 asked) c.plain_value.result _ c.plain_value.ensures))
 
@@ -36,7 +37,7 @@ pub returns-then-not-has_dollar-clause-questions : goal.returns-then-not-has_dol
 returns-then-not-has_dollar-clause-questions g c =
     let none = sym c.has_dollar.ensures ∙ c.if-not-has_dollar.true in
     let asked = g.F.Facts.asked c.args.facts.now in
-    refused_behind 0 asked _
+    refused_behind (progress 0 asked) _
     (λ answers. (of_text c.args.scopes.now c.args.locals.now (g.F.Facts.lists c.args.facts.now)
     answers c.args.keep asked c.args.text.now).answer)
     (λ answers by.
