@@ -1,5 +1,6 @@
 -- How old the sources of a node are, by what was seen of files.
-use Rattle.std.specs.Prelude.{◌≡◌, ◌⊎◌, ℕ, zero, suc, ◌<◌, ◌==◌, nat_lt, Bool, true, false, not, ◌&&◌, ◌||◌, List, [], ◌∷◌, ◌++◌, map, if◌then◌else◌}
+use Rattle.std.specs.Prelude.{◌≡◌, ◌⊎◌, ℕ, zero, suc, ◌<◌, ◌==◌, nat_lt, Bool, true, false, not}
+use Rattle.std.specs.Prelude.{◌&&◌, ◌||◌, List, [], ◌∷◌, ◌++◌, map, if◌then◌else◌}
 use Rattle.std.specs.List.{list_any}
 use Rattle.mk_plan.specs.Lists.{is_nil}
 use Rattle.mk_plan.specs.Plans.{node_at}
@@ -24,8 +25,8 @@ abbrev pub newest : (ℕ → Age) → Age → List ℕ → Age
 newest ages one [] = one
 newest ages one (place ∷ places) = newest ages (newer one (ages place)) places
 
--- A node whose file is missing is old where it is marked `.EXEC`. Else it is new where it has commands
--- or is made from nothing, and as old as the newest of its sources where not.
+-- A node whose file is missing is old where it is marked `.EXEC`. Else it is new where it has
+-- commands or is made from nothing, and as old as the newest of its sources where not.
 abbrev pub age_of_missing : PlanNode → (ℕ → Age) → Age
 age_of_missing node ages =
     if node.marks.exec then aged.Old
@@ -42,8 +43,9 @@ age_by Missing node ages = age_of_missing node ages
 abbrev pub age_of : PlanNode → When → (ℕ → Age) → Age
 age_of node when ages = if node.marks.phony then aged.New else age_by when node ages
 
--- The age of the node at a place, by what was seen of it and of the nodes before it. Where each node
--- stands behind its sources, it is the one by the ages of its own sources. Other nodes are not asked for.
+-- The age of the node at a place, by what was seen of it and of the nodes before it. Where each
+-- node stands behind its sources, it is the one by the ages of its own sources. Other nodes are not
+-- asked for.
 abbrev pub age : List PlanNode → List Sighting → ℕ → Age
 age nodes [] place = aged.Old
 age nodes (one ∷ seen) place =
@@ -66,8 +68,9 @@ is_by_sources node when =
 abbrev pub counted : PlanNode → When → List ℕ
 counted node when = if is_by_sources node when then node.sources else []
 
--- What was seen goes back through a plan: of the nodes before a place, each that counts was looked at,
--- the later ones first, and no other. Where the age of one is that of its sources, these count too.
+-- What was seen goes back through a plan: of the nodes before a place, each that counts was looked
+-- at, the later ones first, and no other. Where the age of one is that of its sources, these count
+-- too.
 abbrev pub AreSeen : List PlanNode → ℕ → List ℕ → List Sighting → Type 0
 AreSeen nodes zero wanted seen = seen ≡ []
 AreSeen nodes (suc place) wanted seen =

@@ -12,8 +12,8 @@ use Rattle.mk_world.specs.Told.{Told}
 use Rattle.mk_world.specs.declared.command.Task.{Task}
 use Rattle.mk_world.specs.declared.history.History.{History}
 
--- Make looked at these paths, for `exists`, while children may have done steps; the task is the one that
--- the looks define, and so is what was asked behind its fault.
+-- Make looked at these paths, for `exists`, while children may have done steps; the task is the one
+-- that the looks define, and so is what was asked behind its fault.
 pub record TaskAsked (meaning : Meaning) (before after : Option History) (result : Result Task TaskFault)
     (defined : List Dated → Result (Task × List Asked) TaskFault) (asks : List Dated → List Asked) : Type 0
   where

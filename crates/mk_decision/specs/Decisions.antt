@@ -1,5 +1,6 @@
 -- What is decided of a node, and why: that it is kept, started or refused.
-use Rattle.std.specs.Prelude.{◌≡◌, ◌⊎◌, ℕ, ◌<◌, List, [], ◌++◌, map, length, Option, Some, None, Result, Ok, Err}
+use Rattle.std.specs.Prelude.{◌≡◌, ◌⊎◌, ℕ, ◌<◌, List, [], ◌++◌, map, length, Option, Some, None}
+use Rattle.std.specs.Prelude.{Result, Ok, Err}
 use Rattle.mk_values.specs.Facts.{Lists}
 use Rattle.mk_values.specs.declared.facts.Asked.{Asked}
 use Rattle.mk_values.specs.declared.fault.ExpandFault.{ExpandFault}
@@ -44,8 +45,8 @@ source_names work node = names_at work.plan (node_at work.plan node).sources
 abbrev pub mode_at : Work → ℕ → NodeMode
 mode_at work node = node_mode work.mode (node_at work.plan node).marks
 
--- The first looks for a node: those at its own file and at the nodes whose ages count, and then one at
--- each path that `exists` is asked of in its commands.
+-- The first looks for a node: those at its own file and at the nodes whose ages count, and then one
+-- at each path that `exists` is asked of in its commands.
 pub record Sight (work : Work) (node : ℕ) (seen : List Seen) : Type 0 where
   pub target : When
   pub sources : List Sighting
@@ -76,17 +77,18 @@ abbrev pub HasTask : Work → ℕ → When → List Sighting → List Dated → 
 HasTask work node target sources asked task =
     asked_task work node (newer_of work node target sources) asked ≡ Ok (task, map as_asked asked)
 
--- A node has no task by its looks: this line is the first that is at fault. `exists` was asked of no
--- other path.
+-- A node has no task by its looks: this line is the first that is at fault. `exists` was asked of
+-- no other path.
 abbrev pub HasFault : Work → ℕ → When → List Sighting → List Dated → ℕ → ExpandFault → Type 0
 HasFault work node target sources asked number what =
     (asked_task work node (newer_of work node target sources) asked
     ≡ Err (record { line = number; what = what }))
     × (asked_questions work node (newer_of work node target sources) asked ≡ map as_asked asked)
 
--- A node was judged by these looks: it has this task, and is out of date for this reason, or is not. Behind
--- the first looks stand those in meta mode, where there are any.
-pub record IsJudged (work : Work) (node : ℕ) (seen : List Seen) (task : Task) (why : Option Why) : Type 0
+-- A node was judged by these looks: it has this task, and is out of date for this reason, or is
+-- not. Behind the first looks stand those in meta mode, where there are any.
+pub record IsJudged (work : Work) (node : ℕ) (seen : List Seen) (task : Task) (why : Option Why)
+    : Type 0
   where
     pub first : List Seen
     pub sight : Sight work node first

@@ -16,8 +16,8 @@ use Rattle.mk_decision.specs.declared.judgement.Judgement.{Judgement}
 use Rattle.mk_decision.specs.declared.judgement.Judgement.TheVariants.{Nothing, Refused, Judged}
 use Rattle.mk_decision.specs.declared.reason.Found.{Found}
 
--- what is found of a node by its task, the time of its file, the ages of its sources, and what was seen in
--- meta mode
+-- what is found of a node by its task, the time of its file, the ages of its sources, and what was
+-- seen in meta mode
 abbrev pub found_by : NodeMode → Task → When → List Age → Option MetaSight → Found
 found_by mode task target ages meta = record {
   why = reason mode task target ages meta;
@@ -25,9 +25,11 @@ found_by mode task target ages meta = record {
   value = value_in meta;
 }
 
--- A node with commands was judged by these looks: it has this task, and is out of date for the reason that
--- was found, or is not. The times and the value of the meta file are those that were seen.
-pub record IsFound (work : Work) (node : ℕ) (seen : List Seen) (task : Task) (found : Found) : Type 0
+-- A node with commands was judged by these looks: it has this task, and is out of date for the
+-- reason that was found, or is not. The times and the value of the meta file are those that were
+-- seen.
+pub record IsFound (work : Work) (node : ℕ) (seen : List Seen) (task : Task) (found : Found)
+    : Type 0
   where
     pub commands : 0 < length (node_at work.plan node).commands
     pub judged : IsJudged work node seen task found.why

@@ -1,7 +1,8 @@
 -- Ages that are known, by places.
 use Rattle.std.specs.BTreeMap.{BTreeMap, get}
 use Rattle.std.specs.Ordering.{nat_cmp}
-use Rattle.std.specs.Prelude.{ℕ, ◌<◌, ◌==◌, Option, Some, None, if◌then◌else◌, length, get_or, unwrap_or}
+use Rattle.std.specs.Prelude.{ℕ, ◌<◌, ◌==◌, Option, Some, None, if◌then◌else◌, length, get_or}
+use Rattle.std.specs.Prelude.{unwrap_or}
 use Rattle.mk_decision.specs.declared.age.Few.{Few}
 use Rattle.mk_decision.specs.declared.age.Known.{Known}
 use Rattle.mk_decision.specs.declared.age.Known.TheVariants as kind

@@ -1,5 +1,6 @@
 -- What was seen of a node's meta file, and of the paths that its records name.
-use Rattle.std.specs.Prelude.{◌≡◌, ℕ, not, ◌&&◌, List, [], ◌∷◌, ◌++◌, map, unwrap_or, Option, Some, None, if◌then◌else◌}
+use Rattle.std.specs.Prelude.{◌≡◌, ℕ, not, ◌&&◌, List, [], ◌∷◌, ◌++◌, map, unwrap_or, Option, Some}
+use Rattle.std.specs.Prelude.{None, if◌then◌else◌}
 use Rattle.std.specs.Str.{bytes_eq}
 use Rattle.mk_filemon.specs.declared.record.Rec.{Rec}
 use Rattle.mk_meta.specs.Lawful.{IsLawful}
@@ -23,14 +24,15 @@ IsValueOf None value = value ≡ None
 IsValueOf (Some text) None = (meta : Meta) → IsLawful meta → (text ≡ meta_text meta) → ⊥
 IsValueOf (Some text) (Some meta) = IsLawful meta × (text ≡ meta_text meta)
 
--- The records that count for a node: those of a meta file of its target, unless records count for none.
+-- The records that count for a node: those of a meta file of its target, unless records count for
+-- none.
 abbrev pub records_in : NodeMode → Task → Option Meta → List Rec
 records_in mode task None = []
 records_in mode task (Some meta) =
     if not mode.nofilemon && bytes_eq meta.target task.target then unwrap_or meta.records [] else []
 
--- the times of paths that records name: of those that a job found outside, that it missed there, and that
--- it left written
+-- the times of paths that records name: of those that a job found outside, that it missed there,
+-- and that it left written
 pub record PathTimes : Type 0 where
   pub reads : List Dated
   pub misses : List Dated
@@ -45,8 +47,8 @@ pub record AreOf (ignored : List (List ℕ)) (records : List Rec) (paths : PathT
   pub misses : paths_in paths.misses ≡ missed_paths ignored records
   pub left : paths_in paths.left ≡ left_paths ignored records
 
--- what was seen in meta mode: the bytes of the meta file, with their value, then its time, and then the
--- times of the paths that its records name
+-- what was seen in meta mode: the bytes of the meta file, with their value, then its time, and then
+-- the times of the paths that its records name
 pub record MetaSight : Type 0 where
   pub bytes : Option (List ℕ)
   pub value : Option Meta

@@ -1,5 +1,6 @@
 -- The newest known time that was told. Looks for `exists` do not count for it.
-use Rattle.std.specs.Prelude.{ℕ, ◌≤◌, nat_lt, List, [], ◌∷◌, ◌++◌, map, Option, Some, None, if◌then◌else◌}
+use Rattle.std.specs.Prelude.{ℕ, ◌≤◌, nat_lt, List, [], ◌∷◌, ◌++◌, map, Option, Some, None}
+use Rattle.std.specs.Prelude.{if◌then◌else◌}
 use Rattle.std.proofs.Common.{inl, inr}
 use Rattle.mk_oodate.specs.declared.reason.Times.{Times}
 use Rattle.mk_oodate.specs.declared.reason.Why.{Why}
@@ -41,7 +42,8 @@ meta_whens (Some sight) = sight.when
 abbrev pub times_whens : Times → List When
 times_whens times = times.meta ∷ (times.reads ++ (times.misses ++ times.left))
 
-abbrev pub sight_whens : {work : Work} {node : ℕ} {seen : List Seen} → Sight work node seen → List When
+abbrev pub sight_whens : {work : Work} {node : ℕ} {seen : List Seen} → Sight work node seen
+    → List When
 sight_whens sight = node_whens sight.target sight.sources
 
 -- all that was told for a judgement of a node that has a task

@@ -1,5 +1,6 @@
 -- Why a node is out of date, and what is looked at to know it.
-use Rattle.std.specs.Prelude.{◌≡◌, ℕ, Bool, true, false, ◌&&◌, List, [], Option, Some, None, is_some, is_none, if◌then◌else◌}
+use Rattle.std.specs.Prelude.{◌≡◌, ℕ, Bool, true, false, ◌&&◌, List, [], Option, Some, None}
+use Rattle.std.specs.Prelude.{is_some, is_none, if◌then◌else◌}
 use Rattle.mk_filemon.specs.declared.record.Rec.{Rec}
 use Rattle.mk_meta.specs.declared.meta.Meta.{Meta}
 use Rattle.mk_oodate.specs.Stale.{stale}
@@ -10,14 +11,15 @@ use Rattle.mk_oodate.specs.declared.reason.Why.{Why}
 use Rattle.mk_world.specs.declared.command.Task.{Task}
 use Rattle.mk_world.specs.declared.time.When.{When}
 use Rattle.mk_world.specs.declared.time.When.TheVariants.{Missing}
-use Rattle.mk_decision.specs.Metas.{AreOf, IsValueOf, MetaSight, PathTimes, no_paths, records_in, times_in}
+use Rattle.mk_decision.specs.Metas.{AreOf, IsValueOf, MetaSight, PathTimes, no_paths, records_in}
+use Rattle.mk_decision.specs.Metas.{times_in}
 
 abbrev pub value_in : Option MetaSight → Option Meta
 value_in None = None
 value_in (Some sight) = sight.value
 
--- the times that the test goes by, where only the target and the sources were looked at, where the meta
--- file was too, and where paths were
+-- the times that the test goes by, where only the target and the sources were looked at, where the
+-- meta file was too, and where paths were
 abbrev pub first_times : When → List Age → Times
 first_times target ages = record {
   target = target;
@@ -40,8 +42,8 @@ times_by target ages None = first_times target ages
 times_by target ages (Some sight) =
     with_paths sight.paths (record (first_times target ages) { meta = sight.when })
 
--- Why a node is out of date, by its task, the time of its file, the ages of its sources, and what was seen
--- in meta mode.
+-- Why a node is out of date, by its task, the time of its file, the ages of its sources, and what
+-- was seen in meta mode.
 abbrev pub reason : NodeMode → Task → When → List Age → Option MetaSight → Option Why
 reason mode task target ages meta = stale (value_in meta) task mode (times_by target ages meta)
 
@@ -63,9 +65,11 @@ abbrev pub records_asked : NodeMode → Task → When → List Age → MetaSight
 records_asked mode task target ages sight =
     if is_some (by_file mode task target ages sight) then [] else records_in mode task sight.value
 
--- In meta mode this was looked at, and nothing else: nothing, where the meta file is not looked at; else its
--- bytes and its time, and the paths of the records that are asked for, each list in its order.
-abbrev pub IsMetaSight : List (List ℕ) → NodeMode → Task → When → List Age → Option MetaSight → Type 0
+-- In meta mode this was looked at, and nothing else: nothing, where the meta file is not looked at;
+-- else its bytes and its time, and the paths of the records that are asked for, each list in its
+-- order.
+abbrev pub IsMetaSight : List (List ℕ) → NodeMode → Task → When → List Age → Option MetaSight
+    → Type 0
 IsMetaSight ignored mode task target ages None = is_opened mode task target ages ≡ false
 IsMetaSight ignored mode task target ages (Some sight) =
     (is_opened mode task target ages ≡ true) × IsValueOf sight.bytes sight.value

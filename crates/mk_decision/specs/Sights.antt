@@ -1,5 +1,6 @@
 -- What looks at times have told.
-use Rattle.std.specs.Prelude.{◌≡◌, ℕ, suc, ◌<◌, Bool, true, false, List, [], ◌∷◌, ◌++◌, Option, if◌then◌else◌}
+use Rattle.std.specs.Prelude.{◌≡◌, ℕ, suc, ◌<◌, Bool, true, false, List, [], ◌∷◌, ◌++◌, Option}
+use Rattle.std.specs.Prelude.{if◌then◌else◌}
 use Rattle.mk_plan.specs.Plans.{node_at}
 use Rattle.mk_plan.specs.declared.plan.PlanNode.{PlanNode}
 use Rattle.mk_world.specs.Looks.{Seen, dated}
@@ -22,7 +23,8 @@ looks_of nodes [] = []
 looks_of nodes (one ∷ seen) = look_at nodes one ++ looks_of nodes seen
 
 -- make looked at the files of these nodes in order, and was told these times
-abbrev pub Looked : Meaning → Option History → Option History → List PlanNode → List Sighting → Type 0
+abbrev pub Looked : Meaning → Option History → Option History → List PlanNode → List Sighting
+    → Type 0
 Looked meaning before after nodes seen = LooksAt meaning before after (looks_of nodes seen)
 
 -- make looked at some paths
@@ -35,7 +37,8 @@ abbrev pub seen_of : List PlanNode → ℕ → When → List Sighting → List S
 seen_of nodes node target sources =
     looks_of nodes (record { place = node; when = target } ∷ sources)
 
-abbrev pub SawAll : Meaning → Option History → Option History → List PlanNode → ℕ → NodeTimes → Type 0
+abbrev pub SawAll : Meaning → Option History → Option History → List PlanNode → ℕ → NodeTimes
+    → Type 0
 SawAll meaning before after nodes node times =
     LooksAt meaning before after (seen_of nodes node times.target times.sources)
 
@@ -51,8 +54,8 @@ pub record IsTaken (place : ℕ) (has now : ℕ → Bool) : Type 0 where
   pub same : (one : ℕ) → one < place → now one ≡ has one
   pub below : (one : ℕ) → now one ≡ true → one < place
 
--- What was seen so far of the nodes from a place on, and which count of those before it: what is then
--- seen of these goes behind it.
+-- What was seen so far of the nodes from a place on, and which count of those before it: what is
+-- then seen of these goes behind it.
 pub record OnWalk (nodes : List PlanNode) (node : ℕ) (first : List ℕ) (place : ℕ) (has : ℕ → Bool)
     (seen : List Sighting) : Type 0
   where

@@ -13,8 +13,8 @@ use Rattle.mk_world.specs.declared.time.When.{When}
 abbrev pub is_always : Marks → Bool
 is_always marks = marks.phony || marks.exec || marks.remake
 
--- What counts for a node, by `.MAKE.MODE` and by its marks. With `.NOMETA_CMP` only the number of its
--- commands counts.
+-- What counts for a node, by `.MAKE.MODE` and by its marks. With `.NOMETA_CMP` only the number of
+-- its commands counts.
 abbrev pub node_mode : Mode → Marks → NodeMode
 node_mode mode marks = record {
   always = is_always marks;

@@ -32,8 +32,8 @@ fn newer(one: Age, other: Age) -> Age
     }
 }
 
-// The ages of some nodes, by their places; all others are old. The last that was added is at hand, so
-// one alone takes no memory.
+// The ages of some nodes, by their places; all others are old. The last that was added is at hand,
+// so one alone takes no memory.
 #[derive(Drop)]
 struct Few {
     last: Option<(u32, Age)>,

@@ -1,5 +1,6 @@
 //! How a node is judged, by looks.
-ghost use Rattle.std.specs.Prelude.{◌≡◌, ◌≢◌, ◌⊎◌, ◌<◌, ◌++◌, ℕ, List, length, Option, Ok, Err, IfOk, OnErr};
+ghost use Rattle.std.specs.Prelude.{◌≡◌, ◌≢◌, ◌⊎◌, ◌<◌, ◌++◌, ℕ, List, length, Option, Ok, Err};
+ghost use Rattle.std.specs.Prelude.{IfOk, OnErr};
 ghost use Rattle.mk_decision.specs.Ages.{IsWalk, source_ages as ages_of};
 ghost use Rattle.mk_decision.specs.Asks.{TaskAsked};
 ghost use Rattle.mk_decision.specs.Decisions.{asked_questions, asked_task, mode_at, newer_of};
@@ -10,14 +11,16 @@ ghost use Rattle.mk_decision.specs.Metas.{MetaSight, meta_looks};
 ghost use Rattle.mk_decision.specs.Newest.{judgement_whens, later_whens, node_whens, raised_all};
 ghost use Rattle.mk_decision.specs.Reasons.{IsMetaSight};
 ghost use Rattle.mk_decision.specs.Sights.{SawSome, seen_of};
-ghost use Rattle.mk_decision.specs.declared.judgement.Judgement.TheVariants.{Judged as judged, Refused as refuse};
+ghost use Rattle.mk_decision.specs.declared.judgement.Judgement.TheVariants.{Judged as judged};
+ghost use Rattle.mk_decision.specs.declared.judgement.Judgement.TheVariants.{Refused as refuse};
 ghost use Rattle.mk_values.specs.declared.fault.ExpandFault.TheVariants.{Failed as failed};
 ghost use Rattle.mk_meta.specs.TrueHistory.{meta_path};
 ghost use Rattle.mk_plan.specs.Plans.{node_at};
 ghost use Rattle.mk_plan.specs.Refusals.{IsOwn, without_line};
 ghost use Rattle.mk_world.specs.Causes.{HasCause};
 ghost use Rattle.mk_world.specs.Looks.{Seen};
-ghost use Rattle.mk_world.specs.declared.fault.WorldFault.TheVariants.{Failed as world_failed, NoMemory as no_memory};
+ghost use Rattle.mk_world.specs.declared.fault.WorldFault.TheVariants.{Failed as world_failed};
+ghost use Rattle.mk_world.specs.declared.fault.WorldFault.TheVariants.{NoMemory as no_memory};
 
 use crate::age::source_ages;
 use crate::maker::Maker;
@@ -42,9 +45,9 @@ pub enum Judgement {
     Judged(Task, Found),
 }
 
-// The task of a node, where these of its sources are newer than it. What its conditions ask is asked
-// of the makefiles and of the world.
-fn task_in<W: World>(
+/// The task of a node, where these of its sources are newer than it. What its conditions ask is
+/// asked of the makefiles and of the world.
+pub fn task_in<W: World>(
     maker: &Maker,
     world: &mut W,
     node: u32,
@@ -72,16 +75,17 @@ fn task_in<W: World>(
     )
 }
 
-// What is known of a node by times.
+/// What is known of a node by times.
 #[derive(Drop)]
-struct Verdict {
+pub struct Verdict {
     /// The names of its sources that are newer than it.
-    newer: Texts,
+    pub newer: Texts,
     /// The ages of all its sources.
-    ages: Ages,
+    pub ages: Ages,
 }
 
-fn judge(maker: &Maker, node: u32, times: &NodeTimes) -> Result<Verdict, NoMemory>
+/// What is known of a node by the times of its file and of the nodes that count for it.
+pub fn judge(maker: &Maker, node: u32, times: &NodeTimes) -> Result<Verdict, NoMemory>
     requires within { node < length maker.now.plan.now }
     requires walk { IsWalk maker.now.plan.now node times.now.target times.now.sources }
     ensures newer { IfOk result (λ verdict. verdict.newer

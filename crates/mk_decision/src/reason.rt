@@ -1,11 +1,13 @@
 //! Why a node is out of date. Each look is made only where what was seen before gives no reason.
-ghost use Rattle.std.specs.Prelude.{◌≡◌, ◌<◌, ◌++◌, ℕ, List, [], Option, None, true, false, length, unwrap_or, IfOk, OnErr};
+ghost use Rattle.std.specs.Prelude.{◌≡◌, ◌<◌, ◌++◌, ℕ, List, [], Option, None, true, false, length};
+ghost use Rattle.std.specs.Prelude.{unwrap_or, IfOk, OnErr};
 ghost use Rattle.std.specs.Option.{option_copied};
 ghost use Rattle.mk_decision.specs.Decisions.{mode_at};
 ghost use Rattle.mk_decision.specs.Judgements.{found_by};
 ghost use Rattle.mk_decision.specs.Looks.{LooksAt};
 ghost use Rattle.mk_decision.specs.Makers.{work_of};
-ghost use Rattle.mk_decision.specs.Metas.{AreOf, MetaSight, PathTimes, meta_looks, no_paths, path_looks, records_in as records_of};
+ghost use Rattle.mk_decision.specs.Metas.{AreOf, MetaSight, PathTimes, meta_looks, no_paths};
+ghost use Rattle.mk_decision.specs.Metas.{path_looks, records_in as records_of};
 ghost use Rattle.mk_decision.specs.Newest.{raised_all, times_whens};
 ghost use Rattle.mk_decision.specs.Reasons as spec;
 ghost use Rattle.mk_decision.specs.Sights.{SawSome};
@@ -162,9 +164,9 @@ fn by_meta<W: World>(
     })
 }
 
-/// What is found of a node by its task, the time of its file and the ages of its sources. In meta mode its
-/// meta file is looked at where these give no reason, and where that gives none either, so is each path
-/// that counts of its records.
+/// What is found of a node by its task, the time of its file and the ages of its sources. In meta
+/// mode its meta file is looked at where these give no reason, and where that gives none either, so
+/// is each path that counts of its records.
 pub fn find<W: World>(
     maker: &Maker,
     world: &mut W,

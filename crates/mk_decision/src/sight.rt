@@ -1,8 +1,10 @@
 //! The looks by which a node is decided.
-ghost use Rattle.std.specs.Prelude.{◌≡◌, ◌<◌, ◌+◌, ◌==◌, ◌||◌, ◌&&◌, nat_lt, ℕ, List, [], Option, true, length, IfOk, OnErr, OnOk};
+ghost use Rattle.std.specs.Prelude.{◌≡◌, ◌<◌, ◌+◌, ◌==◌, ◌||◌, ◌&&◌, nat_lt, ℕ, List, [], Option};
+ghost use Rattle.std.specs.Prelude.{true, length, IfOk, OnErr, OnOk};
 ghost use Rattle.mk_decision.specs.Ages as spec;
 ghost use Rattle.mk_decision.specs.Looks.{LooksAt};
-ghost use Rattle.mk_decision.specs.Sights.{AreWanted, IsAt, Looked, OnWalk, SawAll, SawSome, look_at};
+ghost use Rattle.mk_decision.specs.Sights.{AreWanted, IsAt, Looked, OnWalk, SawAll, SawSome};
+ghost use Rattle.mk_decision.specs.Sights.{look_at};
 ghost use Rattle.mk_decision.specs.Wants.{has};
 ghost use Rattle.mk_plan.specs.Plans.{node_at};
 ghost use Rattle.mk_world.specs.Causes.{HasCause};
@@ -104,8 +106,8 @@ fn want_counted(wanted: &mut Wanted, plan: &Plan, place: u32, when: When) -> Res
     Ok(())
 }
 
-// The sources of a node that is to be decided, or none where its file is missing. Those that rise, as
-// sources do that are new to a plan, are lent.
+// The sources of a node that is to be decided, or none where its file is missing. Those that rise,
+// as sources do that are new to a plan, are lent.
 fn decisive<'p>(
     alloc: Global,
     plan: &'p Plan,

@@ -59,8 +59,8 @@ fn add_newer(
     Ok(())
 }
 
-/// The names of those nodes at these places that are newer than the target, by their ages, or of all
-/// where it is missing. No other name is copied.
+/// The names of those nodes at these places that are newer than the target, by their ages, or of
+/// all where it is missing. No other name is copied.
 pub fn newer_names(
     alloc: Global,
     plan: &Plan,

@@ -1,5 +1,6 @@
 //! Nodes that are still to be looked at.
-ghost use Rattle.std.specs.Prelude.{◌≡◌, ◌≤◌, ◌==◌, ◌||◌, ◌&&◌, not, ℕ, true, false, IfSome, IfNone, OnOk};
+ghost use Rattle.std.specs.Prelude.{◌≡◌, ◌≤◌, ◌==◌, ◌||◌, ◌&&◌, not, ℕ, true, false, IfSome};
+ghost use Rattle.std.specs.Prelude.{IfNone, OnOk};
 ghost use Rattle.mk_decision.specs.Ages.{is_one_of};
 ghost use Rattle.mk_decision.specs.Rising.{IsLast, rise, rise_below};
 ghost use Rattle.std.specs.BTreeSet.{contains};

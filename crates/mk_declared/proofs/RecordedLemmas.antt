@@ -104,7 +104,7 @@ module _ (meaning : Meaning) (plan : Plan) (files : Store) (ops : Recorded)
         (stands-among (once (outer nothing_over deeds)) path
         (among-once (outer nothing_over deeds) path ∙ is-among (outer nothing_over deeds) path read))
 
-    source : (path : List ℕ) → IsUnaltered plan ops path → IsSource plan all path
+    pub source : (path : List ℕ) → IsUnaltered plan ops path → IsSource plan all path
     source path unaltered = record {
       alone = λ one among. leaves-alone one (of one among) path (λ node there same. unaltered.alone node there);
       no_made = unaltered.no_made;

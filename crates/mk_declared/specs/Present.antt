@@ -1,8 +1,10 @@
--- The jobs of a plan on the files that stand. Where each made file stands as its job would leave it there, and what these
--- jobs read and change is declared, the clean build does what they do: so whether it is declared can be told from the
--- files that stand, or from what is recorded of the jobs that made them.
+-- The jobs of a plan on the files that stand. Where each made file stands as its job would leave it
+-- there, and what these jobs read and change is declared, the clean build does what they do: so
+-- whether it is declared can be told from the files that stand, or from what is recorded of the
+-- jobs that made them.
 use Rattle.std.specs.Prelude.{◌≡◌, ℕ, true, List, [], ◌∷◌, map, Option, Some}
-use Rattle.mk_clean.specs.Clean.{AllWell, CleanJob, IsAmong, Plan, clean_build, clean_files, doings_on}
+use Rattle.mk_clean.specs.Clean.{AllWell, CleanJob, IsAmong, Plan, clean_build, clean_files}
+use Rattle.mk_clean.specs.Clean.{doings_on}
 use Rattle.mk_clean.specs.Declared.{AreWellMade, IsDeclared}
 use Rattle.mk_meta.specs.TrueHistory.{deeds_of_job}
 use Rattle.mk_world.specs.Deeds.{Store}
@@ -21,7 +23,8 @@ present_jobs meaning plan files = map (present_job meaning plan files) plan.orde
 abbrev pub at : Store → CleanJob → CleanJob
 at files one = record { node = one.node; before = files; doings = one.doings }
 
--- A node stands: its job goes well on the files that stand, and what it leaves at the node's path stands there.
+-- A node stands: its job goes well on the files that stand, and what it leaves at the node's path
+-- stands there.
 pub record Stands (meaning : Meaning) (plan : Plan) (files : Store) (node : ℕ) : Type 0 where
   pub well : AllWell (plan.node node).lines (doings_on meaning plan node files)
   pub left : (bytes : Option (List ℕ))
@@ -41,6 +44,7 @@ pub record IsPresent (meaning : Meaning) (plan : Plan) (files : Store) : Type 0 
 abbrev pub PresentJobsAreClean : Type 0
 PresentJobsAreClean =
     (meaning : Meaning) (plan : Plan) (files : Store)
-    → IsDeclared plan (present_jobs meaning plan files) → AreWellMade plan (present_jobs meaning plan files)
+    → IsDeclared plan (present_jobs meaning plan files)
+    → AreWellMade plan (present_jobs meaning plan files)
     → ((node : ℕ) → IsAmong node plan.order → (plan.node node).made ≡ true → Stands meaning plan files node)
     → IsPresent meaning plan files

@@ -1,5 +1,6 @@
 -- A test of what jobs read and change, by lists of paths alone.
-use Rattle.std.specs.Prelude.{◌≡◌, ℕ, zero, suc, ◌==◌, ◌&&◌, ◌||◌, Bool, true, false, not, List, [], ◌∷◌, Option, Some, None}
+use Rattle.std.specs.Prelude.{◌≡◌, ℕ, zero, suc, ◌==◌, ◌&&◌, ◌||◌, Bool, true, false, not, List, []}
+use Rattle.std.specs.Prelude.{◌∷◌, Option, Some, None}
 use Rattle.std.specs.List.{list_all, list_any}
 use Rattle.std.specs.Str.{bytes_eq}
 use Rattle.mk_clean.specs.Clean.{CleanJob, Plan, deeds_of, is_changed}
@@ -56,8 +57,8 @@ leaves_its_file plan one =
     not (plan.node one.node).made || (is_left (over_deeds nothing_over (deeds_of one) (plan.node one.node).name)
     || not (all_well (plan.node one.node).lines one.doings))
 
--- What a job takes from outside itself are sources, and made files on which its node depends; what it changes is its
--- own, and no meta file; and it leaves its file.
+-- What a job takes from outside itself are sources, and made files on which its node depends; what
+-- it changes is its own, and no meta file; and it leaves its file.
 abbrev pub is_declared_job : Plan → ℕ → List CleanJob → CleanJob → Bool
 is_declared_job plan most all one =
     list_all (λ path. is_source plan all path || is_made_before plan most all one path)
@@ -66,11 +67,13 @@ is_declared_job plan most all one =
     (changed_paths (deeds_of one))
     && leaves_its_file plan one)
 
--- What all jobs read and change is declared, as far as a node depends on another one over so many nodes.
+-- What all jobs read and change is declared, as far as a node depends on another one over so many
+-- nodes.
 abbrev pub is_declared : Plan → ℕ → List CleanJob → Bool
 is_declared plan most all = list_all (is_declared_job plan most all) all
 
 -- Where the test passes, all is declared.
 abbrev pub TestedJobsAreDeclared : Type 0
 TestedJobsAreDeclared =
-    (plan : Plan) (most : ℕ) (all : List CleanJob) → is_declared plan most all ≡ true → IsDeclared plan all
+    (plan : Plan) (most : ℕ) (all : List CleanJob) → is_declared plan most all ≡ true
+    → IsDeclared plan all

@@ -8,14 +8,14 @@ pub fn tested_jobs_are_declared()
     ensures { TestedJobsAreDeclared }
 {}
 
-/// Where each made file stands as its job would leave it on the files that stand, and what these jobs read and change is
-/// declared, the clean build does what they do, and leaves what stands.
+/// Where each made file stands as its job would leave it on the files that stand, and what these
+/// jobs read and change is declared, the clean build does what they do, and leaves what stands.
 pub fn present_jobs_are_clean()
     ensures { PresentJobsAreClean }
 {}
 
-/// Where records are exactly those of what the jobs do on the files that stand, and what they say is declared, what the jobs
-/// read and change there is declared.
+/// Where records are exactly those of what the jobs do on the files that stand, and what they say
+/// is declared, what the jobs read and change there is declared.
 pub fn recorded_jobs_are_declared()
     ensures { RecordedJobsAreDeclared }
 {}

@@ -1,4 +1,4 @@
-mod FileLemmas
+pub mod FileLemmas
 mod LawLemmas
 mod NameLemmas
 mod Rows

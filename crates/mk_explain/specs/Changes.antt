@@ -1,5 +1,6 @@
 -- What has changed in the commands of a target.
-use Rattle.std.specs.Prelude.{ℕ, ◌+◌, ◌==◌, List, [], ◌∷◌, ◌++◌, length, codes, decimal, not, false, if◌then◌else◌}
+use Rattle.std.specs.Prelude.{ℕ, ◌+◌, ◌==◌, List, [], ◌∷◌, ◌++◌, length, codes, decimal, not, false}
+use Rattle.std.specs.Prelude.{if◌then◌else◌}
 use Rattle.std.specs.Str.{bytes_eq}
 use Rattle.mk_filemon.specs.Escapes.{escaped}
 use Rattle.mk_meta.specs.Texts.{sign}
@@ -17,7 +18,8 @@ abbrev pub change_text : ℕ → TaskLine → TaskLine → List ℕ
 change_text number line other =
     codes "command " ++ decimal number ++ side_text (codes "\n- ") other ++ side_text (codes "\n+ ") line
 
--- The first compared line that differs, where the lines from this number on are these, and were those.
+-- The first compared line that differs, where the lines from this number on are these, and were
+-- those.
 abbrev pub first_change : ℕ → List TaskLine → List TaskLine → List ℕ
 first_change number [] others = []
 first_change number (line ∷ lines) [] = []

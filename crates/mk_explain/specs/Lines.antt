@@ -1,5 +1,6 @@
 -- The line of a reason.
-use Rattle.std.specs.Prelude.{ℕ, List, [], ◌∷◌, ◌++◌, codes, false, get_or, unwrap_or, Option, Some, None}
+use Rattle.std.specs.Prelude.{ℕ, List, [], ◌∷◌, ◌++◌, codes, false, get_or, unwrap_or, Option, Some}
+use Rattle.std.specs.Prelude.{None}
 use Rattle.mk_bytes.specs.Bytes.{newline}
 use Rattle.mk_decision.specs.Decisions.{Work, source_names}
 use Rattle.mk_filemon.specs.Escapes.{escaped}
@@ -17,8 +18,8 @@ use Rattle.mk_world.specs.declared.time.When.TheVariants.{Missing}
 use Rattle.mk_explain.specs.Changes.{command_text}
 use Rattle.mk_explain.specs.Pieces.{newer_text, path_text, read_text, touched_text}
 
--- the names that a line may have: that of the node, those of its sources, and the beginnings of the paths
--- that are ignored
+-- the names that a line may have: that of the node, those of its sources, and the beginnings of the
+-- paths that are ignored
 pub record Names : Type 0 where
   pub node : List ℕ
   pub sources : List (List ℕ)
@@ -35,8 +36,8 @@ names_of work node = record {
 abbrev pub records_of : Meta → List Rec
 records_of meta = unwrap_or meta.records []
 
--- the path at a place of those that a job found outside, that it missed there, that it left written, by the
--- records of its meta file
+-- the path at a place of those that a job found outside, that it missed there, that it left
+-- written, by the records of its meta file
 abbrev pub changed_text : List (List ℕ) → When → ℕ → Meta → List ℕ
 changed_text ignored when place meta =
     read_text (get_or (read_paths ignored (records_of meta)) place []) when meta.stamp.0

@@ -1,5 +1,6 @@
 -- The walk over a plan: one node after the other, and which of them are told.
-use Rattle.std.specs.Prelude.{◌≡◌, ◌⊎◌, ℕ, ◌+◌, ◌<◌, List, [], ◌∷◌, ◌++◌, length, Option, Some, None}
+use Rattle.std.specs.Prelude.{◌≡◌, ◌⊎◌, ℕ, ◌+◌, ◌<◌, List, [], ◌∷◌, ◌++◌, length, Option, Some}
+use Rattle.std.specs.Prelude.{None}
 use Rattle.std.specs.List.{AllByRecursion}
 use Rattle.mk_decision.specs.Ages.{source_ages}
 use Rattle.mk_decision.specs.Decisions.{Work, IsJudged, IsRefused}
@@ -25,14 +26,16 @@ pub data Turn : Type 0 where
   quiet : (seen : List Seen) → Turn
   tells : (seen : List Seen) → (reason : Reason) → Turn
 
--- Nothing is told of a node without commands, which is not looked at, and of one that is up to date.
+-- Nothing is told of a node without commands, which is not looked at, and of one that is up to
+-- date.
 abbrev pub IsQuiet : Work → ℕ → List Seen → Type 0
 IsQuiet work node seen =
     (((node_at work.plan node).commands ≡ []) × (seen ≡ []))
     ⊎ ((0 < length (node_at work.plan node).commands)
     × (task : Task) × IsJudged work node seen task None)
 
--- Its reason is told where it has commands and is out of date: the first reason that holds, with its line.
+-- Its reason is told where it has commands and is out of date: the first reason that holds, with
+-- its line.
 pub record IsTold (work : Work) (node : ℕ) (seen : List Seen) (reason : Reason) : Type 0 where
   pub task : Task
   pub commands : 0 < length (node_at work.plan node).commands
@@ -71,8 +74,8 @@ reasons_of [] = []
 reasons_of (quiet seen ∷ turns) = reasons_of turns
 reasons_of (tells seen reason ∷ turns) = reason ∷ reasons_of turns
 
--- A plan was explained: each of its nodes had its turn, in plan order, and these are the reasons that were
--- told. All that was seen was looked at in order.
+-- A plan was explained: each of its nodes had its turn, in plan order, and these are the reasons
+-- that were told. All that was seen was looked at in order.
 pub record IsExplained (Looked : List Seen → Type 0) (work : Work) (reasons : List Reason) : Type 0
   where
     pub turns : List Turn
@@ -81,8 +84,8 @@ pub record IsExplained (Looked : List Seen → Type 0) (work : Work) (reasons : 
     pub told : reasons ≡ reasons_of turns
     pub looked : Looked (looks_of turns)
 
--- It was not, since this line of the task of this node, the first such, cannot be expanded: each node before
--- it had its turn.
+-- It was not, since this line of the task of this node, the first such, cannot be expanded: each
+-- node before it had its turn.
 pub record IsStopped (Looked : List Seen → Type 0) (work : Work) (node number : ℕ) (what : ExpandFault)
     : Type 0
   where
@@ -104,8 +107,9 @@ abbrev pub IsAnswered : FileMap → Seen → Type 0
 IsAnswered files (dated one) = one.when ≡ when_of (files one.path)
 IsAnswered files (read path bytes) = bytes ≡ contents files path
 
--- Make looked at these paths in order, no child running. Where the world tells, nothing else happened, and
--- all looks are answered by one map of files, which stands from the beginning to the end.
+-- Make looked at these paths in order, no child running. Where the world tells, nothing else
+-- happened, and all looks are answered by one map of files, which stands from the beginning to the
+-- end.
 pub record SawFiles (meaning : Meaning) (before after : Option History) (seen : List Seen) : Type 0
   where
     pub looked : LooksAt meaning before after seen

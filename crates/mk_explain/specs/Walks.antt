@@ -2,7 +2,8 @@
 use Rattle.std.specs.Prelude.{◌≡◌, ℕ, List, length, Option, Some, None}
 use Rattle.mk_decision.specs.Decisions.{Work, IsRefused}
 use Rattle.mk_world.specs.Looks.{Seen}
-use Rattle.mk_explain.specs.Turns.{AreTurns, IsStoppedBy, IsTurn, Turn, behind_all, looks_of, quiet, reasons_of, tells}
+use Rattle.mk_explain.specs.Turns.{AreTurns, IsStoppedBy, IsTurn, Turn, behind_all, looks_of, quiet}
+use Rattle.mk_explain.specs.Turns.{reasons_of, tells}
 use Rattle.mk_explain.specs.declared.fault.ExplainFault.{ExplainFault}
 use Rattle.mk_explain.specs.declared.fault.ExplainFault.TheVariants.{Expand, Failed, NoMemory}
 use Rattle.mk_explain.specs.declared.reason.Reason.{Reason}
@@ -34,7 +35,8 @@ pub record AreWalked (Looked : List Seen → Type 0) (first work : Work) (node :
     pub looked : Looked (looks_of turns)
 
 -- the walk was stopped after these looks
-pub record HaltsAt (Looked : List Seen → Type 0) (first : Work) (fault : ExplainFault) : Type 0 where
+pub record HaltsAt (Looked : List Seen → Type 0) (first : Work) (fault : ExplainFault)
+    : Type 0 where
   pub seen : List Seen
   pub looked : Looked seen
   pub stopped : IsStoppedBy Looked first fault

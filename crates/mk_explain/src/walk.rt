@@ -1,5 +1,6 @@
 //! The walk over a plan.
-ghost use Rattle.std.specs.Prelude.{◌≡◌, ◌≢◌, ◌<◌, ◌+◌, ℕ, List, [], Option, length, Err, IfOk, IfErr, OnOk};
+ghost use Rattle.std.specs.Prelude.{◌≡◌, ◌≢◌, ◌<◌, ◌+◌, ℕ, List, [], Option, length, Err, IfOk};
+ghost use Rattle.std.specs.Prelude.{IfErr, OnOk};
 ghost use Rattle.mk_decision.specs.Looks.{LooksAt};
 ghost use Rattle.mk_decision.specs.Makers.{work_of, work_on};
 ghost use Rattle.mk_decision.specs.Decisions.{Work};
@@ -148,11 +149,11 @@ fn explain_all<W: World>(
     Ok(reasons)
 }
 
-/// Why the nodes of a plan are out of date, in plan order. A node that has a reason counts as new for the
-/// nodes that are made from it. Nothing is started or changed.
+/// Why the nodes of a plan are out of date, in plan order. A node that has a reason counts as new
+/// for the nodes that are made from it. Nothing is started or changed.
 ///
-/// `Expand(n, l, x)` exactly where line l of the task of node n has this fault, and no node before it has one.
-/// `Failed` comes only where the world's count of faults rose or is at its end.
+/// `Expand(n, l, x)` exactly where line l of the task of node n has this fault, and no node before
+/// it has one. `Failed` comes only where the world's count of faults rose or is at its end.
 pub fn explain<W: World>(
     alloc: Global,
     plan: Plan,

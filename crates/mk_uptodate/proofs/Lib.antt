@@ -1,3 +1,4 @@
+pub mod AuditedLemmas
 pub mod NodeLemmas
 pub mod FileLemmas
 pub mod RecordedLemmas

@@ -1,5 +1,5 @@
--- What the jobs of nodes do on the files that stand, told from their meta files: whether it is declared can then be told
--- from what these record, and nothing need be run.
+-- What the jobs of nodes do on the files that stand, told from their meta files: whether it is
+-- declared can then be told from what these record, and nothing need be run.
 use Rattle.std.specs.Prelude.{◌≡◌, ℕ, List, Some, true}
 use Rattle.std.specs.List.{AllByRecursion}
 use Rattle.mk_clean.specs.Clean.{IsAmong, doings_on}
@@ -23,9 +23,10 @@ use Rattle.mk_world.specs.Talks.{Meaning}
 use Rattle.mk_world.specs.declared.command.TaskLine.{TaskLine}
 use Rattle.mk_world.specs.declared.history.History.{History}
 
--- A node is recorded so: its meta file tells what happened, and has exactly these records; each of its lines is compared;
--- and as the files stand its task is as it is recorded, what its job found is older than the job, and what it missed is
--- missing. The node may be phony: nothing is asked of what stands at its own path.
+-- A node is recorded so: its meta file tells what happened, and has exactly these records; each of
+-- its lines is compared; and as the files stand its task is as it is recorded, what its job found
+-- is older than the job, and what it missed is missing. The node may be phony: nothing is asked of
+-- what stands at its own path.
 pub record IsRecorded (meaning : Meaning) (old : History) (work : Work) (lines : Tasks) (node : ℕ)
     (records : List Rec) : Type 0
   where
@@ -44,8 +45,8 @@ RecordedNodesDoTheSame =
     → IsRecorded meaning old work lines node records
     → AreExact (ops_of records) (deeds_of_job (doings_on meaning (clean_plan work lines) node (files_of old)))
 
--- Where all nodes with jobs are recorded, and what is recorded is declared, what their jobs read and change on the files that
--- stand is declared.
+-- Where all nodes with jobs are recorded, and what is recorded is declared, what their jobs read
+-- and change on the files that stand is declared.
 abbrev pub RecordedFilesAreDeclared : Type 0
 RecordedFilesAreDeclared =
     (meaning : Meaning) (old : History) (work : Work) (lines : Tasks) (records : ℕ → List Rec)

@@ -1,6 +1,7 @@
--- Whether what is asked before a run holds of the files that stand, by the meta files that stand. Where each made node is
--- up to date, the files that stand tell what the jobs of the clean build do: so what these read and change, and what their
--- commands ask, may be looked up in what the jobs do on the files that stand.
+-- Whether what is asked before a run holds of the files that stand, by the meta files that stand.
+-- Where each made node is up to date, the files that stand tell what the jobs of the clean build
+-- do: so what these read and change, and what their commands ask, may be looked up in what the jobs
+-- do on the files that stand.
 use Rattle.std.specs.Prelude.{◌≡◌, ℕ, ◌<◌, List, [], map, Some, None, Ok, true, false}
 use Rattle.std.specs.List.{AllByRecursion}
 use Rattle.mk_answers.specs.OnFiles.{ChangesNone}
@@ -47,7 +48,8 @@ use Rattle.mk_world.specs.declared.time.When.{When}
 abbrev pub time_in : History → List ℕ → When
 time_in old path = when_of ((state_of old).files path)
 
--- The times by which a node of this path is tested, where its meta file has these records, as the files stand.
+-- The times by which a node of this path is tested, where its meta file has these records, as the
+-- files stand.
 abbrev pub times_in : History → List ℕ → List Age → List Rec → Times
 times_in old name ages records = record {
   target = time_in old name;
@@ -63,8 +65,9 @@ abbrev pub task_in : Work → Tasks → ℕ → Task
 task_in work lines node =
     task_with work.variables work.mode.exports (node_at work.plan node).name (lines node)
 
--- A node is up to date: its meta file stands, is lawful and has records, and by the times of the files that stand the test
--- gives no reason to make it again with these lines, whatever the ages of its sources.
+-- A node is up to date: its meta file stands, is lawful and has records, and by the times of the
+-- files that stand the test gives no reason to make it again with these lines, whatever the ages of
+-- its sources.
 pub record IsUpToDate (old : History) (work : Work) (lines : Tasks) (node : ℕ) : Type 0 where
   pub meta : Meta
   pub lawful : IsLawful meta
@@ -79,11 +82,12 @@ pub record IsUpToDate (old : History) (work : Work) (lines : Tasks) (node : ℕ)
 abbrev pub UpToDateNodesStand : Type 0
 UpToDateNodesStand =
     (meaning : Meaning) (old : History) (work : Work) (lines : Tasks) (node : ℕ)
-    → IsTrueStart meaning old → GoesByMetaMode work lines → makes_file (node_at work.plan node) ≡ true
+    → IsTrueStart meaning old → GoesByMetaMode work lines
+    → makes_file (node_at work.plan node) ≡ true
     → IsUpToDate old work lines node → Stands meaning (clean_plan work lines) (files_of old) node
 
--- On the files that stand a node has these lines. No name of the newer sources is looked up in its commands, and `exists` is
--- asked of sources alone, which answer by what stands.
+-- On the files that stand a node has these lines. No name of the newer sources is looked up in its
+-- commands, and `exists` is asked of sources alone, which answer by what stands.
 pub record HasPresentTask (meaning : Meaning) (work : Work) (lines : Tasks) (files : Store) (node : ℕ) : Type 0
   where
     pub asked : List Asked
@@ -94,12 +98,13 @@ pub record HasPresentTask (meaning : Meaning) (work : Work) (lines : Tasks) (fil
     pub sources : (question : Asked) → IsAmong question asked
         → IsSource (clean_plan work lines) (present_jobs meaning (clean_plan work lines) files) question.path
 
--- What is asked of the words, the environment, and the files and meta files that stand before a run, where all is up to
--- date. Nothing here speaks of the jobs of the clean build.
-pub record AreUpToDate (meaning : Meaning) (env : Env) (order : Order) (old : History) : Type 0 where
-  -- The makefiles on these files are read, and say this, where these are the names in the directories that they list; no
-  -- two nodes of the graph have one name, which holds of all graphs that are read; and this is the work that the words ask
-  -- for.
+-- What is asked of the words, the environment, and the files and meta files that stand before a
+-- run, where all is up to date. Nothing here speaks of the jobs of the clean build.
+pub record AreUpToDate (meaning : Meaning) (env : Env) (order : Order) (old : History)
+    : Type 0 where
+  -- The makefiles on these files are read, and say this, where these are the names in the
+  -- directories that they list; no two nodes of the graph have one name, which holds of all graphs
+  -- that are read; and this is the work that the words ask for.
   pub made : Made
   pub listings : Listings
   pub read : (reading_on meaning (files_of old) listings env order).answer ≡ Ok made
@@ -120,13 +125,14 @@ pub record AreUpToDate (meaning : Meaning) (env : Env) (order : Order) (old : Hi
   -- Each node with commands has its lines on the files that stand, and each made one is up to date.
   pub tasks_are : (node : ℕ) → has_job (node_at work.plan node) ≡ true
       → HasPresentTask meaning work lines (files_of old) node
-  pub fresh : (node : ℕ) → makes_file (node_at work.plan node) ≡ true → IsUpToDate old work lines node
+  pub fresh : (node : ℕ) → makes_file (node_at work.plan node) ≡ true
+      → IsUpToDate old work lines node
   -- What the jobs read and change on the files that stand is declared.
   pub declared : IsDeclared (clean_plan work lines)
       (present_jobs meaning (clean_plan work lines) (files_of old))
 
--- Then what is asked of the clean build holds, with the same work and the same lines, and each made file has the bytes of
--- the clean build already.
+-- Then what is asked of the clean build holds, with the same work and the same lines, and each made
+-- file has the bytes of the clean build already.
 pub record AreClean (meaning : Meaning) (env : Env) (order : Order) (old : History)
     (its : AreUpToDate meaning env order old) : Type 0
   where

@@ -1,0 +1,5 @@
+mod AskedLemmas
+mod LawLemmas
+mod ReasonLemmas
+mod SeenLemmas
+mod TurnLemmas

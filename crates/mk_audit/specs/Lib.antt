@@ -1,0 +1,10 @@
+pub mod Facts
+pub mod Faults
+pub mod Laws
+pub mod Looks
+pub mod Modes
+pub mod Names
+pub mod Reasons
+pub mod Turns
+pub mod Views
+pub mod Walks

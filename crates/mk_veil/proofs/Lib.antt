@@ -1,0 +1,3 @@
+pub mod HiddenLemmas
+pub mod NameLemmas
+pub mod VeilLemmas

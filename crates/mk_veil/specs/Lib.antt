@@ -1,0 +1,5 @@
+pub mod Held
+pub mod Idle
+pub mod Names
+pub mod Records
+pub mod Veiled
