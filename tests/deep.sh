@@ -169,6 +169,15 @@ row shows='a chain of 1,024 modifiers of 4 MiB in less than 64 MiB' memory=65536
     words='-v "\${C12$(times 512 ":tu:tl")}" | wc -c' out=$'4194305\n' \
     makefile='echo "C0=$(times 1024 x)"; lines 12 "C+=\${C%}\${C%}"'
 
+row shows='a chain of 20 modifiers over 2,097,145 words in less than 64 MiB' memory=65536 \
+    words='-V "\${W:$(times 10 "S/a/b/:S/b/a/:")[#]}"' out=$'2097145\n' \
+    makefile='printf "P=%s\n" "$(yes "a " | head -n 262144 | tr -d "\n")"; echo "W=$(times 8 "\$P")"'
+
+row shows='a text of 4,000,000 bytes of references in less than 128 MiB' memory=131072 \
+    words='-v A' out=$'\n' \
+    makefile='printf "P=%s\n" "$(yes "\${a}" | head -n 250000 | tr -d "\n")"
+        echo "A:=\${P}\${P}\${P}\${P}"'
+
 row shows='200,000 suffixes in a line' words='-v A' out="$one" \
     makefile='echo ".SUFFIXES: \${:U:range=200000:S/^/./}"; echo A=1'
 
