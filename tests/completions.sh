@@ -85,6 +85,7 @@ for shell in bash fish zsh; do
         case $nl$offered$nl in *"$nl$option$nl"*) ;; *) wrong="$wrong no $option;" ;; esac
     done
     count "$shell: options" "$wrong"
+    count "$shell: long options, the first of them" "$(same --audit "$("in_$shell" bmake --au)")"
     count "$shell: long options" "$(same --explain "$("in_$shell" bmake --ex)")"
 done
 count 'nothing was run' "$([ ! -e ran ] || echo 'a command of != was run')"

@@ -90,6 +90,23 @@ row shows='--explain: another exported variable' makefile="$meta"$'A?=1\n.export
 row shows='--explain: a command that failed' makefile="$meta"$'t:\n\t${F} put t 1\n\t${F} fail 3\n' \
     before='! "$program" -s 2>/dev/null && pause' run='"$program" --explain' out='t no meta'
 
+# --audit.
+row shows='--audit: nothing of what is built and declared' makefile="$meta"$'t: s\n\t${F} cat t s\n' \
+    before='echo 1 >s && "$program" -s && pause' run='"$program" --audit'
+row shows='--audit: a made file that is read and not declared' \
+    makefile="$meta"$'all: s t\n.PHONY: all\ns:\n\t${F} put s 1\nt:\n\t${F} cat t s\n' before='"$program" -s && pause' \
+    run='"$program" --audit' status=1 out='reads-made t s' err='bmake: breaches 1'
+row shows='--audit: a made file that was removed' makefile="$meta"$'t:\n\t${F} put t 1\n' \
+    before='"$program" -s && pause && rm t' run='"$program" --audit' status=1 out='stale t missing' err='bmake: breaches 1'
+row shows='--audit: the mode' makefile=$'.MAKE.MODE=meta curdirOk=yes missing-meta=yes\nt:\n\t${F} put t 1\n' \
+    before='"$program" -s && pause' run='"$program" --audit' status=1 out=mode err='bmake: breaches 1'
+row shows='--audit: it makes and starts nothing' makefile="$meta"$'t:\n\t${F} put t 1\n' \
+    run='"$program" --audit; echo "$?"; ls' out=$'stale t missing\n1\nmakefile' err='bmake: breaches 1'
+row shows='--audit comes before --explain' makefile="$meta"$'t:\n\t${F} put t 1\n' \
+    run='"$program" -n -q --explain --audit' status=1 out='stale t missing' err='bmake: breaches 1'
+row shows='behind -- the word --audit is a target' makefile=$'t:\n\t@echo t\n' run='"$program" -- --audit' status=2 \
+    err="bmake: don't know how to make --audit"
+
 # What a line has printed comes when it has ended, while another job runs.
 mkdir "$room/slow" && cd "$room/slow" || exit 1
 printf 'all: quick slow\nquick:\n\t@echo quick\nslow:\n\t@while [ ! -e go ]; do sleep 0.05; done; echo slow\n' >makefile

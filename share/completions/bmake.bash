@@ -81,7 +81,7 @@ _bmake() {
     esac
     case $word in
         -*)
-            COMPREPLY=($(compgen -W $'-B\n-D\n-e\n-f\n-I\n-i\n-j\n-k\n-m\n-n\n-q\n-r\n-S\n-s\n-V\n-v\n--explain\n--generate\n--help\n--progress\n--version\n--' \
+            COMPREPLY=($(compgen -W $'-B\n-D\n-e\n-f\n-I\n-i\n-j\n-k\n-m\n-n\n-q\n-r\n-S\n-s\n-V\n-v\n--audit\n--explain\n--generate\n--help\n--progress\n--version\n--' \
                 -- "$word"))
             ;;
         *)

@@ -35,6 +35,7 @@ const HELP: &[u8] = b"usage: bmake [options] [NAME=VALUE ..] [TARGET ..]
   -n           print the commands that would be run; only those marked + are run
   -q           make nothing: status 1 where a target is out of date
   -r           taken, and without effect: no rules are built in
+  --audit      make nothing: tell what breaches what a build in meta mode stands on
   --explain    make nothing: tell of each target that is out of date why it is
   --progress   where standard error is a terminal, show there how far the build has come
   --generate N make a project of N targets in memory and build it twice, where it is the first word
@@ -48,9 +49,9 @@ Each command of a target is run by /bin/sh, in the current directory, and what i
 it has ended. With a recorder in BMAKE_RECORDER, as fmtrace, that is run before each /bin/sh. Options
 but -f, -j, -V, -v and targets reach the makes below, by BMAKE_FLAGS.
 
-Exit status: 0 where all went well, 1 where a command failed or, with -q, a target is out of date,
-2 for a bad word, a fault in a makefile or a target that cannot be made, 3 where an outside call failed,
-4 where memory ran out.
+Exit status: 0 where all went well, 1 where a command failed or, with -q, a target is out of date or,
+with --audit, something is breached, 2 for a bad word, a fault in a makefile or a target that cannot be
+made, 3 where an outside call failed, 4 where memory ran out.
 ";
 
 const VERSION: &[u8] = b"bmake 0.1.0\n";

@@ -158,8 +158,20 @@ nameless_append_row = refl
 pub nameless_now_row : read (codes ":=x" ∷ []) ≡ Err (Word 0)
 nameless_now_row = refl
 
-pub unknown_option_row : read (codes "--audit" ∷ []) ≡ Err (Word 0)
+pub unknown_option_row : read (codes "--unknown" ∷ []) ≡ Err (Word 0)
 unknown_option_row = refl
+
+-- `--audit` stands beside targets and options, and behind `--` it is a target
+pub audit_row : read (codes "t" ∷ codes "--audit" ∷ codes "-k" ∷ [])
+    ≡ Ok (record no_order {
+      audit = true;
+      flags = record no_flags { keep_going = true; requested = codes "t" ∷ [] };
+    })
+audit_row = refl
+
+pub audit_operand_row : read (codes "--" ∷ codes "--audit" ∷ [])
+    ≡ Ok (only_targets (codes "--audit" ∷ []))
+audit_operand_row = refl
 
 -- `--explain` stands beside targets and options, and behind `--` it is a target
 pub explain_row : read (codes "t" ∷ codes "--explain" ∷ codes "-k" ∷ [])

@@ -12,7 +12,7 @@ use Rattle.mk_cli.specs.Assignments.{is_assignment, assignment}
 use Rattle.mk_cli.specs.Letters.{letter_of}
 use Rattle.mk_cli.specs.Numbers.{is_number, number}
 use Rattle.mk_cli.specs.Options.{names_nothing, with_flag, path, with_argument}
-use Rattle.mk_cli.specs.Orders.{IsInRange, with_explain, with_order, with_progress}
+use Rattle.mk_cli.specs.Orders.{IsInRange, with_audit, with_explain, with_order, with_progress}
 use Rattle.mk_cli.specs.Words as spec
 use Rattle.mk_cli.specs.declared.letter.Argument.{Argument}
 use Rattle.mk_cli.specs.declared.letter.Argument.TheVariants as takes
@@ -161,6 +161,12 @@ Gives-read_any cwd place r word sound =
     (Gives-if (IsSound (place + 1)) place (spec.is_generate place word)
     (Ok (spec.expecting r (ArgumentOf place takes.Generate))) _
     (record { range = sound.range; waits = omega arith })
+    (Gives-if (IsSound (place + 1)) place (spec.is_audit word)
+    (Ok (with_order r (with_audit r.order))) _
+    (record {
+      range = record { jobs = sound.range.jobs; generate = sound.range.generate };
+      waits = sound.waits;
+    })
     (Gives-if (IsSound (place + 1)) place (spec.is_explain word)
     (Ok (with_order r (with_explain r.order))) _
     (record {
@@ -175,7 +181,7 @@ Gives-read_any cwd place r word sound =
     })
     (Gives-if (IsSound (place + 1)) place (spec.is_option word) _ _
     (Gives-read_letters place r (drop 1 word) sound)
-    (Gives-read_operand cwd place r word sound)))))
+    (Gives-read_operand cwd place r word sound))))))
 
 -- an option that waits before a place waits before the next one
 pub waiting_goes_on : (place : ℕ) (expected : Expected) → WaitsBefore place expected

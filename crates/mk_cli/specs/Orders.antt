@@ -33,6 +33,7 @@ no_order = record {
   sets = [];
   prints = [];
   env_first = false;
+  audit = false;
   explain = false;
   generate = None;
   flags = no_flags;
@@ -74,6 +75,10 @@ with_print order full text =
 -- this many jobs, whatever was said before
 abbrev pub with_jobs : Order → ℕ → Order
 with_jobs order jobs = record order { flags = record order.flags { jobs = jobs } }
+
+-- what breaches what a build stands on is asked
+abbrev pub with_audit : Order → Order
+with_audit order = record order { audit = true }
 
 -- why targets are out of date is asked
 abbrev pub with_explain : Order → Order

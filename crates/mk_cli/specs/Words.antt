@@ -9,7 +9,7 @@ use Rattle.mk_cli.specs.Assignments.{is_assignment, assignment}
 use Rattle.mk_cli.specs.Letters.{letter_of}
 use Rattle.mk_cli.specs.Options.{with_flag, names_nothing, with_argument}
 use Rattle.mk_cli.specs.Orders.{first_reading, with_order, with_flags, with_set, with_jobs}
-use Rattle.mk_cli.specs.Orders.{with_explain, with_progress}
+use Rattle.mk_cli.specs.Orders.{with_audit, with_explain, with_progress}
 use Rattle.mk_cli.specs.declared.letter.Argument.{Argument}
 use Rattle.mk_cli.specs.declared.letter.Argument.TheVariants.{Generate}
 use Rattle.mk_cli.specs.declared.letter.Letter.{Letter}
@@ -84,6 +84,9 @@ is_option (byte ∷ rest) = byte == minus && not (bytes_eq rest [])
 abbrev pub is_generate : ℕ → List ℕ → Bool
 is_generate place word = place == 0 && bytes_eq word (codes "--generate")
 
+abbrev pub is_audit : List ℕ → Bool
+is_audit word = bytes_eq word (codes "--audit")
+
 abbrev pub is_explain : List ℕ → Bool
 is_explain word = bytes_eq word (codes "--explain")
 
@@ -95,10 +98,11 @@ abbrev pub read_any : List ℕ → ℕ → Reading → List ℕ → Read
 read_any cwd place r word =
     if bytes_eq word (codes "--") then Ok (expecting r Operand)
     else (if is_generate place word then Ok (expecting r (ArgumentOf place Generate))
+    else (if is_audit word then Ok (with_order r (with_audit r.order))
     else (if is_explain word then Ok (with_order r (with_explain r.order))
     else (if is_progress word then Ok (with_order r (with_progress r.order))
     else (if is_option word then read_letters place r (drop 1 word)
-    else read_operand cwd place r word))))
+    else read_operand cwd place r word)))))
 
 -- A word, by what is expected at its place.
 abbrev pub read_expected : List ℕ → ℕ → Reading → Expected → List ℕ → Read

@@ -57,6 +57,8 @@ pub struct Order {
     pub prints: Prints,
     /// `-e`: the environment stands above the globals.
     pub env_first: bool,
+    /// `--audit`: what breaches what a build stands on is told, and nothing is made.
+    pub audit: bool,
     /// `--explain`: why each target is out of date is told, and nothing is made.
     pub explain: bool,
     /// `--generate`: how many makefiles are to be generated, 1 to 10,000.

@@ -62,6 +62,7 @@ fn no_order(alloc: Global) -> Order
         sets: Items::new(alloc, 0).unwrap(),
         prints: Items::new(alloc, 0).unwrap(),
         env_first: false,
+        audit: false,
         explain: false,
         generate: None,
         flags: no_flags(alloc),
@@ -93,6 +94,13 @@ fn is_generate(place: u32, word: &[u8]) -> bool
     ensures { result ≡ spec.is_generate place word.now }
 {
     place == 0 && word == b"--generate".as_slice()
+}
+
+// Whether a word is `--audit`.
+fn is_audit(word: &[u8]) -> bool
+    ensures { result ≡ spec.is_audit word.now }
+{
+    word == b"--audit".as_slice()
 }
 
 // Whether a word is `--explain`.
@@ -234,6 +242,10 @@ impl Reading {
         }
         if is_generate(place, word) {
             self.expected = Expected::ArgumentOf(place, Argument::Generate);
+            return Ok(());
+        }
+        if is_audit(word) {
+            self.order.audit = true;
             return Ok(());
         }
         if is_explain(word) {

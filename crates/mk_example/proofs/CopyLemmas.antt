@@ -422,10 +422,10 @@ of-run bytes old new out out_after err report ready run done =
 
     from : (read_at : Option History) (read : Result Made ReadFault)
         → ReadBy language (Some old) read_at err.before run.run.err_at read (λ answers. reading answers env no_order)
-        → (goes : Goes language (by_reading no_order read) (point read_at out) (point (Some new) out_after)
+        → (goes : Goes language (by_reading env no_order read) (point read_at out) (point (Some new) out_after)
         run.run.went)
         → LeavesClean language env no_order
-        (built_in language (by_reading no_order read) (point read_at out) (point (Some new) out_after) run.run.went
+        (built_in language (by_reading env no_order read) (point read_at out) (point (Some new) out_after) run.run.went
         goes) report.end old new
         → IsCopied bytes new
     from read_at (Err fault) reads goes cleans =

@@ -62,7 +62,7 @@ unbuilt-end went end is = ap (λ (one : Went). one.end) is
 
 pub done-built : (meaning : Meaning) (words : List (List ℕ)) (env : Env) (order : Order) (first last : Point) (err : Held)
     (report : Report) (run : IsTrueOrderRun meaning words env order first last err report)
-    → ((made : Made) → by_reading order (Ok made) ≡ builds made order.flags) → report.end ≡ Done
+    → ((made : Made) → by_reading env order (Ok made) ≡ builds made order.flags) → report.end ≡ Done
     → HasBuilt (build_of run.run)
 done-built meaning words env order first last err report run builds_it done =
     from run.run.followed.read run.run.followed.goes
@@ -80,8 +80,8 @@ done-built meaning words env order first last err report run builds_it done =
     built made meant is goes = absurd cc
 
     from : (read : Result Made ReadFault)
-        → (goes : Goes meaning (by_reading order read) (point run.run.followed.read_at first.out) last run.run.went)
-        → HasBuilt (built_in meaning (by_reading order read) (point run.run.followed.read_at first.out) last
+        → (goes : Goes meaning (by_reading env order read) (point run.run.followed.read_at first.out) last run.run.went)
+        → HasBuilt (built_in meaning (by_reading env order read) (point run.run.followed.read_at first.out) last
         run.run.went goes)
     from (Err fault) goes = absurd (unread fault _ run.run.went.end went_done goes.printed)
-    from (Ok made) goes = built made (by_reading order (Ok made)) (builds_it made) goes
+    from (Ok made) goes = built made (by_reading env order (Ok made)) (builds_it made) goes

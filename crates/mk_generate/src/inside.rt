@@ -70,6 +70,7 @@ fn order(alloc: Global) -> Result<Order, NoMemory>
         sets: Items::new(alloc, 0)?,
         prints: Items::new(alloc, 0)?,
         env_first: false,
+        audit: false,
         explain: false,
         generate: None,
         flags: flags(alloc)?,

@@ -75,6 +75,7 @@ order = record {
   sets = [];
   prints = [];
   env_first = false;
+  audit = false;
   explain = false;
   generate = None;
   flags = record {

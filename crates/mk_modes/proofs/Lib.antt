@@ -1,3 +1,4 @@
+pub mod AuditLemmas
 pub mod BuildingLemmas
 pub mod MeaningLemmas
 pub mod MessageLemmas

@@ -23,7 +23,7 @@ use Rattle.mk_world.proofs.SinkLemmas.{Gains-nothing}
 use Rattle.mk_modes.specs.Building.{IsUnplanned, point, unbuilt}
 use Rattle.mk_modes.specs.Causes.{EndCause, LineCause, SinkCause}
 use Rattle.mk_modes.specs.Ends.{IsOutside, of_plan}
-use Rattle.mk_modes.specs.Meaning.{Outcome, Meant, only, prints, explains, queries, shows, builds, printed, ended}
+use Rattle.mk_modes.specs.Meaning.{Outcome, Meant, only, prints, audits, explains, queries, shows, builds, printed, ended}
 use Rattle.mk_modes.specs.Modes.{Printed, Goes}
 use Rattle.mk_modes.specs.declared.report.End.{End}
 use Rattle.mk_modes.specs.declared.report.End.TheVariants.{NoMemory, SinkFault}
@@ -92,6 +92,8 @@ Goes-stopped meaning (prints variables lists all) end h a outside = record {
       outside;
   unbuilt = refl;
 }
+Goes-stopped meaning (audits env made order) end h a outside =
+    inl (unplanned-stopped made order.flags.requested false end h a outside)
 Goes-stopped meaning (explains made flags) end h a outside =
     inl (unplanned-stopped made flags.requested false end h a outside)
 Goes-stopped meaning (queries made flags) end h a outside =

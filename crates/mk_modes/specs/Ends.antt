@@ -1,11 +1,13 @@
 -- The ends of a run.
-use Rattle.std.specs.Prelude.{◌≡◌, ◌⊎◌, ℕ, List}
+use Rattle.std.specs.Prelude.{◌≡◌, ◌⊎◌, ℕ, ◌==◌, List, if◌then◌else◌}
 use Rattle.mk_trace.specs.declared.result.BuildResult.{BuildResult}
 use Rattle.mk_trace.specs.declared.result.BuildResult.TheVariants as build
 use Rattle.mk_plan.specs.Plans.{node_at}
 use Rattle.mk_plan.specs.declared.fault.PlanFault.{PlanFault}
 use Rattle.mk_plan.specs.declared.fault.PlanFault.TheVariants as plan
 use Rattle.mk_plan.specs.declared.plan.PlanNode.{PlanNode}
+use Rattle.mk_audit.specs.declared.fault.AuditFault.{AuditFault}
+use Rattle.mk_audit.specs.declared.fault.AuditFault.TheVariants as audit
 use Rattle.mk_explain.specs.declared.fault.ExplainFault.{ExplainFault}
 use Rattle.mk_explain.specs.declared.fault.ExplainFault.TheVariants as explain
 use Rattle.mk_makefile.specs.declared.fault.ReadFault.{ReadFault}
@@ -15,8 +17,8 @@ use Rattle.mk_query.specs.declared.result.QueryResult.TheVariants as query
 use Rattle.mk_modes.specs.declared.report.End.{End}
 use Rattle.mk_modes.specs.declared.report.End.TheVariants.{Done, Usage, NoFile, Bad, Print}
 use Rattle.mk_modes.specs.declared.report.End.TheVariants.{NoTarget, NoRule, Cycle, Limit, Expand}
-use Rattle.mk_modes.specs.declared.report.End.TheVariants.{JobFailed, NotUpToDate, WorldFault}
-use Rattle.mk_modes.specs.declared.report.End.TheVariants.{SinkFault, NoMemory}
+use Rattle.mk_modes.specs.declared.report.End.TheVariants.{JobFailed, NotUpToDate, Breaches}
+use Rattle.mk_modes.specs.declared.report.End.TheVariants.{WorldFault, SinkFault, NoMemory}
 
 -- the exit status
 abbrev pub status_of : End → ℕ
@@ -32,6 +34,7 @@ status_of (Limit kind most) = 2
 status_of (Expand name number fault) = 2
 status_of (JobFailed name number status) = 1
 status_of (NotUpToDate name) = 1
+status_of (Breaches count) = 1
 status_of WorldFault = 3
 status_of SinkFault = 3
 status_of NoMemory = 4
@@ -76,6 +79,15 @@ abbrev pub of_explain : List PlanNode → ExplainFault → End
 of_explain nodes (explain.Expand n number fault) = Expand (node_at nodes n).name number fault
 of_explain nodes explain.Failed = WorldFault
 of_explain nodes explain.NoMemory = NoMemory
+
+-- the end of a run whose plan could not be audited
+abbrev pub of_audit : AuditFault → End
+of_audit audit.Failed = WorldFault
+of_audit audit.NoMemory = NoMemory
+
+-- the end of an audit that told so many breaches
+abbrev pub of_count : ℕ → End
+of_count count = if count == 0 then Done else Breaches count
 
 -- an end that no word and no file causes
 abbrev pub IsOutside : End → Type 0

@@ -1,3 +1,4 @@
+pub mod Auditing
 pub mod Building
 pub mod Causes
 pub mod Ends

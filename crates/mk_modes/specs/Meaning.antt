@@ -20,6 +20,7 @@ use Rattle.mk_makefile.specs.declared.fault.ReadFault.{ReadFault}
 use Rattle.mk_plan.specs.Facts.{lists_of}
 use Rattle.mk_plan.specs.Tasks.{Setting}
 use Rattle.mk_scopes.specs.Scopes.{Variables}
+use Rattle.mk_scopes.specs.declared.scopes.Env.{Env}
 use Rattle.mk_modes.specs.Ends.{of_read}
 use Rattle.mk_modes.specs.declared.report.End.{End}
 use Rattle.mk_modes.specs.declared.report.End.TheVariants as end
@@ -67,30 +68,32 @@ printed s asked i [] = ended end.Done
 printed s asked i (print ∷ prints) =
     before_others i (shown s asked print) (λ now. printed s now (i + 1) prints)
 
--- What is meant: an outcome, prints of what makefiles say, an explanation, a query, a dry run, or a
--- build of it.
+-- What is meant: an outcome, prints of what makefiles say, an audit, an explanation, a query, a dry
+-- run, or a build of it.
 pub data Meant : Type 0 where
   only : (outcome : Outcome) → Meant
   prints : (variables : Variables) → (lists : Lists) → (all : List Print) → Meant
+  audits : (env : Env) → (made : Made) → (order : Order) → Meant
   explains : (made : Made) → (flags : Flags) → Meant
   queries : (made : Made) → (flags : Flags) → Meant
   shows : (made : Made) → (flags : Flags) → Meant
   builds : (made : Made) → (flags : Flags) → Meant
 
--- what is done with the makefiles: prints, where there are some, and else an explanation, a query
--- or a build
-abbrev pub by_mode : Made → Order → List Print → Meant
-by_mode made order [] =
-    if order.explain then explains made order.flags
+-- what is done with the makefiles: prints, where there are some, and else an audit, an explanation,
+-- a query or a build
+abbrev pub by_mode : Env → Made → Order → List Print → Meant
+by_mode env made order [] =
+    if order.audit then audits env made order
+    else (if order.explain then explains made order.flags
     else (if order.flags.query then queries made order.flags
-    else (if order.flags.dry then shows made order.flags else builds made order.flags))
-by_mode made order (print ∷ more) =
+    else (if order.flags.dry then shows made order.flags else builds made order.flags)))
+by_mode env made order (print ∷ more) =
     prints made.scopes (lists_of made order.flags.requested) (print ∷ more)
 
 -- what is done behind the reading: its fault ends the run
-abbrev pub by_reading : Order → Result Made ReadFault → Meant
-by_reading order (Ok made) = by_mode made order order.prints
-by_reading order (Err fault) = only (ended (of_read fault))
+abbrev pub by_reading : Env → Order → Result Made ReadFault → Meant
+by_reading env order (Ok made) = by_mode env made order order.prints
+by_reading env order (Err fault) = only (ended (of_read fault))
 
 -- the first refused word ends the run
 abbrev pub taken : Result Order Usage → Result Order End

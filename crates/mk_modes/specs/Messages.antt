@@ -13,8 +13,8 @@ use Rattle.mk_modes.specs.Words.{word_at}
 use Rattle.mk_modes.specs.declared.report.End.{End}
 use Rattle.mk_modes.specs.declared.report.End.TheVariants.{Done, Usage, NoFile, Bad, Print}
 use Rattle.mk_modes.specs.declared.report.End.TheVariants.{NoTarget, NoRule, Cycle, Limit, Expand}
-use Rattle.mk_modes.specs.declared.report.End.TheVariants.{JobFailed, NotUpToDate, WorldFault}
-use Rattle.mk_modes.specs.declared.report.End.TheVariants.{SinkFault, NoMemory}
+use Rattle.mk_modes.specs.declared.report.End.TheVariants.{JobFailed, NotUpToDate, Breaches}
+use Rattle.mk_modes.specs.declared.report.End.TheVariants.{WorldFault, SinkFault, NoMemory}
 
 -- a fault of the grammar, with its place
 abbrev pub tree_text : TreeFault → List ℕ
@@ -107,6 +107,7 @@ text_of words (Limit kind most) = kind_text kind ++ decimal most
 text_of words (Expand name number fault) = command_text name (decimal number) (fault_text fault)
 text_of words (JobFailed name number status) =
     command_text name (decimal number) (codes "status " ++ decimal status)
+text_of words (Breaches count) = codes "breaches " ++ decimal count
 text_of words WorldFault = codes "an outside call failed"
 text_of words NoMemory = codes "out of memory"
 text_of words Done = []

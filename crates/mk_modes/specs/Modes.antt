@@ -21,11 +21,12 @@ use Rattle.mk_world.specs.Sinks.{Gains, GainsPart}
 use Rattle.mk_world.specs.Talks.{Meaning}
 use Rattle.mk_world.specs.Told.{Told}
 use Rattle.mk_world.specs.declared.history.History.{History}
+use Rattle.mk_modes.specs.Auditing.{Audits}
 use Rattle.mk_modes.specs.Building.{Point, point, Builds, unbuilt}
 use Rattle.mk_modes.specs.Ends.{IsOutside}
 use Rattle.mk_modes.specs.Explaining.{Explanation}
-use Rattle.mk_modes.specs.Meaning.{Outcome, Meant, only, prints, explains, queries, shows, builds}
-use Rattle.mk_modes.specs.Meaning.{printed as all_printed, by_reading}
+use Rattle.mk_modes.specs.Meaning.{Outcome, Meant, only, prints, audits, explains, queries, shows}
+use Rattle.mk_modes.specs.Meaning.{builds, printed as all_printed, by_reading}
 use Rattle.mk_modes.specs.Querying.{Queries}
 use Rattle.mk_modes.specs.Showing.{Shows}
 use Rattle.mk_modes.specs.declared.building.Went.{Went}
@@ -104,6 +105,7 @@ pub record PrintsAll (variables : Variables) (lists : Lists) (all : List Print) 
 abbrev pub Goes : Meaning → Meant → Point → Point → Went → Type 0
 Goes meaning (only outcome) first last went = Only outcome first last went
 Goes meaning (prints variables lists all) first last went = PrintsAll variables lists all first last went
+Goes meaning (audits env made order) first last went = Audits meaning env made order first last went
 Goes meaning (explains made flags) first last went = Explanation meaning made flags first last went
 Goes meaning (queries made flags) first last went = Queries made flags first last went
 Goes meaning (shows made flags) first last went = Shows meaning made flags first last went
@@ -118,7 +120,7 @@ pub record Followed (meaning : Meaning) (env : Env) (order : Order) (first last 
     pub read : Result Made ReadFault
     pub reads : ReadBy meaning first.history read_at err.before err.after read
         (λ answers. reading answers env order)
-    pub goes : Goes meaning (by_reading order read) (point read_at first.out) last went
+    pub goes : Goes meaning (by_reading env order read) (point read_at first.out) last went
 
 -- What a call asks of the facts: they lead from one to the other, the lists stay, and questions are
 -- only added.

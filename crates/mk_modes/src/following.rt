@@ -1,5 +1,5 @@
-//! What a run does before the line of its end is written: it reads, and then prints, explains,
-//! asks, shows or builds.
+//! What a run does before the line of its end is written: it reads, and then prints, audits,
+//! explains, asks, shows or builds.
 ghost use Rattle.std.specs.Prelude.{◌≡◌, [], IsTrue};
 ghost use Rattle.mk_bytes.specs.Paths.{is_clean_directory};
 ghost use Rattle.mk_plan.specs.Facts.{lists_of};
@@ -12,6 +12,7 @@ ghost use Rattle.mk_modes.specs.declared.report.End.TheVariants.{
   SinkFault as sink_failed,
 };
 
+use crate::auditing::audit_targets;
 use crate::building::{Went, build_targets, unbuilt};
 use crate::explaining::explain_targets;
 use crate::print::print_all;
@@ -62,10 +63,11 @@ fn print_made<W: World, S: Sink>(
     unbuilt(alloc, end_of(went))
 }
 
-// Does with the makefiles what the words ask for: prints, where there are some, and else an
-// explanation, a query, a dry run or a build.
+// Does with the makefiles what the words ask for: prints, where there are some, and else an audit,
+// an explanation, a query, a dry run or a build.
 fn by_mode<W: World, S: Sink>(
     alloc: Global,
+    env: &Env,
     made: &Made,
     order: &Order,
     world: &mut W,
@@ -73,7 +75,7 @@ fn by_mode<W: World, S: Sink>(
 ) -> Went
     requires jobs { AreJobs order.now.flags.jobs }
     requires idle { W.runs world.old [] }
-    ensures goes { modes.Goes W.meaning (spec.by_mode made.now order.now order.now.prints)
+    ensures goes { modes.Goes W.meaning (spec.by_mode env.now made.now order.now order.now.prints)
         (point (W.history world.old) (S.held out.old))
         (point (W.history world.new) (S.held out.new)) result }
     ensures world_cause { EndCause world_failed (W.faults world.old) (W.faults world.new)
@@ -83,6 +85,9 @@ fn by_mode<W: World, S: Sink>(
 {
     if !order.prints.is_empty() {
         return print_made(alloc, made, order, world, out);
+    }
+    if order.audit {
+        return audit_targets(alloc, env, made, order, world, out);
     }
     if order.explain {
         return explain_targets(alloc, made, &order.flags, world, out);
@@ -97,7 +102,7 @@ fn by_mode<W: World, S: Sink>(
 }
 
 /// What a run does whose words ask for this, up to the line of its end: it reads the makefiles,
-/// whose messages it writes on `err`, and then prints, explains, asks, shows or builds. The
+/// whose messages it writes on `err`, and then prints, audits, explains, asks, shows or builds. The
 /// environment's directory is absolute and clean. Out come the end, the names of the nodes in plan
 /// order, and what the build did.
 ///
@@ -127,7 +132,7 @@ pub fn follow<W: World, S: Sink>(
 {
     match read(alloc, world, err, order, env) {
         Ok(made) => {
-            let went = by_mode(alloc, &made, order, world, out);
+            let went = by_mode(alloc, env, &made, order, world, out);
             // A run is the last thing that its process does: to give back each node and variable
             // by itself would take a good part of a build in which nothing is made.
             forget(made);

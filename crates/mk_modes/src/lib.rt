@@ -1,7 +1,8 @@
 //! What a run does before the line of its end is written: it reads the makefiles, and then prints
-//! from them, explains, asks, shows or builds; and the texts of its ends.
+//! from them, audits, explains, asks, shows or builds; and the texts of its ends.
 #![tactic(auto)]
 
+mod auditing;
 mod building;
 mod explaining;
 mod following;
@@ -12,6 +13,7 @@ mod report;
 mod showing;
 mod words;
 
+pub use auditing::Audit;
 pub use building::{Went, unbuilt};
 pub use following::follow;
 pub use message::write_line;

@@ -235,6 +235,18 @@ fn write_limit<S: Sink>(sink: &mut S, kind: &Kind, most: u64) -> Result<(), Sink
     write_text(sink, kind_text(kind), number, b"")
 }
 
+fn write_breaches<S: Sink>(sink: &mut S, count: u64) -> Result<(), SinkFault>
+    ensures done { OnOk result (Gains (S.held sink.old) (S.held sink.new)
+        (spec.as_line (codes "breaches " ++ decimal count))) }
+    ensures cut { OnErr result (GainsPart (S.held sink.old) (S.held sink.new)
+        (spec.as_line (codes "breaches " ++ decimal count))) }
+    ensures cause { HasCause Failed (S.faults sink.old) (S.faults sink.new) result }
+{
+    let mut numbers = Buffer::new();
+    let number = numbers.format(count).as_bytes();
+    write_text(sink, b"breaches ", number, b"")
+}
+
 // Writes names, each behind a space.
 fn write_names<S: Sink>(sink: &mut S, names: &Texts) -> Result<(), SinkFault>
     ensures done { OnOk result
@@ -350,6 +362,7 @@ pub fn write_line<S: Sink>(sink: &mut S, words: &Texts, end: &End) -> Result<(),
         End::Limit(kind, most) => write_limit(sink, kind, *most),
         End::Expand(name, line, fault) => write_expand(sink, name.bytes(), *line, fault),
         End::JobFailed(name, line, status) => write_failed(sink, name.bytes(), *line, *status),
+        End::Breaches(count) => write_breaches(sink, *count),
         End::WorldFault => write_text(sink, b"an outside call failed", b"", b""),
         End::NoMemory => write_text(sink, b"out of memory", b"", b""),
     }

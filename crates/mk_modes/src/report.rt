@@ -1,3 +1,4 @@
+use mk_audit::AuditFault;
 use mk_bytes::{Kind, Text, Texts};
 use mk_expand::ExpandFault;
 use mk_plan::{PlanFault, PlanNames};
@@ -35,6 +36,8 @@ pub enum End {
     /// This node, the first in the plan that is not kept, is out of date, which was asked. Status
     /// 1.
     NotUpToDate(Text),
+    /// An audit found so many breaches, at least one. Status 1.
+    Breaches(u64),
     /// A call of the world failed. Status 3.
     WorldFault,
     /// A write to standard output or standard error failed. Status 3.
@@ -89,6 +92,20 @@ impl From<PlanFault> for End {
     }
 }
 
+impl From<AuditFault> for End {
+    ghost use Rattle.std.specs.Prelude.{◌≡◌};
+    ghost use Rattle.mk_modes.specs.Ends.{of_audit};
+
+    ghost from_gives = { λ fault end. end ≡ of_audit fault };
+
+    fn from(fault: AuditFault) -> End {
+        match fault {
+            AuditFault::Failed => End::WorldFault,
+            AuditFault::NoMemory => End::NoMemory,
+        }
+    }
+}
+
 impl From<SinkFault> for End {
     ghost use Rattle.std.specs.Prelude.{◌≡◌};
     ghost use Rattle.mk_modes.specs.declared.report.End.TheVariants.{SinkFault as sink_failed};
@@ -110,7 +127,7 @@ impl End {
     {
         match self {
             End::Done => 0,
-            End::JobFailed(_, _, _) | End::NotUpToDate(_) => 1,
+            End::JobFailed(_, _, _) | End::NotUpToDate(_) | End::Breaches(_) => 1,
             End::Usage(_) | End::NoFile(_) | End::Bad(_, _, _) | End::Print(_, _) => 2,
             End::NoTarget | End::NoRule(_) | End::Cycle(_) | End::Limit(_, _) => 2,
             End::Expand(_, _, _) => 2,

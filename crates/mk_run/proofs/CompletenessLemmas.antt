@@ -1,6 +1,9 @@
 -- Runs in which nothing is wrong end well.
-use Rattle.std.proofs.Common.{◌≡◌, ◌∙◌, ◌⊎◌, ℕ, List, Option, Some, None, Result, Ok, Err}
+use Rattle.std.proofs.Common.{◌≡◌, ◌∙◌, ◌⊎◌, ℕ, ◌==◌, Bool, true, false, List, length, Option, Some, None, Result, Ok, Err}
+use Rattle.std.specs.Prelude.{if◌then◌else◌}
 use Rattle.std.proofs.Common.{inl, inr, refl, sym, ap, subst}
+use Rattle.mk_audit.specs.declared.fault.AuditFault.{AuditFault}
+use Rattle.mk_audit.specs.declared.fault.AuditFault.TheVariants as audit
 use Rattle.mk_cli.specs.declared.order.Order.{Order}
 use Rattle.mk_decision.specs.Decisions.{Work}
 use Rattle.mk_dry.specs.DryRuns as dry
@@ -22,18 +25,20 @@ use Rattle.mk_trace.specs.declared.event.Event.{Event}
 use Rattle.mk_trace.specs.declared.result.BuildResult.{BuildResult}
 use Rattle.mk_trace.specs.declared.result.BuildResult.TheVariants as build
 use Rattle.mk_world.specs.Talks.{Meaning}
+use Rattle.mk_modes.specs.Auditing as auditing
 use Rattle.mk_modes.specs.Building as building
 use Rattle.mk_modes.specs.Building.{Point, point, unbuilt}
 use Rattle.mk_run.specs.Completeness.{Completes, EndsWell, IsAnswerable, IsExplainable, IsFaultless, IsHindered, IsUnrefused}
-use Rattle.mk_modes.specs.Ends.{IsOutside, of_explain, of_plan}
+use Rattle.mk_modes.specs.Ends.{IsOutside, of_count, of_explain, of_plan}
 use Rattle.mk_modes.specs.Explaining as explaining
-use Rattle.mk_modes.specs.Meaning.{Meant, Outcome, only, prints, explains, queries, shows, builds, by_reading}
+use Rattle.mk_modes.specs.Meaning.{Meant, Outcome, only, prints, audits, explains, queries, shows, builds, by_reading}
 use Rattle.mk_modes.specs.Querying as querying
 use Rattle.mk_modes.specs.Modes.{Goes, Held, Printed, Stands}
 use Rattle.mk_run.specs.Runs.{Closed, IsOrderRun}
+use Rattle.mk_modes.specs.declared.auditing.Audit.{Audit}
 use Rattle.mk_modes.specs.declared.building.Went.{Went}
 use Rattle.mk_modes.specs.declared.report.End.{End}
-use Rattle.mk_modes.specs.declared.report.End.TheVariants.{Done, NotUpToDate, NoMemory}
+use Rattle.mk_modes.specs.declared.report.End.TheVariants.{Done, NotUpToDate, Breaches, NoMemory}
 use Rattle.mk_modes.specs.declared.report.Report.{Report}
 
 outside-hinders : (end : End) → IsOutside end → IsHindered end
@@ -118,12 +123,34 @@ explained-well meaning made flags first last went is fine = by is.outcome fine i
         hindered explain.Failed fine (inr want) = inr (inr want)
         hindered explain.NoMemory fine (inr want) = inr (inr want)
 
+counted-well : (count : ℕ) (end : End) → end ≡ of_count count
+    → (end ≡ Done) ⊎ (((count : ℕ) × (end ≡ Breaches count)) ⊎ IsHindered end)
+counted-well count end is = by (count == 0) is
+  where
+    by : (none : Bool) → end ≡ (if none then Done else Breaches count)
+        → (end ≡ Done) ⊎ (((count : ℕ) × (end ≡ Breaches count)) ⊎ IsHindered end)
+    by true is = inl is
+    by false is = inr (inl (count, is))
+
+audited-well : (outcome : Result Audit AuditFault) (before after : Option (List ℕ)) (end : End)
+    → auditing.Tells outcome before after end
+    → (end ≡ Done) ⊎ (((count : ℕ) × (end ≡ Breaches count)) ⊎ IsHindered end)
+audited-well (Ok found) before after end (inl told) = counted-well (length (auditing.breaches_in found)) end told.0
+audited-well (Ok found) before after end (inr (inl cut)) = inr (inr (inr (inl cut.0)))
+audited-well (Ok found) before after end (inr (inr want)) = inr (inr (inr (inr want.0)))
+audited-well (Err audit.Failed) before after end stopped = inr (inr (inl stopped.0))
+audited-well (Err audit.NoMemory) before after end stopped = inr (inr (inr (inr stopped.0)))
+
 goes-well : (meaning : Meaning) (meant : Meant) (first last : Point) (went : Went)
     → (goes : Goes meaning meant first last went) → IsFaultless meaning meant first last went goes
     → EndsWell meant went.end
 goes-well meaning (only outcome) first last went goes fine = printed-well outcome _ went.end fine goes.printed
 goes-well meaning (prints variables lists all) first last went goes fine =
     printed-well _ _ went.end fine goes.printed
+goes-well meaning (audits env made order) first last went (inl unplanned) fine =
+    inr (inr (unrefused-hinders unplanned.fault went.end fine (end-of-unbuilt went _ unplanned.is)))
+goes-well meaning (audits env made order) first last went (inr audited) fine =
+    audited-well audited.outcome first.out last.out went.end audited.tells
 goes-well meaning (explains made flags) first last went (inl unplanned) fine =
     inr (unrefused-hinders unplanned.fault went.end fine (end-of-unbuilt went _ unplanned.is))
 goes-well meaning (explains made flags) first last went (inr explained) fine =
@@ -146,6 +173,7 @@ goes-well meaning (builds made flags) first last went (inr built) fine =
 hindered-well : (meant : Meant) (end : End) → IsHindered end → EndsWell meant end
 hindered-well (only outcome) end is = inr is
 hindered-well (prints variables lists all) end is = inr is
+hindered-well (audits env made order) end is = inr (inr is)
 hindered-well (explains made flags) end is = inr is
 hindered-well (queries made flags) end is = inr (inr is)
 hindered-well (shows made flags) end is = inr is
@@ -160,6 +188,6 @@ pub completes : {meaning : Meaning} {words : List (List ℕ)} {env : Env} {order
     {err : Held} {report : Report} → (run : IsOrderRun meaning words env order first last err report)
     → Completes run
 completes {meaning} {words} {env} {order} {first} {last} {err} {report} run = λ made is fine.
-    closed-well (by_reading order run.followed.read) words run.went.end report.end _
-    (goes-well meaning (by_reading order run.followed.read) (point run.followed.read_at first.out) last run.went
+    closed-well (by_reading env order run.followed.read) words run.went.end report.end _
+    (goes-well meaning (by_reading env order run.followed.read) (point run.followed.read_at first.out) last run.went
     run.followed.goes fine) run.closed

@@ -26,9 +26,10 @@ use Rattle.mk_world.specs.declared.history.History.{History}
 use Rattle.mk_plan.proofs.LookLemmas.{ByLooks-told}
 use Rattle.mk_run.proofs.CleanRunLemmas.{clean-run, done-before, done-build}
 use Rattle.mk_run.proofs.CompletenessLemmas.{completes}
+use Rattle.mk_modes.specs.Auditing.{Audits}
 use Rattle.mk_modes.specs.Building.{Point, point}
 use Rattle.mk_modes.specs.Explaining.{Explanation}
-use Rattle.mk_modes.specs.Meaning.{Meant, only, prints, explains, queries, shows, builds, by_reading}
+use Rattle.mk_modes.specs.Meaning.{Meant, only, prints, audits, explains, queries, shows, builds, by_reading}
 use Rattle.mk_modes.specs.Querying.{Queries}
 use Rattle.mk_modes.specs.Modes.{Followed, Goes, Held}
 use Rattle.mk_run.specs.Runs.{IsOrderRun}
@@ -168,6 +169,41 @@ saw-asks meaning seen old new saw = record {
   questions = seen-are seen;
 }
 
+-- what tells behind an audit told before it
+audited-told : (meaning : Meaning) (env : Env) (made : Made) (order : Order) (first last : Point) (went : Went)
+    (new : History) → first.history ≡ None → last.history ≡ Some new
+    → Audits meaning env made order first last went → ⊥
+audited-told meaning env made order first last went new at is (inl unplanned) =
+    told-before _ at is (ByLooks-told unplanned.refused)
+audited-told meaning env made order first last went new at is (inr audited) =
+    found audited.audited_at refl audited.planned_at refl
+  where
+    found : (audited_at : Option History) → audited.audited_at ≡ audited_at → (planned_at : Option History)
+        → audited.planned_at ≡ planned_at → ⊥
+    found None there planned_at here = told-before _ there is audited.asked
+    found (Some then_is) there None here = told-before _ here there audited.looked
+    found (Some then_is) there (Some planned_then) here = told-before _ at here (ByLooks-told audited.planned)
+
+-- an audit only asks
+audited-asks : (meaning : Meaning) (env : Env) (made : Made) (order : Order) (first last : Point) (went : Went)
+    (read new : History) → first.history ≡ Some read → last.history ≡ Some new
+    → Audits meaning env made order first last went → OnlyAsked meaning read new
+audited-asks meaning env made order first last went read new at is (inl unplanned) =
+    looks-ask meaning read new (told-at _ at is (ByLooks-told unplanned.refused)).0
+audited-asks meaning env made order first last went read new at is (inr audited) =
+    found audited.audited_at refl audited.planned_at refl
+  where
+    found : (audited_at : Option History) → audited.audited_at ≡ audited_at → (planned_at : Option History)
+        → audited.planned_at ≡ planned_at → OnlyAsked meaning read new
+    found None there planned_at here = absurd (told-before _ there is audited.asked)
+    found (Some then_is) there None here = absurd (told-before _ here there audited.looked)
+    found (Some then_is) there (Some planned_then) here =
+        asked-then meaning read planned_then new
+        (looks-ask meaning read planned_then (told-at _ at here (ByLooks-told audited.planned)).0)
+        (asked-then meaning planned_then then_is new
+        (looks-ask meaning planned_then then_is (told-at _ here there audited.looked).0)
+        (told-at _ there is audited.asked))
+
 -- what tells behind an explanation told before it
 explained-told : (meaning : Meaning) (made : Made) (flags : Flags) (first last : Point) (went : Went)
     (new : History) → first.history ≡ None → last.history ≡ Some new
@@ -233,6 +269,10 @@ goes-true meaning (only outcome) old read first last went new asked at is goes =
 goes-true meaning (prints variables lists all) old read first last went new asked at is goes =
     asking-true meaning None old new
     (asked-then meaning old read new asked (dates-ask meaning goes.looked read new (told-at (DatesAll goes.looked) at is goes.told)))
+goes-true meaning (audits env made order) old read first last went new asked at is goes =
+    asking-true meaning None old new
+    (asked-then meaning old read new asked
+    (audited-asks meaning env made order first last went read new at is goes))
 goes-true meaning (explains made flags) old read first last went new asked at is goes =
     asking-true meaning None old new
     (asked-then meaning old read new asked (explained-asks meaning made flags first last went read new at is goes))
@@ -286,6 +326,7 @@ goes-clean : (meaning : Meaning) (env : Env) (order : Order) (meant : Meant) (en
     → LeavesClean meaning env order (built_in meaning meant first last went goes) end old new
 goes-clean meaning env order (only outcome) end old read first last went new asked at is well goes = tt
 goes-clean meaning env order (prints variables lists all) end old read first last went new asked at is well goes = tt
+goes-clean meaning env order (audits its made given) end old read first last went new asked at is well goes = tt
 goes-clean meaning env order (explains made flags) end old read first last went new asked at is well goes = tt
 goes-clean meaning env order (queries made flags) end old read first last went new asked at is well goes = tt
 goes-clean meaning env order (shows made flags) end old read first last went new asked at is well (inl unplanned) = tt
@@ -314,6 +355,8 @@ pub goes-told : (meaning : Meaning) (meant : Meant) (first last : Point) (went :
     → first.history ≡ None → last.history ≡ Some new → Goes meaning meant first last went → ⊥
 goes-told meaning (only outcome) first last went new at is goes = told-before Same at is goes.same
 goes-told meaning (prints variables lists all) first last went new at is goes = told-before (DatesAll goes.looked) at is goes.told
+goes-told meaning (audits env made order) first last went new at is goes =
+    audited-told meaning env made order first last went new at is goes
 goes-told meaning (explains made flags) first last went new at is goes =
     explained-told meaning made flags first last went new at is goes
 goes-told meaning (queries made flags) first last went new at is goes =
@@ -340,7 +383,7 @@ follows-told meaning env order first last err went new at is does = read does.re
   where
     read : (read_at : Option History) → does.read_at ≡ read_at → ⊥
     read None here =
-        goes-told meaning (by_reading order does.read) (point does.read_at first.out) last went new here is
+        goes-told meaning (by_reading env order does.read) (point does.read_at first.out) last went new here is
         does.goes
     read (Some then_is) here = told-before (AreAsked meaning does.reads.questions) at here does.reads.asked
 
@@ -348,17 +391,17 @@ follows-true : (meaning : Meaning) (env : Env) (order : Order) (first last : Poi
     (went : Went) (old new : History) → first.history ≡ Some old → last.history ≡ Some new
     → (does : Followed meaning env order first last err went)
     → StaysTrue meaning
-    (built_in meaning (by_reading order does.read) (point does.read_at first.out) last went does.goes) old new
+    (built_in meaning (by_reading env order does.read) (point does.read_at first.out) last went does.goes) old new
 follows-true meaning env order first last err went old new at is does = read does.read_at refl
   where
     read : (read_at : Option History) → does.read_at ≡ read_at
         → StaysTrue meaning
-        (built_in meaning (by_reading order does.read) (point does.read_at first.out) last went does.goes) old new
+        (built_in meaning (by_reading env order does.read) (point does.read_at first.out) last went does.goes) old new
     read None here =
-        absurd (goes-told meaning (by_reading order does.read) (point does.read_at first.out) last went new here
+        absurd (goes-told meaning (by_reading env order does.read) (point does.read_at first.out) last went new here
         is does.goes)
     read (Some read_then) here =
-        goes-true meaning (by_reading order does.read) old read_then (point does.read_at first.out) last went
+        goes-true meaning (by_reading env order does.read) old read_then (point does.read_at first.out) last went
         new (questions-ask meaning does.reads.questions old read_then (told-at (AreAsked meaning does.reads.questions) at here does.reads.asked)) here
         is does.goes
 
@@ -366,18 +409,18 @@ follows-clean : (meaning : Meaning) (env : Env) (order : Order) (first last : Po
     (went : Went) (end : End) (old new : History) → first.history ≡ Some old → last.history ≡ Some new
     → (end ≡ Done → went.end ≡ Done) → (does : Followed meaning env order first last err went)
     → LeavesClean meaning env order
-    (built_in meaning (by_reading order does.read) (point does.read_at first.out) last went does.goes) end old new
+    (built_in meaning (by_reading env order does.read) (point does.read_at first.out) last went does.goes) end old new
 follows-clean meaning env order first last err went end old new at is well does = read does.read_at refl
   where
     read : (read_at : Option History) → does.read_at ≡ read_at
         → LeavesClean meaning env order
-        (built_in meaning (by_reading order does.read) (point does.read_at first.out) last went does.goes) end old
+        (built_in meaning (by_reading env order does.read) (point does.read_at first.out) last went does.goes) end old
         new
     read None here =
-        absurd (goes-told meaning (by_reading order does.read) (point does.read_at first.out) last went new here
+        absurd (goes-told meaning (by_reading env order does.read) (point does.read_at first.out) last went new here
         is does.goes)
     read (Some read_then) here =
-        goes-clean meaning env order (by_reading order does.read) end old read_then
+        goes-clean meaning env order (by_reading env order does.read) end old read_then
         (point does.read_at first.out) last went new
         (questions-ask meaning does.reads.questions old read_then
         (told-at (AreAsked meaning does.reads.questions) at here does.reads.asked)) here is well does.goes
@@ -402,6 +445,8 @@ goes-run meaning (only outcome) old read first last went new before at is goes =
     run_then before (asked-same meaning read new same.base same.events).run
 goes-run meaning (prints variables lists all) old read first last went new before at is goes =
     run_then before (dates-ask meaning goes.looked read new (told-at (DatesAll goes.looked) at is goes.told)).run
+goes-run meaning (audits env made order) old read first last went new before at is goes =
+    run_then before (audited-asks meaning env made order first last went read new at is goes).run
 goes-run meaning (explains made flags) old read first last went new before at is goes =
     run_then before (explained-asks meaning made flags first last went read new at is goes).run
 goes-run meaning (queries made flags) old read first last went new before at is goes =
@@ -438,10 +483,10 @@ follows-run meaning env order first last err went old new at is does = read does
   where
     read : (read_at : Option History) → does.read_at ≡ read_at → Run meaning old new
     read None here =
-        absurd (goes-told meaning (by_reading order does.read) (point does.read_at first.out) last went new here
+        absurd (goes-told meaning (by_reading env order does.read) (point does.read_at first.out) last went new here
         is does.goes)
     read (Some read_then) here =
-        goes-run meaning (by_reading order does.read) old read_then (point does.read_at first.out) last went new
+        goes-run meaning (by_reading env order does.read) old read_then (point does.read_at first.out) last went new
         (questions-ask meaning does.reads.questions old read_then
         (told-at (AreAsked meaning does.reads.questions) at here does.reads.asked)).run here is does.goes
 

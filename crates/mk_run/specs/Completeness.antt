@@ -18,13 +18,13 @@ use Rattle.mk_scopes.specs.declared.scopes.Env.{Env}
 use Rattle.mk_trace.specs.Runs.{first_failure}
 use Rattle.mk_world.specs.Talks.{Meaning}
 use Rattle.mk_modes.specs.Building.{Point, point}
-use Rattle.mk_modes.specs.Meaning.{Meant, only, prints, explains, queries, shows, builds, printed}
+use Rattle.mk_modes.specs.Meaning.{Meant, only, prints, audits, explains, queries, shows, builds, printed}
 use Rattle.mk_modes.specs.Meaning.{by_reading}
 use Rattle.mk_modes.specs.Modes.{Goes, Held}
 use Rattle.mk_run.specs.Runs.{IsOrderRun}
 use Rattle.mk_modes.specs.declared.building.Went.{Went}
 use Rattle.mk_modes.specs.declared.report.End.{End}
-use Rattle.mk_modes.specs.declared.report.End.TheVariants.{Done, NotUpToDate, WorldFault, SinkFault}
+use Rattle.mk_modes.specs.declared.report.End.TheVariants.{Done, NotUpToDate, Breaches, WorldFault, SinkFault}
 use Rattle.mk_modes.specs.declared.report.End.TheVariants.{NoMemory}
 use Rattle.mk_modes.specs.declared.report.Report.{Report}
 
@@ -50,6 +50,8 @@ abbrev pub IsFaultless : (meaning : Meaning) (meant : Meant) (first last : Point
 IsFaultless meaning (only outcome) first last went goes = outcome.end ≡ Done
 IsFaultless meaning (prints variables lists all) first last went goes =
     (printed (setting_of variables lists (answers_by goes.looked)) [] 0 all).end ≡ Done
+IsFaultless meaning (audits env made order) first last went (inl unplanned) = IsUnrefused unplanned.fault
+IsFaultless meaning (audits env made order) first last went (inr audited) = Unit {0}
 IsFaultless meaning (explains made flags) first last went (inl unplanned) = IsUnrefused unplanned.fault
 IsFaultless meaning (explains made flags) first last went (inr explained) = IsExplainable explained.outcome
 IsFaultless meaning (queries made flags) first last went (inl unplanned) = IsUnrefused unplanned.fault
@@ -65,10 +67,13 @@ IsFaultless meaning (builds made flags) first last went (inr built) =
 abbrev pub IsHindered : End → Type 0
 IsHindered end = (end ≡ WorldFault) ⊎ ((end ≡ SinkFault) ⊎ (end ≡ NoMemory))
 
--- All is well, or, where that was asked, something is out of date; or something was in the way.
+-- All is well, or, where that was asked, something is out of date or breached; or something was in
+-- the way.
 abbrev pub EndsWell : Meant → End → Type 0
 EndsWell (only outcome) end = (end ≡ Done) ⊎ IsHindered end
 EndsWell (prints variables lists all) end = (end ≡ Done) ⊎ IsHindered end
+EndsWell (audits env made order) end =
+    (end ≡ Done) ⊎ (((count : ℕ) × (end ≡ Breaches count)) ⊎ IsHindered end)
 EndsWell (explains made flags) end = (end ≡ Done) ⊎ IsHindered end
 EndsWell (queries made flags) end =
     (end ≡ Done) ⊎ (((name : List ℕ) × (end ≡ NotUpToDate name)) ⊎ IsHindered end)
@@ -82,6 +87,6 @@ abbrev pub Completes : {meaning : Meaning} {words : List (List ℕ)} {env : Env}
     → IsOrderRun meaning words env order first last err report → Type 0
 Completes {meaning} {words} {env} {order} {first} {last} {err} {report} run =
     (made : Made) → run.followed.read ≡ Ok made
-    → IsFaultless meaning (by_reading order run.followed.read) (point run.followed.read_at first.out) last
+    → IsFaultless meaning (by_reading env order run.followed.read) (point run.followed.read_at first.out) last
     run.went run.followed.goes
-    → EndsWell (by_reading order run.followed.read) report.end
+    → EndsWell (by_reading env order run.followed.read) report.end

@@ -22,8 +22,8 @@ use Rattle.mk_world.specs.declared.history.History.{History}
 use Rattle.mk_modes.specs.Building.{Point, point}
 use Rattle.mk_run.specs.CleanRuns.{IsReadyRun, LeavesCleanFiles, bare}
 use Rattle.mk_run.specs.Completeness.{Completes}
-use Rattle.mk_modes.specs.Meaning.{Meant, only, prints, explains, queries, shows, builds}
-use Rattle.mk_modes.specs.Meaning.{by_reading}
+use Rattle.mk_modes.specs.Meaning.{Meant, only, prints, audits, explains, queries, shows}
+use Rattle.mk_modes.specs.Meaning.{builds, by_reading}
 use Rattle.mk_modes.specs.Modes.{Goes, Held}
 use Rattle.mk_run.specs.Runs.{IsOrderRun}
 use Rattle.mk_modes.specs.declared.building.Went.{Went}
@@ -41,6 +41,7 @@ abbrev pub built_in : (meaning : Meaning) (meant : Meant) (first last : Point) (
     → Goes meaning meant first last went → Option Built
 built_in meaning (only outcome) first last went goes = None
 built_in meaning (prints variables lists all) first last went goes = None
+built_in meaning (audits env made order) first last went goes = None
 built_in meaning (explains made flags) first last went goes = None
 built_in meaning (queries made flags) first last went goes = None
 built_in meaning (shows made flags) first last went (inl unplanned) = None
@@ -55,7 +56,7 @@ abbrev pub build_of : {meaning : Meaning} {words : List (List ℕ)} {env : Env} 
     {first last : Point} {err : Held} {report : Report}
     → IsOrderRun meaning words env order first last err report → Option Built
 build_of {meaning} {words} {env} {order} {first} {last} {err} {report} run =
-    built_in meaning (by_reading order run.followed.read) (point run.followed.read_at first.out) last
+    built_in meaning (by_reading env order run.followed.read) (point run.followed.read_at first.out) last
     run.went run.followed.goes
 
 -- At this moment of a run, the jobs of its build have kept apart so far, or no child of its dry run

@@ -50,7 +50,8 @@ pub fn close<S: Sink>(words: &Texts, went: Went, err: &mut S) -> Report
 ///
 /// It reads the makefiles, whose messages it writes on `err`, and then prints on `out` what the
 /// words ask for, each print on its line as soon as it is evaluated. Where they ask for no print it
-/// makes a plan of the targets. Of these `--explain` tells why each is out of date, `-q` asks
+/// makes a plan of the targets. Of these `--audit` tells what breaches what a build of them
+/// stands on, `--explain` tells why each is out of date, `-q` asks
 /// whether they are up to date, and `-n` shows what a build would do; else they are built, with so
 /// many jobs, by times and, in meta mode, by meta files. Every end but `Done`, `NotUpToDate` and
 /// `SinkFault` has its line on `err`, which is written last.

@@ -19,7 +19,7 @@ use Rattle.mk_makefile.specs.Reading.{reading}
 use Rattle.mk_makefile.specs.declared.fault.ReadFault.{ReadFault}
 use Rattle.mk_meta.specs.TrueHistory.{IsTrueHistory}
 use Rattle.mk_modes.specs.Building.{Point, point}
-use Rattle.mk_modes.specs.Meaning.{Meant, only, prints, explains, queries, shows, builds, by_mode, by_reading}
+use Rattle.mk_modes.specs.Meaning.{Meant, only, prints, audits, explains, queries, shows, builds, by_mode, by_reading}
 use Rattle.mk_modes.specs.Modes.{Followed, Goes, Held}
 use Rattle.mk_modes.specs.declared.building.Went.{Went}
 use Rattle.mk_modes.specs.declared.report.End.TheVariants.{Done}
@@ -62,31 +62,33 @@ record IsOf (order : Order) (read : Result Made ReadFault) (made : Made) (flags 
   read_is : read ≡ Ok made
   flags_are : flags ≡ order.flags
 
-chosen-is : (given made : Made) (its flags : Flags) (first second third : Bool)
-    → (if first then explains given its
-    else (if second then queries given its else (if third then shows given its else builds given its)))
+chosen-is : (env : Env) (given made : Made) (order : Order) (its flags : Flags) (first second third fourth : Bool)
+    → (if first then audits env given order
+    else (if second then explains given its
+    else (if third then queries given its else (if fourth then shows given its else builds given its))))
     ≡ builds made flags
     → (given ≡ made) × (flags ≡ its)
-chosen-is given made its flags true second third is = absurd cc
-chosen-is given made its flags false true third is = absurd cc
-chosen-is given made its flags false false true is = absurd cc
-chosen-is given made its flags false false false is =
+chosen-is env given made order its flags true second third fourth is = absurd cc
+chosen-is env given made order its flags false true third fourth is = absurd cc
+chosen-is env given made order its flags false false true fourth is = absurd cc
+chosen-is env given made order its flags false false false true is = absurd cc
+chosen-is env given made order its flags false false false false is =
     let first : given ≡ made = cc in
     let last : flags ≡ its = cc in
     (first, last)
 
-mode-is : (given made : Made) (order : Order) (flags : Flags) (all : List Print)
-    → by_mode given order all ≡ builds made flags → (given ≡ made) × (flags ≡ order.flags)
-mode-is given made order flags [] is =
-    chosen-is given made order.flags flags order.explain order.flags.query order.flags.dry is
-mode-is given made order flags (print ∷ more) is = absurd cc
+mode-is : (env : Env) (given made : Made) (order : Order) (flags : Flags) (all : List Print)
+    → by_mode env given order all ≡ builds made flags → (given ≡ made) × (flags ≡ order.flags)
+mode-is env given made order flags [] is =
+    chosen-is env given made order order.flags flags order.audit order.explain order.flags.query order.flags.dry is
+mode-is env given made order flags (print ∷ more) is = absurd cc
 
-build-is : (order : Order) (read : Result Made ReadFault) (made : Made) (flags : Flags)
-    → by_reading order read ≡ builds made flags → IsOf order read made flags
-build-is order (Ok given) made flags is =
-    let parts = mode-is given made order flags order.prints is in
+build-is : (env : Env) (order : Order) (read : Result Made ReadFault) (made : Made) (flags : Flags)
+    → by_reading env order read ≡ builds made flags → IsOf order read made flags
+build-is env order (Ok given) made flags is =
+    let parts = mode-is env given made order flags order.prints is in
     record { read_is = ap Ok parts.0; flags_are = parts.1 }
-build-is order (Err fault) made flags is = absurd cc
+build-is env order (Err fault) made flags is = absurd cc
 
 some-job : (one_job : Bool) (jobs : ℕ) → 0 < jobs → 0 < (if one_job then 1 else jobs)
 some-job true jobs some = omega arith
@@ -133,11 +135,12 @@ module _ (meaning : Meaning) (env : Env) (order : Order) (old : History) (start 
     -- what follows a reading that has asked so
     goes-sound : (read_then : History) (read : Result Made ReadFault)
         → ((made : Made) → read ≡ Ok made → (made ≡ sound.made) × Left meaning (files_of old) old read_then)
-        → (meant : Meant) → by_reading order read ≡ meant → (first last : Point) (went : Went) (new : History)
+        → (meant : Meant) → by_reading env order read ≡ meant → (first last : Point) (went : Went) (new : History)
         → first.history ≡ Some read_then → last.history ≡ Some new → (goes : Goes meaning meant first last went)
         → IsSoundBuilt (built_in meaning meant first last went goes)
     goes-sound read_then read reads (only outcome) meant_is first last went new at is goes = tt
     goes-sound read_then read reads (prints variables lists all) meant_is first last went new at is goes = tt
+    goes-sound read_then read reads (audits its made given) meant_is first last went new at is goes = tt
     goes-sound read_then read reads (explains made flags) meant_is first last went new at is goes = tt
     goes-sound read_then read reads (queries made flags) meant_is first last went new at is goes = tt
     goes-sound read_then read reads (shows made flags) meant_is first last went new at is (inl unplanned) = tt
@@ -147,7 +150,7 @@ module _ (meaning : Meaning) (env : Env) (order : Order) (old : History) (start 
         planned_from built.planned_at refl
       where
         its : IsOf order read made flags
-        its = build-is order read made flags meant_is
+        its = build-is env order read made flags meant_is
 
         known : (made ≡ sound.made) × Left meaning (files_of old) old read_then
         known = reads made its.read_is
@@ -206,15 +209,15 @@ module _ (meaning : Meaning) (env : Env) (order : Order) (old : History) (start 
 
     follows-sound : (first last : Point) (err : Held) (went : Went) (new : History) → first.history ≡ Some old
         → last.history ≡ Some new → (follows : Followed meaning env order first last err went)
-        → IsSoundBuilt (built_in meaning (by_reading order follows.read) (point follows.read_at first.out) last went
+        → IsSoundBuilt (built_in meaning (by_reading env order follows.read) (point follows.read_at first.out) last went
         follows.goes)
     follows-sound first last err went new at is follows = read_from follows.read_at refl
       where
         read_from : (read_at : Option History) → follows.read_at ≡ read_at
-            → IsSoundBuilt (built_in meaning (by_reading order follows.read) (point follows.read_at first.out) last
+            → IsSoundBuilt (built_in meaning (by_reading env order follows.read) (point follows.read_at first.out) last
             went follows.goes)
         read_from None here =
-            absurd (goes-told meaning (by_reading order follows.read) (point follows.read_at first.out) last went new
+            absurd (goes-told meaning (by_reading env order follows.read) (point follows.read_at first.out) last went new
             here is follows.goes)
         read_from (Some read_then) here =
             goes-sound read_then follows.read
@@ -225,32 +228,32 @@ module _ (meaning : Meaning) (env : Env) (order : Order) (old : History) (start 
             (λ answers. reading answers env order)) here
             (subst (λ before. ReadBy meaning before follows.read_at err.before err.after follows.read
             (λ answers. reading answers env order)) at follows.reads))))
-            (by_reading order follows.read) refl (point follows.read_at first.out) last went new here is follows.goes
+            (by_reading env order follows.read) refl (point follows.read_at first.out) last went new here is follows.goes
 
     -- a run that comes to no build changes no file
     follows-left : (first last : Point) (err : Held) (went : Went) (new : History) → first.history ≡ Some old
         → last.history ≡ Some new → order.flags.dry ≡ false
         → (follows : Followed meaning env order first last err went)
         → LeavesUnbuilt meaning (files_of old) old new
-        (built_in meaning (by_reading order follows.read) (point follows.read_at first.out) last went follows.goes)
+        (built_in meaning (by_reading env order follows.read) (point follows.read_at first.out) last went follows.goes)
     follows-left first last err went new at is none follows = read_from follows.read_at refl
       where
         read_from : (read_at : Option History) → follows.read_at ≡ read_at
             → LeavesUnbuilt meaning (files_of old) old new
-            (built_in meaning (by_reading order follows.read) (point follows.read_at first.out) last went
+            (built_in meaning (by_reading env order follows.read) (point follows.read_at first.out) last went
             follows.goes)
         read_from None here =
-            absurd (goes-told meaning (by_reading order follows.read) (point follows.read_at first.out) last went new
+            absurd (goes-told meaning (by_reading env order follows.read) (point follows.read_at first.out) last went new
             here is follows.goes)
         read_from (Some read_then) here =
-            goes-left meaning (files_of old) old (by_reading order follows.read) (point follows.read_at first.out) last
+            goes-left meaning (files_of old) old (by_reading env order follows.read) (point follows.read_at first.out) last
             went read_then new
             (reads-left read_then err.before err.after follows.read
             (subst (λ read_at. ReadBy meaning (Some old) read_at err.before err.after follows.read
             (λ answers. reading answers env order)) here
             (subst (λ before. ReadBy meaning before follows.read_at err.before err.after follows.read
             (λ answers. reading answers env order)) at follows.reads)))
-            here is (λ made flags. shows-none order follows.read made flags none) follows.goes
+            here is (λ made flags. shows-none env order follows.read made flags none) follows.goes
 
 pub sound_files_make_sound_runs : SoundFilesMakeSoundRuns
 sound_files_make_sound_runs meaning words env order first last err report run old new planned_at work tasks items at is

@@ -14,9 +14,10 @@ use Rattle.mk_makefile.specs.Acts.{acts_of}
 use Rattle.mk_makefile.specs.Questions.{AreAsked, Question, bytes_of, cut, names_of, output_of, time_of}
 use Rattle.mk_makefile.specs.declared.fault.ReadFault.{ReadFault}
 use Rattle.mk_meta.specs.TrueHistory.{changed_paths}
+use Rattle.mk_modes.specs.Auditing.{Audits, ChangesNoFile}
 use Rattle.mk_modes.specs.Building.{IsUnplanned, Point}
 use Rattle.mk_modes.specs.Explaining.{Explanation}
-use Rattle.mk_modes.specs.Meaning.{Meant, only, prints, explains, queries, shows, builds, by_mode, by_reading}
+use Rattle.mk_modes.specs.Meaning.{Meant, only, prints, audits, explains, queries, shows, builds, by_mode, by_reading}
 use Rattle.mk_modes.specs.Modes.{Goes}
 use Rattle.mk_modes.specs.Querying.{Queries}
 use Rattle.mk_modes.specs.declared.building.Went.{Went}
@@ -26,6 +27,7 @@ use Rattle.mk_reader.specs.OnMaps.{Listings}
 use Rattle.mk_run.proofs.TrueRunLemmas.{told-at, told-before}
 use Rattle.mk_run.specs.TrueRuns.{Built, build, built_in, dry}
 use Rattle.mk_trace.proofs.AlongLemmas.{all-append}
+use Rattle.mk_scopes.specs.declared.scopes.Env.{Env}
 use Rattle.mk_trace.specs.Items.{path_of}
 use Rattle.mk_trace.specs.TrueBuilds.{LeavesFiles}
 use Rattle.mk_world.proofs.CallLemmas.{after_all-append}
@@ -193,6 +195,35 @@ module _ (meaning : Meaning) (store : Store) (old : History) where
   left-unplanned made requested query first last went read new left at is unplanned =
       left-looks read new left (told-at _ at is (ByLooks-told unplanned.refused)).0
 
+  left-none : (mid new : History) → Left meaning store old mid → ChangesNoFile mid new → Left meaning store old new
+  left-none mid new left none = record {
+    events = left.events ++ none.happened;
+    longer_is = none.longer
+        ∙ (ap (λ (l : List Happening). l ++ none.happened) left.longer_is
+        ∙ append_assoc old.events left.events none.happened);
+    leave = all-append LeavesFiles left.events none.happened left.leave none.leave;
+    files = none.files ∙ left.files;
+  }
+
+  left-audited : (env : Env) (made : Made) (order : Order) (first last : Point) (went : Went) (read new : History)
+      → Left meaning store old read → first.history ≡ Some read → last.history ≡ Some new
+      → Audits meaning env made order first last went → Left meaning store old new
+  left-audited env made order first last went read new left at is (inl unplanned) =
+      left-unplanned made order.flags.requested false first last went read new left at is unplanned
+  left-audited env made order first last went read new left at is (inr audited) =
+      found audited.audited_at refl audited.planned_at refl
+    where
+      found : (audited_at : Option History) → audited.audited_at ≡ audited_at → (planned_at : Option History)
+          → audited.planned_at ≡ planned_at → Left meaning store old new
+      found None there planned_at here = absurd (told-before _ there is audited.left)
+      found (Some then_is) there None here = absurd (told-before _ here there audited.looked)
+      found (Some then_is) there (Some planned_then) here =
+          left-none then_is new
+          (left-looks planned_then then_is
+          (left-looks read planned_then left (told-at _ at here (ByLooks-told audited.planned)).0)
+          (told-at _ here there audited.looked).0)
+          (told-at _ there is audited.left)
+
   left-explained : (made : Made) (flags : Flags) (first last : Point) (went : Went) (read new : History)
       → Left meaning store old read → first.history ≡ Some read → last.history ≡ Some new
       → Explanation meaning made flags first last went → Left meaning store old new
@@ -235,6 +266,8 @@ module _ (meaning : Meaning) (store : Store) (old : History) where
       left-same read new left (told-at Same at is goes.same)
   goes-left (prints variables lists all) first last went read new left at is none goes =
       left-dates goes.looked read new left (told-at (DatesAll goes.looked) at is goes.told)
+  goes-left (audits env made order) first last went read new left at is none goes =
+      left-audited env made order first last went read new left at is goes
   goes-left (explains made flags) first last went read new left at is none goes =
       left-explained made flags first last went read new left at is goes
   goes-left (queries made flags) first last went read new left at is none goes =
@@ -246,24 +279,26 @@ module _ (meaning : Meaning) (store : Store) (old : History) where
 
 -- Words that ask for no dry run mean none.
 
-chosen-shows : (given made : Made) (its flags : Flags) (first second third : Bool)
-    → (if first then explains given its
-    else (if second then queries given its else (if third then shows given its else builds given its)))
+chosen-shows : (env : Env) (given made : Made) (order : Order) (its flags : Flags) (first second third fourth : Bool)
+    → (if first then audits env given order
+    else (if second then explains given its
+    else (if third then queries given its else (if fourth then shows given its else builds given its))))
     ≡ shows made flags
-    → third ≡ true
-chosen-shows given made its flags true second third is = absurd cc
-chosen-shows given made its flags false true third is = absurd cc
-chosen-shows given made its flags false false true is = refl
-chosen-shows given made its flags false false false is = absurd cc
+    → fourth ≡ true
+chosen-shows env given made order its flags true second third fourth is = absurd cc
+chosen-shows env given made order its flags false true third fourth is = absurd cc
+chosen-shows env given made order its flags false false true fourth is = absurd cc
+chosen-shows env given made order its flags false false false true is = refl
+chosen-shows env given made order its flags false false false false is = absurd cc
 
-mode-shows : (given made : Made) (order : Order) (flags : Flags) (all : List Print)
-    → by_mode given order all ≡ shows made flags → order.flags.dry ≡ true
-mode-shows given made order flags [] is =
-    chosen-shows given made order.flags flags order.explain order.flags.query order.flags.dry is
-mode-shows given made order flags (print ∷ more) is = absurd cc
+mode-shows : (env : Env) (given made : Made) (order : Order) (flags : Flags) (all : List Print)
+    → by_mode env given order all ≡ shows made flags → order.flags.dry ≡ true
+mode-shows env given made order flags [] is =
+    chosen-shows env given made order order.flags flags order.audit order.explain order.flags.query order.flags.dry is
+mode-shows env given made order flags (print ∷ more) is = absurd cc
 
-pub shows-none : (order : Order) (read : Result Made ReadFault) (made : Made) (flags : Flags)
-    → order.flags.dry ≡ false → by_reading order read ≡ shows made flags → ⊥
-shows-none order (Ok given) made flags none is =
-    false≢true (sym none ∙ mode-shows given made order flags order.prints is)
-shows-none order (Err fault) made flags none is = absurd cc
+pub shows-none : (env : Env) (order : Order) (read : Result Made ReadFault) (made : Made) (flags : Flags)
+    → order.flags.dry ≡ false → by_reading env order read ≡ shows made flags → ⊥
+shows-none env order (Ok given) made flags none is =
+    false≢true (sym none ∙ mode-shows env given made order flags order.prints is)
+shows-none env order (Err fault) made flags none is = absurd cc

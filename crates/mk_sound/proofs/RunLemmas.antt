@@ -20,7 +20,7 @@ use Rattle.mk_makefile.specs.Questions.{AreAsked}
 use Rattle.mk_meta.specs.Jobs.{working}
 use Rattle.mk_meta.specs.TrueHistory.{IsTrueHistory}
 use Rattle.mk_modes.specs.Building.{Point, point}
-use Rattle.mk_modes.specs.Meaning.{Meant, only, prints, explains, queries, shows, builds, by_reading}
+use Rattle.mk_modes.specs.Meaning.{Meant, only, prints, audits, explains, queries, shows, builds, by_reading}
 use Rattle.mk_modes.specs.Modes.{Followed, Goes, Held}
 use Rattle.mk_modes.specs.declared.building.Went.{Went}
 use Rattle.mk_modes.specs.declared.report.End.{End}
@@ -233,6 +233,8 @@ goes-sound : (meaning : Meaning) (env : Env) (order : Order) (meant : Meant) (en
 goes-sound meaning env order (only outcome) end old read first last went new asked at is well goes clean = (tt, tt)
 goes-sound meaning env order (prints variables lists all) end old read first last went new asked at is well goes clean =
     (tt, tt)
+goes-sound meaning env order (audits its made given) end old read first last went new asked at is well goes clean =
+    (tt, tt)
 goes-sound meaning env order (explains made flags) end old read first last went new asked at is well goes clean = (tt, tt)
 goes-sound meaning env order (queries made flags) end old read first last went new asked at is well goes clean = (tt, tt)
 goes-sound meaning env order (shows made flags) end old read first last went new asked at is well (inl unplanned) clean =
@@ -283,20 +285,20 @@ follows-sound : (meaning : Meaning) (env : Env) (order : Order) (first last : Po
     (went : Went) (end : End) (old new : History) → first.history ≡ Some old → last.history ≡ Some new
     → (end ≡ Done → went.end ≡ Done) → (does : Followed meaning env order first last err went)
     → LeavesClean meaning env order
-    (built_in meaning (by_reading order does.read) (point does.read_at first.out) last went does.goes) end old new
+    (built_in meaning (by_reading env order does.read) (point does.read_at first.out) last went does.goes) end old new
     → IsSoundly meaning env order
-    (built_in meaning (by_reading order does.read) (point does.read_at first.out) last went does.goes) end old new
+    (built_in meaning (by_reading env order does.read) (point does.read_at first.out) last went does.goes) end old new
 follows-sound meaning env order first last err went end old new at is well does clean = read_from does.read_at refl
   where
     read_from : (read_at : Option History) → does.read_at ≡ read_at
         → IsSoundly meaning env order
-        (built_in meaning (by_reading order does.read) (point does.read_at first.out) last went does.goes) end old
+        (built_in meaning (by_reading env order does.read) (point does.read_at first.out) last went does.goes) end old
         new
     read_from None here =
-        absurd (goes-told meaning (by_reading order does.read) (point does.read_at first.out) last went new here
+        absurd (goes-told meaning (by_reading env order does.read) (point does.read_at first.out) last went new here
         is does.goes)
     read_from (Some read_then) here =
-        goes-sound meaning env order (by_reading order does.read) end old read_then
+        goes-sound meaning env order (by_reading env order does.read) end old read_then
         (point does.read_at first.out) last went new
         (questions-ask meaning does.reads.questions old read_then
         (told-at (AreAsked meaning does.reads.questions) at here does.reads.asked)) here is well does.goes clean
