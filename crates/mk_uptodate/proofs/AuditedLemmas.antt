@@ -1,12 +1,9 @@
 -- What is told from the meta files that stand is so of the jobs.
-use Rattle.std.proofs.Common.{◌≡◌, ◌∙◌, ℕ, zero, suc, Bool, true, false, List, [], ◌∷◌, map, Some, refl, sym, ap, subst, arith}
+use Rattle.std.proofs.Common.{◌≡◌, ◌∙◌, ℕ, suc, Bool, true, false, List, [], ◌∷◌, map, Some, refl, ap, subst, arith}
 use Rattle.std.specs.List.{All, AllByRecursion}
-use Rattle.mk_clean.specs.Clean.{IsAmong}
-use Rattle.mk_clean.specs.Declared.{IsDeclared}
 use Rattle.mk_clean.specs.Repeated.{IsAsRecorded}
 use Rattle.mk_cli.specs.declared.order.Order.{Order}
 use Rattle.mk_declared.proofs.RecordedLemmas.{source}
-use Rattle.mk_declared.specs.Present.{present_jobs}
 use Rattle.mk_filemon.specs.declared.record.Rec.{Rec}
 use Rattle.mk_headline.proofs.PlanLemmas.{job-has}
 use Rattle.mk_headline.specs.Plans.{clean_plan, has_job, makes_file}
@@ -14,7 +11,7 @@ use Rattle.mk_headline.specs.Premises.{GoesByMetaMode}
 use Rattle.mk_meta.specs.Texts.{meta_text}
 use Rattle.mk_meta.specs.TrueHistory.{meta_path}
 use Rattle.mk_oodate.proofs.FreshLemmas.{no_reason_is_fresh}
-use Rattle.mk_oodate.specs.Fresh.{IsFresh, IsOlderThan}
+use Rattle.mk_oodate.specs.Fresh.{IsOlderThan}
 use Rattle.mk_oodate.specs.Lists.{missed_paths, read_paths}
 use Rattle.mk_plan.specs.Plans.{node_at}
 use Rattle.mk_scopes.specs.declared.scopes.Env.{Env}
@@ -22,10 +19,11 @@ use Rattle.mk_decision.specs.Decisions.{Work, mode_at}
 use Rattle.mk_sound.specs.Files.{IsTrueStart}
 use Rattle.mk_trace.specs.Runs.{Tasks}
 use Rattle.mk_uptodate.proofs.FileLemmas.{up_to_date_files_are_sound}
+use Rattle.mk_uptodate.proofs.NodeLemmas.{goes-unforced}
 use Rattle.mk_uptodate.proofs.RecordedLemmas.{recorded_files_are_declared, recorded_nodes_do_the_same}
 use Rattle.mk_uptodate.specs.Audited.{AreAudited, AuditedFilesAreSound, HasExactHistory, IsUpToDateBy, StandsAsRecorded, ops_by}
 use Rattle.mk_uptodate.specs.Recorded.{IsRecorded}
-use Rattle.mk_uptodate.specs.UpToDate.{AreClean, AreUpToDate, task_in, time_in, times_in}
+use Rattle.mk_uptodate.specs.UpToDate.{AreUpToDate, task_in, time_in, times_in, unforced}
 use Rattle.mk_world.specs.History.{files_of}
 use Rattle.mk_world.specs.Talks.{Meaning}
 use Rattle.mk_world.specs.declared.history.History.{History}
@@ -33,7 +31,7 @@ use Rattle.mk_world.specs.declared.time.When.{When}
 use Rattle.mk_world.specs.declared.time.When.TheVariants as when
 
 -- what holds of all that is made of items holds of these
-all-made : {X Y : Type 0} (Kind : Y → Type 0) (make : X → Y) (items : List X) → All Kind (map make items)
+pub all-made : {X Y : Type 0} (Kind : Y → Type 0) (make : X → Y) (items : List X) → All Kind (map make items)
     → AllByRecursion (λ item. Kind (make item)) items
 all-made Kind make [] all = tt
 all-made Kind make (item ∷ items) all = (
@@ -66,8 +64,9 @@ module _ (meaning : Meaning) (old : History) (start : IsTrueStart meaning old)
     fresh-stands node records mode makes by =
         let its = by.fresh in
         let name = (node_at work.plan node).name in
-        let is = no_reason_is_fresh its.meta (task_in work lines node) (mode_at work node)
-        (times_in old name its.ages its.records) (mode.by_records node makes) its.no_reason in
+        let is = no_reason_is_fresh its.meta (task_in work lines node)
+        (unforced (mode_at work node)) (times_in old name its.ages its.records)
+        (goes-unforced (mode_at work node) (mode.by_records node makes)) its.no_reason in
         record {
           meta = its.meta;
           lawful = its.lawful;

@@ -23,11 +23,12 @@ use Rattle.mk_meta.specs.declared.meta.Meta.{Meta}
 use Rattle.mk_oodate.proofs.FreshLemmas.{no_reason_is_fresh}
 use Rattle.mk_oodate.specs.Fresh.{GoesByRecords, Looks, Saw}
 use Rattle.mk_oodate.specs.Lists.{left_paths, missed_paths, read_paths}
+use Rattle.mk_oodate.specs.declared.reason.NodeMode.{NodeMode}
 use Rattle.mk_oodate.specs.declared.reason.Times.{Times}
 use Rattle.mk_plan.specs.Plans.{node_at}
 use Rattle.mk_sound.specs.Files.{IsTrueStart}
 use Rattle.mk_trace.specs.Runs.{Tasks}
-use Rattle.mk_uptodate.specs.UpToDate.{IsUpToDate, UpToDateNodesStand, task_in, time_in, times_in}
+use Rattle.mk_uptodate.specs.UpToDate.{IsUpToDate, UpToDateNodesStand, task_in, time_in, times_in, unforced}
 use Rattle.mk_world.proofs.CallLemmas.{after_all-append}
 use Rattle.mk_world.specs.Calls.{when_of}
 use Rattle.mk_world.specs.Deeds.{Store}
@@ -38,7 +39,6 @@ use Rattle.mk_world.specs.declared.history.Happening.{Happening}
 use Rattle.mk_world.specs.declared.history.Happening.TheVariants.{Stamp, Put}
 use Rattle.mk_world.specs.declared.history.History.{History}
 use Rattle.mk_world.specs.declared.time.When.{When}
-use Rattle.mk_world.specs.declared.time.When.TheVariants as when
 
 -- looks at some paths, by the times of all
 
@@ -92,6 +92,17 @@ meta-stands next base meta events is =
     rw (bytes_eq-same path) refl in
     ap (λ (s : Stand). s.files path) states ∙ (unchanged path written is.since is.unchanged ∙ here)
 
+-- a build that goes by records does so whatever is marked to be made always
+pub goes-unforced : (mode : NodeMode) → GoesByRecords mode → GoesByRecords (unforced mode)
+goes-unforced mode goes = record {
+  meta = goes.meta;
+  missing_meta = goes.missing_meta;
+  missing_filemon = goes.missing_filemon;
+  nofilemon = goes.nofilemon;
+  ignore_cmd = goes.ignore_cmd;
+  count_only = goes.count_only;
+}
+
 module _ (meaning : Meaning) (old : History) (work : Work) (lines : Tasks) (node : ℕ) (start : IsTrueStart meaning old)
     (mode : GoesByMetaMode work lines) (makes : makes_file (node_at work.plan node) ≡ true)
     (its : IsUpToDate old work lines node)
@@ -108,11 +119,11 @@ module _ (meaning : Meaning) (old : History) (work : Work) (lines : Tasks) (node
     abbrev times : Times
     times = times_in old name its.ages its.records
 
-    goes : GoesByRecords (mode_at work node)
-    goes = mode.by_records node makes
+    goes : GoesByRecords (unforced (mode_at work node))
+    goes = goes-unforced (mode_at work node) (mode.by_records node makes)
 
     target_is : meta.target ≡ name
-    target_is = (no_reason_is_fresh meta (task_in work lines node) (mode_at work node) times goes its.no_reason).target
+    target_is = (no_reason_is_fresh meta (task_in work lines node) (unforced (mode_at work node)) times goes its.no_reason).target
 
     is_true : IsTrue meaning.next meta old.events
     is_true = start.truth meta its.lawful (ap (λ path. files_of old (meta_path path)) target_is ∙ its.stands)
@@ -182,7 +193,7 @@ module _ (meaning : Meaning) (old : History) (work : Work) (lines : Tasks) (node
 
     pub may_keep : MayKeep meaning plan build node
     may_keep = no_reason_may_keep meaning old.base meta old.events is_true plan build node (task_in work lines node)
-        (mode_at work node) times has_task goes went_by its.no_reason
+        (unforced (mode_at work node)) times has_task goes went_by its.no_reason
 
     pub up_to_date_stands : Stands meaning plan store node
     up_to_date_stands = record { well = may_keep.well; left = may_keep.stands }

@@ -1,6 +1,5 @@
 -- The job of a node that is recorded repeats itself on the files that stand.
 use Rattle.std.proofs.Common.{◌≡◌, ◌∙◌, ℕ, List, true, refl, sym, ap, subst}
-use Rattle.std.specs.List.{AllByRecursion}
 use Rattle.mk_clean.proofs.RepeatedLemmas.{exact_records_are_of_steps, recorded_jobs_repeat}
 use Rattle.mk_clean.specs.Clean.{Plan, doings_on}
 use Rattle.mk_clean.specs.Kept.{seen_at}
@@ -17,9 +16,8 @@ use Rattle.mk_plan.specs.Plans.{node_at}
 use Rattle.mk_sound.specs.Files.{IsTrueStart}
 use Rattle.mk_trace.specs.Runs.{Tasks}
 use Rattle.mk_uptodate.specs.Recorded.{IsRecorded, RecordedFilesAreDeclared, RecordedNodesDoTheSame}
-use Rattle.mk_uptodate.specs.UpToDate.{task_in, time_in}
+use Rattle.mk_uptodate.specs.UpToDate.{task_in}
 use Rattle.mk_world.specs.Calls.{when_of}
-use Rattle.mk_world.specs.Deeds.{Store}
 use Rattle.mk_world.specs.History.{FileMap, MayAll, after_all, contents, files_of, first_state, state_of}
 use Rattle.mk_world.specs.Records.{AreExact}
 use Rattle.mk_world.specs.Talks.{Meaning}

@@ -20,7 +20,6 @@ use Rattle.mk_uptodate.specs.UpToDate.{task_in, time_in}
 use Rattle.mk_world.specs.History.{files_of}
 use Rattle.mk_world.specs.Records.{AreExact}
 use Rattle.mk_world.specs.Talks.{Meaning}
-use Rattle.mk_world.specs.declared.command.TaskLine.{TaskLine}
 use Rattle.mk_world.specs.declared.history.History.{History}
 
 -- A node is recorded so: its meta file tells what happened, and has exactly these records; each of

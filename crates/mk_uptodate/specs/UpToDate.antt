@@ -24,6 +24,7 @@ use Rattle.mk_meta.specs.declared.meta.Meta.{Meta}
 use Rattle.mk_oodate.specs.Lists.{left_paths, missed_paths, read_paths}
 use Rattle.mk_oodate.specs.Stale.{stale}
 use Rattle.mk_oodate.specs.declared.reason.Age.{Age}
+use Rattle.mk_oodate.specs.declared.reason.NodeMode.{NodeMode}
 use Rattle.mk_oodate.specs.declared.reason.Times.{Times}
 use Rattle.mk_plan.specs.Newer.{task_names}
 use Rattle.mk_plan.specs.Plans.{node_at, planned}
@@ -65,9 +66,13 @@ abbrev pub task_in : Work → Tasks → ℕ → Task
 task_in work lines node =
     task_with work.variables work.mode.exports (node_at work.plan node).name (lines node)
 
+-- what counts for a node, but that it may be marked to be made whatever stands there
+abbrev pub unforced : NodeMode → NodeMode
+unforced mode = record mode { always = false }
+
 -- A node is up to date: its meta file stands, is lawful and has records, and by the times of the
 -- files that stand the test gives no reason to make it again with these lines, whatever the ages of
--- its sources.
+-- its sources, but that it may be marked to be made whatever stands there.
 pub record IsUpToDate (old : History) (work : Work) (lines : Tasks) (node : ℕ) : Type 0 where
   pub meta : Meta
   pub lawful : IsLawful meta
@@ -75,7 +80,7 @@ pub record IsUpToDate (old : History) (work : Work) (lines : Tasks) (node : ℕ)
   pub records : List Rec
   pub recorded : meta.records ≡ Some records
   pub ages : List Age
-  pub no_reason : stale (Some meta) (task_in work lines node) (mode_at work node)
+  pub no_reason : stale (Some meta) (task_in work lines node) (unforced (mode_at work node))
       (times_in old (node_at work.plan node).name ages records) ≡ None
 
 -- Where meta files tell what happened, such a node stands as its job would leave it.

@@ -1,0 +1,5 @@
+use Rattle.mk_audited.proofs.AuditLemmas.{clean_audits_are_sound}
+use Rattle.mk_audited.proofs.law.clean_audits_are_sound.Goals as goal
+
+pub returns : goal.returns
+returns c = clean_audits_are_sound
