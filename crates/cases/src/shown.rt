@@ -192,6 +192,7 @@ fn end_name(end: &End) -> &'static str {
         End::Expand(_, _, _) => "Expand",
         End::JobFailed(_, _, _) => "JobFailed",
         End::NotUpToDate(_) => "NotUpToDate",
+        End::Breaches(_) => "Breaches",
         End::WorldFault => "WorldFault",
         End::SinkFault => "SinkFault",
         End::NoMemory => "NoMemory",
@@ -203,6 +204,7 @@ pub fn say_end(said: &mut Said, end: &End) {
     said.push(end_name(end).as_bytes());
     match end {
         End::Usage(place) => say_number(said, u64::from(*place)),
+        End::Breaches(count) => say_number(said, *count),
         End::NoFile(name) | End::NoRule(name) | End::NotUpToDate(name) => {
             say_bytes(said, name.bytes());
         }
