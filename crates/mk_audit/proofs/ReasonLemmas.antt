@@ -1,5 +1,5 @@
 -- By which reasons a phony node is out of date.
-use Rattle.std.proofs.Common.{◌≡◌, ◌∙◌, List, Option, Some, None, true, ap, refl}
+use Rattle.std.proofs.Common.{◌≡◌, ◌∙◌, List, Option, Some, None, true, false, ap, refl}
 use Rattle.std.specs.Option.{option_or}
 use Rattle.std.specs.Prelude.{◌&&◌, not}
 use Rattle.std.specs.Str.{bytes_eq}
@@ -24,5 +24,5 @@ phony-by-records mode task meta times in_meta own =
     let same : bytes_eq meta.target task.target ≡ true =
     ap (λ name. bytes_eq name task.target) own ∙ bytes_eq-same task.target in
     rw (in_meta, same)
-    (ap (option_or (given (not mode.ignore_cmd && not (is_same mode.count_only task meta)) Command))
-    (records-alone (strict mode) times meta.stamp meta.records))
+    (ap (option_or (given (not mode.ignore_cmd && not (is_same false task meta)) Command))
+    (records-alone (strict true mode) times meta.stamp meta.records))

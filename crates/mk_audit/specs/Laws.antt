@@ -48,5 +48,5 @@ abbrev pub PhonyNodesAreByRecords : Type 0
 PhonyNodesAreByRecords =
     (mode : NodeMode) (task : Task) (meta : Meta) (times : Times) → mode.meta ≡ true
     → meta.target ≡ task.target
-    → stale (Some meta) task (strict mode) (own_times true times)
-    ≡ recorded_reason task (strict mode) times meta
+    → stale (Some meta) task (strict true mode) (own_times true times)
+    ≡ recorded_reason task (strict true mode) times meta

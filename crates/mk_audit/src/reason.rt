@@ -12,14 +12,15 @@ use mk_oodate::{NodeMode, Times, Why, stale};
 use mk_world::{Task, Time, When};
 use std::alloc::Global;
 
-fn strict(mode: NodeMode) -> NodeMode
-    ensures { result ≡ spec.strict mode }
+fn strict(phony: bool, mode: NodeMode) -> NodeMode
+    ensures { result ≡ spec.strict phony mode }
 {
     NodeMode {
         always: false,
         missing_meta: true,
         missing_filemon: true,
         nofilemon: false,
+        count_only: !phony && mode.count_only,
         ..mode
     }
 }
@@ -51,7 +52,8 @@ pub fn reason_of(
     ensures { IfOk result (λ why.
         why ≡ spec.reason_of (work_of maker.now) node task.now value.now times) }
 {
-    let mode = strict(node_mode(maker.plan, &maker.made.mode, node));
-    let times = own_times(maker.alloc, maker.plan.has(node, Attr::Phony), times)?;
+    let phony = maker.plan.has(node, Attr::Phony);
+    let mode = strict(phony, node_mode(maker.plan, &maker.made.mode, node));
+    let times = own_times(maker.alloc, phony, times)?;
     Ok(stale(value.as_ref(), task, &mode, &times))
 }

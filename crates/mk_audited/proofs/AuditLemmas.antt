@@ -1,6 +1,6 @@
 -- Where an audit finds nothing, all that is asked of the files that stand is so.
 use Rattle.std.proofs.Common.{◌≡◌, ◌∙◌, ℕ, ◌+◌, ◌&&◌, ◌||◌, not, Bool, true, false, List, [], length}
-use Rattle.std.proofs.Common.{Option, Some, None, Ok, slice_get, refl, sym, ap, subst, arith}
+use Rattle.std.proofs.Common.{Option, Some, None, Ok, slice_get, refl, sym, ap, ap₂, subst, arith}
 use Rattle.std.proofs.lemmas.Bool.{false≢true, or_parts}
 use Rattle.std.specs.List.{AllByRecursion}
 use Rattle.std.specs.Option.{option_map_or}
@@ -78,7 +78,7 @@ same-ops nodes node = by (slice_get nodes node)
 
 module _ (meaning : Meaning) (env : Env) (order : Order) (old : History) (its : IsCleanAudit meaning env order old) where
   abbrev work : Work
-  work = its.work
+  work = its.makefiles.work
 
   abbrev store : Store
   store = files_of old
@@ -155,7 +155,8 @@ module _ (meaning : Meaning) (env : Env) (order : Order) (old : History) (its : 
     task_is : task_in work lines node ≡ has.task.0
     is_meta : (mode_at work node).meta ≡ true
 
-  settled-node : (node : ℕ) (is : IsFound node) → (node_at work.plan node).marks.no_meta_cmp ≡ false
+  settled-node : (node : ℕ) (is : IsFound node)
+      → (not (node_at work.plan node).marks.phony && (node_at work.plan node).marks.no_meta_cmp) ≡ false
       → IsSettledNode node is
   settled-node node is count =
       let sight = is.looked.sight in
@@ -189,21 +190,27 @@ module _ (meaning : Meaning) (env : Env) (order : Order) (old : History) (its : 
         is_meta = is_meta;
       }
 
-  no-count : (node : ℕ) (job : has_job (node_at work.plan node) ≡ true)
+  -- of a node that makes a file the commands count
+  kept : (node : ℕ) → makes_file (node_at work.plan node) ≡ true
       → (node_at work.plan node).marks.no_meta_cmp ≡ false
-  no-count node job = by (makes_file (node_at work.plan node)) refl
+  kept node makes =
+      let it = found node (makes-job (node_at work.plan node) makes) in
+      kept-marks (makes_file (node_at work.plan node)) (node_at work.plan node).marks.no_meta
+      (node_at work.plan node).marks.no_meta_cmp makes
+      (subst (λ (f : NodeFacts). f.unmeta ≡ false) it.looked.found it.settled.kept)
+
+  -- and so they do of a phony one
+  counts : (node : ℕ) → has_job (node_at work.plan node) ≡ true
+      → (not (node_at work.plan node).marks.phony && (node_at work.plan node).marks.no_meta_cmp) ≡ false
+  counts node job = by (node_at work.plan node).marks.phony refl
     where
-      by : (makes : Bool) → makes_file (node_at work.plan node) ≡ makes
-          → (node_at work.plan node).marks.no_meta_cmp ≡ false
-      by true is =
-          let it = found node job in
-          kept-marks (makes_file (node_at work.plan node)) (node_at work.plan node).marks.no_meta
-          (node_at work.plan node).marks.no_meta_cmp is
-          (subst (λ (f : NodeFacts). f.unmeta ≡ false) it.looked.found it.settled.kept)
-      by false is = its.compared node job is
+      by : (phony : Bool) → (node_at work.plan node).marks.phony ≡ phony
+          → (not phony && (node_at work.plan node).marks.no_meta_cmp) ≡ false
+      by true is = refl
+      by false is = kept node (ap₂ (λ has phony. has && not phony) job is)
 
   settled : (node : ℕ) (job : has_job (node_at work.plan node) ≡ true) → IsSettledNode node (found node job)
-  settled node job = settled-node node (found node job) (no-count node job)
+  settled node job = settled-node node (found node job) (counts node job)
 
   -- what is found is recorded of the node
   records-are : (node : ℕ) (job : has_job (node_at work.plan node) ≡ true)
@@ -231,7 +238,7 @@ module _ (meaning : Meaning) (env : Env) (order : Order) (old : History) (its : 
           missing_filemon = full.missing_filemon;
           nofilemon = full.nofilemon;
           ignore_cmd = full.ignore_cmd;
-          count_only = no-count node job;
+          count_only = kept node makes;
         };
     compared = λ node makes. compared-are node (makes-job (node_at work.plan node) makes);
     none_ignored = full.ignore_paths;
@@ -296,19 +303,19 @@ module _ (meaning : Meaning) (env : Env) (order : Order) (old : History) (its : 
 
   are-audited : AreAudited meaning env order old
   are-audited = record {
-    made = its.made;
-    listings = its.listings;
-    read = its.read;
-    names_differ = its.names_differ;
+    made = its.makefiles.made;
+    listings = its.makefiles.listings;
+    read = its.makefiles.read;
+    names_differ = its.makefiles.names_differ;
     work = work;
-    planned = its.planned;
-    work_is = its.work_is;
+    planned = its.makefiles.planned;
+    work_is = its.makefiles.work_is;
     lines = lines;
     records = records;
-    room = its.room;
-    asks = its.asks;
+    room = its.makefiles.room;
+    asks = its.makefiles.asks;
     mode = mode;
-    alike = its.alike;
+    alike = its.makefiles.alike;
     tasks_are = tasks-are;
     fresh = fresh;
     phony = phony;
@@ -328,3 +335,8 @@ pub clean_audits_are_sound : CleanAuditsAreSound
 unfolding are-audited
 clean_audits_are_sound meaning env order old start exact its =
     audited_files_are_sound meaning env order old start exact (are-audited meaning env order old its)
+
+-- the build goes by meta mode
+pub mode_of : (meaning : Meaning) (env : Env) (order : Order) (old : History) (its : IsCleanAudit meaning env order old)
+    → GoesByMetaMode its.makefiles.work (lines_on its.makefiles.work (files_of old))
+mode_of meaning env order old its = mode meaning env order old its

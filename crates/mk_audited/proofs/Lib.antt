@@ -1,7 +1,9 @@
 pub mod AuditLemmas
+pub mod EditLemmas
 pub mod FoundLemmas
 pub mod NameLemmas
 pub mod NodeLemmas
 pub mod PlanLemmas
+pub mod RunLemmas
 pub mod TaskLemmas
 pub mod TurnLemmas

@@ -87,9 +87,9 @@ full-is mode is =
     }
 
 -- a strict mode goes by records
-strict-goes : (mode : NodeMode) → mode.meta ≡ true → mode.ignore_cmd ≡ false → mode.count_only ≡ false
-    → GoesByRecords (strict mode)
-strict-goes mode meta ignore count = record {
+strict-goes : (phony : Bool) (mode : NodeMode) → mode.meta ≡ true → mode.ignore_cmd ≡ false
+    → (not phony && mode.count_only) ≡ false → GoesByRecords (strict phony mode)
+strict-goes phony mode meta ignore count = record {
   meta = meta;
   missing_meta = refl;
   missing_filemon = refl;
@@ -100,7 +100,7 @@ strict-goes mode meta ignore count = record {
 
 -- where a meta file with records must be there and counts, only the mark to be always made is left out
 strict-unforced : (mode : NodeMode) → mode.missing_meta ≡ true → mode.missing_filemon ≡ true
-    → mode.nofilemon ≡ false → strict mode ≡ unforced mode
+    → mode.nofilemon ≡ false → strict false mode ≡ unforced mode
 strict-unforced mode meta filemon counts =
     ap (λ b. record mode { always = false; missing_meta = b; missing_filemon = true; nofilemon = false }) (sym meta)
     ∙ ap (λ b. record mode { always = false; missing_filemon = b; nofilemon = false }) (sym filemon)
@@ -113,10 +113,10 @@ neither None other none = (refl, none)
 neither (Some reason) other none = absurd cc
 
 -- without a meta file there is a reason
-some-meta : (value : Option Meta) (task : Task) (mode : NodeMode) (times : Times) → mode.meta ≡ true
-    → stale value task (strict mode) times ≡ None → (meta : Meta) × (value ≡ Some meta)
-some-meta (Some meta) task mode times is none = (meta, refl)
-some-meta None task mode times is none =
+some-meta : (value : Option Meta) (task : Task) (phony : Bool) (mode : NodeMode) (times : Times)
+    → mode.meta ≡ true → stale value task (strict phony mode) times ≡ None → (meta : Meta) × (value ≡ Some meta)
+some-meta (Some meta) task phony mode times is none = (meta, refl)
+some-meta None task phony mode times is none =
     let rest = neither (given (is_missing times.target) why.Missing)
     (option_or (at_first (is_newer times.target) why.Newer times.sources)
     (if mode.meta then Some why.NoMeta else None)) none in
@@ -192,7 +192,7 @@ pub record IsMetaOf (old : History) (work : Work) (node : ℕ) (task : Task) (va
 
 module _ (old : History) (work : Work) (node : ℕ) (target : When) (ages : List Age) (task : Task)
     (full : IsFull work.mode) (is_meta : (mode_at work node).meta ≡ true)
-    (count : (mode_at work node).count_only ≡ false) (named : task.target ≡ (node_at work.plan node).name)
+    (count : (not (node_at work.plan node).marks.phony && (mode_at work node).count_only) ≡ false) (named : task.target ≡ (node_at work.plan node).name)
   where
     abbrev files : FileMap
     files = (state_of old).files
@@ -213,9 +213,9 @@ module _ (old : History) (work : Work) (node : ℕ) (target : When) (ages : List
         → reason_of work node task sight.value (times sight) ≡ None
         → IsFresh meta task (own_times phony (times sight))
     is-fresh sight meta value none =
-        no_reason_is_fresh meta task (strict mode) (own_times phony (times sight))
-        (strict-goes mode is_meta full.ignore_cmd count)
-        (subst (λ v. stale v task (strict mode) (own_times phony (times sight)) ≡ None) value none)
+        no_reason_is_fresh meta task (strict phony mode) (own_times phony (times sight))
+        (strict-goes phony mode is_meta full.ignore_cmd count)
+        (subst (λ v. stale v task (strict phony mode) (own_times phony (times sight)) ≡ None) value none)
 
     -- the records that are found are those of the meta file
     records-are : (meta : Meta) (value : Option Meta) (records : List Rec) → value ≡ Some meta
@@ -257,7 +257,7 @@ module _ (old : History) (work : Work) (node : ℕ) (target : When) (ages : List
         → AllByRecursion (IsAnswered files) (meta_looks (meta_path name) (Some sight))
         → reason_of work node task sight.value (times sight) ≡ None → IsSeenMeta sight
     seen-meta sight is are answered none =
-        let some = some-meta sight.value task mode (own_times phony (times sight)) is_meta none in
+        let some = some-meta sight.value task phony mode (own_times phony (times sight)) is_meta none in
         let meta = some.0 in
         let fresh = is-fresh sight meta some.1 none in
         let records = fresh.recorded.0 in
@@ -312,8 +312,8 @@ module _ (old : History) (work : Work) (node : ℕ) (target : When) (ages : List
         subst (λ t. stale (Some it.it.meta) task (unforced mode) t ≡ None) same
         (subst (λ m. stale (Some it.it.meta) task m (times sight) ≡ None)
         (strict-unforced mode full.missing_meta full.missing_filemon full.nofilemon)
-        (subst (λ b. stale (Some it.it.meta) task (strict mode) (own_times b (times sight)) ≡ None) plain
-        (subst (λ v. stale v task (strict mode) (own_times phony (times sight)) ≡ None) it.value none)))
+        (subst (λ b. stale (Some it.it.meta) task (strict b mode) (own_times b (times sight)) ≡ None) plain
+        (subst (λ v. stale v task (strict phony mode) (own_times phony (times sight)) ≡ None) it.value none)))
 
 -- What an audit finds of a node that is settled, by its task on the files that stand.
 pub record IsNodeOf (old : History) (work : Work) (node : ℕ) (task : Task) (value : Option Meta) : Type 0 where
@@ -324,7 +324,8 @@ pub record IsNodeOf (old : History) (work : Work) (node : ℕ) (task : Task) (va
       (times_in old (node_at work.plan node).name ages it.records) ≡ None
 
 pub node-of : (old : History) (work : Work) (node : ℕ) (sight : NodeSight) (task : Task) → IsFull work.mode
-    → (mode_at work node).meta ≡ true → (mode_at work node).count_only ≡ false
+    → (mode_at work node).meta ≡ true
+    → (not (node_at work.plan node).marks.phony && (mode_at work node).count_only) ≡ false
     → task.target ≡ (node_at work.plan node).name → IsMetaSeen work node sight.meta
     → Parts (state_of old).files work node sight
     → reason_of work node task (value_in sight.meta)

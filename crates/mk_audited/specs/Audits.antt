@@ -1,5 +1,5 @@
 -- What follows where an audit finds nothing.
-use Rattle.std.specs.Prelude.{◌≡◌, ℕ, ◌<◌, not, true, false, List, [], Some, Result, Ok, Err}
+use Rattle.std.specs.Prelude.{◌≡◌, ℕ, ◌<◌, not, List, [], Some, Result, Ok, Err}
 use Rattle.std.specs.List.{AllByRecursion, slice_get}
 use Rattle.std.specs.Option.{option_map_or}
 use Rattle.mk_answers.specs.OnFiles.{ChangesNone}
@@ -15,8 +15,7 @@ use Rattle.mk_explain.specs.Turns.{SawFiles}
 use Rattle.mk_filemon.specs.declared.record.Rec.{Rec}
 use Rattle.mk_graph.specs.Nodes.{names_of}
 use Rattle.mk_graph.specs.declared.Made.{Made}
-use Rattle.mk_headline.specs.Plans.{has_job, makes_file}
-use Rattle.mk_plan.specs.Plans.{node_at, planned}
+use Rattle.mk_plan.specs.Plans.{planned}
 use Rattle.mk_plan.specs.declared.fault.TaskFault.{TaskFault}
 use Rattle.mk_pool.specs.Pool.{AreDistinct}
 use Rattle.mk_reader.specs.OnMaps.{Listings, reading_on}
@@ -46,42 +45,41 @@ lines_on work files node = lines_by (task_on work node files)
 abbrev pub records_in : List NodeFacts → ℕ → List Rec
 records_in nodes node = option_map_or (λ (one : NodeFacts). one.records) (slice_get nodes node) []
 
--- An audit of the files that stand before a run finds nothing. Here stands what it finds, and of
--- the makefiles only what it does not look at.
-pub record IsCleanAudit (meaning : Meaning) (env : Env) (order : Order) (old : History) : Type 0
+-- What is asked of the makefiles and the words on the files that stand, of which an audit tells
+-- nothing.
+pub record AreAuditable (meaning : Meaning) (env : Env) (order : Order) (files : Store) : Type 0
   where
     -- The makefiles on these files are read, and say this, where these are the names in the
     -- directories that they list; no two nodes of the graph have one name, which holds of all
     -- graphs that are read; and this is the work that the words ask for.
     pub made : Made
     pub listings : Listings
-    pub read : (reading_on meaning (files_of old) listings env order).answer ≡ Ok made
+    pub read : (reading_on meaning files listings env order).answer ≡ Ok made
     pub names_differ : AreDistinct (names_of made.graph)
     pub work : Work
-    pub planned : planned (files_of old) made order.flags.requested order.flags.query ≡ Ok work.plan
+    pub planned : planned files made order.flags.requested order.flags.query ≡ Ok work.plan
     pub work_is : work ≡ work_on work.plan made order.flags
     -- At least one job may run at once.
     pub room : 0 < order.flags.jobs
     -- The commands that the makefiles ask with `!=` change no file.
-    pub asks : AllByRecursion (ChangesNone meaning (files_of old) listings)
-        (reading_on meaning (files_of old) listings env order).acts
+    pub asks : AllByRecursion (ChangesNone meaning files listings) (reading_on meaning files listings env order).acts
     -- The makefiles give this work also where made files and meta files are away.
-    pub alike : IsPlannedOn meaning env order (bare work.plan (files_of old)) work
-    -- Of the commands of a phony node more counts than their number: with `.NOMETA_CMP` an audit
-    -- goes by that, and tells so of nodes alone that make a file.
-    pub compared : (node : ℕ) → has_job (node_at work.plan node) ≡ true
-        → makes_file (node_at work.plan node) ≡ false
-        → (node_at work.plan node).marks.no_meta_cmp ≡ false
+    pub alike : IsPlannedOn meaning env order (bare work.plan files) work
+
+-- An audit of the files that stand before a run finds nothing.
+pub record IsCleanAudit (meaning : Meaning) (env : Env) (order : Order) (old : History) : Type 0
+  where
+    pub makefiles : AreAuditable meaning env order (files_of old)
     -- The plan was audited by looks at these files, and this was found: all that had happened since
     -- the run began, as looks of its reading and its planning, changed none.
     pub nodes : List NodeFacts
     pub before : History
     pub unchanged : (path : List ℕ) → (state_of before).files path ≡ (state_of old).files path
     pub after : History
-    pub audited : audit.AreAudited (SawFiles meaning (Some before) (Some after)) work nodes
+    pub audited : audit.AreAudited (SawFiles meaning (Some before) (Some after)) makefiles.work nodes
     -- Nothing of that is a breach.
     pub facts : PlanFacts
-    pub mode : facts.mode ≡ not (mode_is_full work.mode)
+    pub mode : facts.mode ≡ not (mode_is_full makefiles.work.mode)
     pub nothing : breaches facts nodes ≡ []
 
 -- What is audited so is all that is asked of what makefiles, meta files, records and times say, for
@@ -90,8 +88,8 @@ pub record IsAuditOf (meaning : Meaning) (env : Env) (order : Order) (old : Hist
     (its : IsCleanAudit meaning env order old) : Type 0
   where
     pub are : AreAudited meaning env order old
-    pub work_is : are.work ≡ its.work
-    pub lines_are : are.lines ≡ lines_on its.work (files_of old)
+    pub work_is : are.work ≡ its.makefiles.work
+    pub lines_are : are.lines ≡ lines_on its.makefiles.work (files_of old)
     pub records_are : are.records ≡ records_in its.nodes
 
 abbrev pub CleanAuditsAreAudited : Type 0
@@ -107,4 +105,4 @@ CleanAuditsAreSound =
     (meaning : Meaning) (env : Env) (order : Order) (old : History)
     → (start : IsTrueStart meaning old) → HasExactHistory meaning old start
     → (its : IsCleanAudit meaning env order old)
-    → HoldsOfFiles meaning env order old its.work (lines_on its.work (files_of old))
+    → HoldsOfFiles meaning env order old its.makefiles.work (lines_on its.makefiles.work (files_of old))

@@ -62,7 +62,7 @@ use Rattle.mk_modes.specs.declared.report.End.{End}
 
 -- files behind questions
 
-questions-leave : (state : Stand) (events : List Happening) → AllByRecursion IsQuestion events
+pub questions-leave : (state : Stand) (events : List Happening) → AllByRecursion IsQuestion events
     → AllByRecursion LeavesFiles events → (after_all state events).files ≡ state.files
 questions-leave state [] are leave = refl
 questions-leave state (world.Look path ∷ events) are leave =

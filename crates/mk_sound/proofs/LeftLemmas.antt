@@ -130,7 +130,7 @@ questions-left meaning store listings (cut cmd ∷ more) old new is (mid, inr ra
     (λ files. questions-left meaning store listings more mid new files rest change.1)
 
 -- looks change no file
-after-looks : (state : Stand) (paths : List (List ℕ))
+pub after-looks : (state : Stand) (paths : List (List ℕ))
     → (after_all state (map (λ path. Look path) paths)).files ≡ state.files
 after-looks state [] = refl
 after-looks state (path ∷ paths) = after-looks _ paths
