@@ -4,13 +4,13 @@ use Rattle.std.proofs.lemmas.Bool.{false≢true}
 use Rattle.std.proofs.lemmas.List.{append-nil}
 use Rattle.std.specs.List.{AllByRecursion}
 use Rattle.std.specs.Option.{option_map}
+use Rattle.mk_clean.proofs.WalkLemmas.{left_alone}
 use Rattle.mk_headline.proofs.PlanLemmas.{meta_path-is}
 use Rattle.mk_headline.specs.Plans.{is_meta_path}
 use Rattle.mk_meta.specs.TrueHistory.{IsTrue, LeavesAlone, NoneChanges, job_event, meta_path}
 use Rattle.mk_meta.specs.declared.meta.Meta.{Meta}
 use Rattle.mk_sound.specs.Files.{IsTrueStart}
 use Rattle.mk_trace.proofs.TrueTexts.{true-more}
-use Rattle.mk_uptodate.proofs.NodeLemmas.{unchanged}
 use Rattle.mk_world.proofs.CallLemmas.{after_all-append}
 use Rattle.mk_world.specs.History.{Filed, State as Stand, after, after_all, contents, effects, files_of, first_state, state_of}
 use Rattle.mk_world.specs.Talks.{NextOf}
@@ -92,6 +92,13 @@ pub edited-children : (old new : History) → AreEdited old new → (state_of ne
 edited-children old new edited =
     ap (λ (s : Stand). s.children) (edited-state old new edited)
     ∙ edits-children (state_of old) edited.edits edited.are
+
+-- a path that nothing changes stands as it did
+unchanged : (path : List ℕ) (state : Stand) (events : List Happening) → NoneChanges path events
+    → (after_all state events).files path ≡ state.files path
+unchanged path state [] none = refl
+unchanged path state (event ∷ events) none =
+    unchanged path (after state event) events none.1 ∙ left_alone path state.files (effects event) none.0
 
 meta-files : (old new : History) → AreEdited old new → (path : List ℕ) → is_meta_path path ≡ true
     → files_of new path ≡ files_of old path

@@ -1,6 +1,7 @@
 -- A run with `--audit` that ends well has looked at the files that stand, and found nothing.
 use Rattle.std.proofs.Common.{◌≡◌, ◌∙◌, ◌⊎◌, ℕ, zero, suc, Bool, true, false, not, List, [], ◌∷◌, ◌++◌, length, map}
-use Rattle.std.proofs.Common.{Option, Some, None, Result, Ok, Err, inl, inr, refl, sym, ap, subst, if◌then◌else◌}
+use Rattle.std.proofs.Common.{◌==◌, Option, Some, None, Result, Ok, Err, inl, inr, refl, sym, ap, subst, if◌then◌else◌, arith}
+use Rattle.std.proofs.lemmas.Bool.{eqb-true}
 use Rattle.std.proofs.lemmas.List.{append_cancel_left}
 use Rattle.std.specs.List.{AllByRecursion}
 use Rattle.mk_answers.proofs.FileLemmas.{worlds_are_read_as_files}
@@ -23,7 +24,7 @@ use Rattle.mk_modes.specs.Auditing.{Audits, Finds, IsAuditedRun, Tells, breaches
 use Rattle.mk_modes.specs.Building.{IsUnplanned, Point, point, unbuilt}
 use Rattle.mk_modes.specs.Ends.{IsOutside, of_audit, of_count, of_plan, of_read}
 use Rattle.mk_modes.specs.Meaning.{audits, builds, by_mode, by_reading, ended, explains, only, queries, shows}
-use Rattle.mk_modes.specs.Modes.{Followed, Goes, Held, Only}
+use Rattle.mk_modes.specs.Modes.{Followed, Goes, Held, Only, Printed, Stands}
 use Rattle.mk_modes.specs.declared.auditing.Audit.{Audit}
 use Rattle.mk_modes.specs.declared.building.Went.{Went}
 use Rattle.mk_modes.specs.declared.report.End.{End}
@@ -85,17 +86,24 @@ only-not-done : (fault : ReadFault) (first last : Point) (went : Went) → Only 
     → went.end ≡ end.Done → ⊥
 only-not-done fault first last went goes done = by goes.printed
   where
-    by : _ → ⊥
+    by : Printed (ended (of_read fault)) (record { before = first.out; after = last.out }) went.end → ⊥
     by (inl whole) = stood whole.stands
       where
-        stood : _ → ⊥
+        stood : Stands whole.stood (ended (of_read fault)) → ⊥
         stood (inl same) = read-not-done fault (sym (whole.is ∙ ap (λ it. it.end) same) ∙ done)
         stood (inr stopped) = outside-not-done whole.stood.end stopped.outside (sym whole.is ∙ done)
     by (inr cut) = let both : end.SinkFault ≡ end.Done = sym cut.is ∙ done in absurd cc
 
-none-counted : {A : Type 0} (items : List A) → of_count (length items) ≡ end.Done → items ≡ []
+no-count : (count : ℕ) → of_count count ≡ end.Done → count ≡ 0
+no-count count is = by (count == 0) refl is
+  where
+    by : (none : Bool) → (count == 0) ≡ none → (if none then end.Done else end.Breaches count) ≡ end.Done → count ≡ 0
+    by true none is = eqb-true count 0 none
+    by false none is = absurd cc
+
+none-counted : {A : Type 0} (items : List A) → length items ≡ 0 → items ≡ []
 none-counted [] is = refl
-none-counted (item ∷ items) is = absurd cc
+none-counted (item ∷ items) is = absurd (let never : ⊥ = omega (arith, is) in never)
 
 -- An audit whose run ends well: what it found, of which nothing is a breach.
 record FindsNothing (meaning : Meaning) (work : Work) (mode : Mode) (before after : Option History) : Type 0 where
@@ -112,7 +120,7 @@ finds-nothing meaning work mode before after (Ok found) held held_after it finds
   audit_is = found;
   are = finds.0;
   facts = finds.1;
-  nothing = none-counted (breaches_in found) (sym told.0 ∙ done);
+  nothing = none-counted (breaches_in found) (no-count (length (breaches_in found)) (sym told.0 ∙ done));
 }
 finds-nothing meaning work mode before after (Ok found) held held_after it finds (inr (inl cut)) done =
     let both : end.SinkFault ≡ end.Done = sym cut.0 ∙ done in absurd cc
