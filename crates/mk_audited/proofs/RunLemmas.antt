@@ -10,13 +10,18 @@ use Rattle.mk_audit.specs.Turns as audit
 use Rattle.mk_audit.specs.declared.fault.AuditFault.{AuditFault}
 use Rattle.mk_audit.specs.declared.fault.AuditFault.TheVariants as audit_fault
 use Rattle.mk_breaches.specs.Breaches.{breaches}
+use Rattle.mk_clean.specs.Clean.{Plan, clean_build}
+use Rattle.mk_clean.specs.Declared.{IsDeclared}
 use Rattle.mk_cli.specs.declared.order.Order.{Order}
 use Rattle.mk_decision.specs.Decisions.{Work}
 use Rattle.mk_decision.specs.Makers.{work_on}
 use Rattle.mk_explain.specs.Turns.{SawFiles}
 use Rattle.mk_graph.specs.declared.Made.{Made}
 use Rattle.mk_graph.specs.declared.mode.Mode.{Mode}
-use Rattle.mk_headline.specs.Premises.{GoesByMetaMode}
+use Rattle.mk_edited.proofs.EditedLemmas.{edited_builds_are_declared}
+use Rattle.mk_headline.proofs.PlanLemmas.{are-well-made, job-has}
+use Rattle.mk_headline.specs.Plans.{clean_plan, jobs_from}
+use Rattle.mk_headline.specs.Premises.{GoesByMetaMode, IsWellMade}
 use Rattle.mk_makefile.specs.Reading.{reading}
 use Rattle.mk_makefile.specs.declared.fault.ReadFault.{ReadFault}
 use Rattle.mk_makefile.specs.declared.fault.ReadFault.TheVariants as read_fault
@@ -35,16 +40,19 @@ use Rattle.mk_plan.specs.declared.fault.PlanFault.{PlanFault}
 use Rattle.mk_plan.specs.declared.fault.PlanFault.TheVariants as plan_fault
 use Rattle.mk_plan.specs.declared.plan.PlanNode.{PlanNode}
 use Rattle.mk_reader.specs.Results.{ReadBy}
-use Rattle.mk_run.proofs.CleanRunLemmas.{asked-state, done-before, questions-leave}
+use Rattle.mk_run.proofs.CleanRunLemmas.{asked-state, done-before, questions-leave, same-jobs, well-made}
 use Rattle.mk_run.proofs.TrueRunLemmas.{goes-told, questions-ask, told-at, told-before}
 use Rattle.mk_makefile.specs.Questions.{AreAsked}
 use Rattle.mk_scopes.specs.declared.scopes.Env.{Env}
 use Rattle.mk_sound.proofs.FilesLemmas.{runs_leave_files, runs_may_follow}
 use Rattle.mk_sound.proofs.LeftLemmas.{after-looks, questions-left}
 use Rattle.mk_sound.specs.Files.{AreSound, IsTrueStart}
+use Rattle.mk_run.specs.CleanRuns.{bare, clean_jobs_of}
+use Rattle.mk_trace.specs.Runs.{Tasks}
 use Rattle.mk_trace.specs.TrueBuilds.{LeavesFiles}
 use Rattle.mk_uptodate.specs.Audited.{HoldsOfFiles}
 use Rattle.mk_world.proofs.CallLemmas.{after_all-append}
+use Rattle.mk_world.specs.Deeds.{Store}
 use Rattle.mk_world.specs.History.{State as Stand, after_all, contents, files_of, first_state, state_of}
 use Rattle.mk_world.specs.Looks.{OnlyLooks}
 use Rattle.mk_world.specs.Talks.{Meaning}
@@ -53,7 +61,7 @@ use Rattle.mk_world.specs.declared.history.History.{History}
 use Rattle.mk_audited.proofs.AuditLemmas.{clean_audits_are_sound, mode_of}
 use Rattle.mk_audited.proofs.EditLemmas.{edited-children, edits_keep_true_starts}
 use Rattle.mk_audited.specs.Audits.{AreAuditable, IsCleanAudit, lines_on}
-use Rattle.mk_audited.specs.Runs.{AsksForAudit, AuditedBuildsLeaveClean, IsCleanAuditRun, RunsFindNothing, RunsFindSoundFiles}
+use Rattle.mk_audited.specs.Runs.{AreLeftToAsk, AsksForAudit, AuditedBuildsLeaveClean, IsCleanAuditRun, RunsFindNothing, RunsFindSoundFiles}
 
 -- ends that are not well
 
@@ -289,6 +297,55 @@ runs_find_sound_files meaning words env order old new is start exact makefiles =
     subst (λ it. HoldsOfFiles meaning env order old it.work (lines_on it.work (files_of old))) found.1
     (clean_audits_are_sound meaning env order old start exact found.0)
 
+-- what the jobs of the clean build read and change is declared, where files are sound
+sound-declared : (meaning : Meaning) (env : Env) (order : Order) (files : Store)
+    (sound : AreSound meaning env order files)
+    → IsDeclared (clean_plan sound.work sound.lines)
+    (clean_build meaning (clean_plan sound.work sound.lines) files)
+sound-declared meaning env order files sound =
+    subst (IsDeclared (clean_plan sound.work sound.lines))
+    (same-jobs meaning sound.work sound.work sound.lines (jobs_from 0 sound.work.plan) (bare sound.work.plan files)
+    (λ n among. (job-has sound.work n among).1)
+    (λ one among. let its = sound.tasks_are one among in (its.asked, its.task))).0
+    sound.declared
+
+-- and so it is in the clean build of the edited files, where that is so which is left to be asked
+edited-declared : (meaning : Meaning) (env build_env : Env) (order build_order : Order) (old : History) (new : Store)
+    (makefiles : AreAuditable meaning env order (files_of old))
+    → HoldsOfFiles meaning env order old makefiles.work (lines_on makefiles.work (files_of old))
+    → AreLeftToAsk meaning build_env build_order (files_of old) new makefiles.work
+    (lines_on makefiles.work (files_of old))
+    → IsDeclared (clean_plan makefiles.work (lines_on makefiles.work (files_of old)))
+    (clean_jobs_of meaning makefiles.work (bare makefiles.work.plan new))
+edited-declared meaning env build_env order build_order old new makefiles holds left =
+    subst (IsDeclared plan)
+    (sym (same-jobs meaning work work lines (jobs_from 0 work.plan) (bare work.plan new)
+    (λ n among. (job-has work n among).1)
+    (λ one among. let its = left.tasks_are one among in (its.asked, its.task))).0)
+    (edited_builds_are_declared meaning plan (files_of old) new left.edited left.reached left.edits_are declared
+    (are-well-made meaning work lines (files_of old) well) left.reach left.declared).declared
+  where
+    work : Work
+    work = makefiles.work
+
+    lines : Tasks
+    lines = lines_on makefiles.work (files_of old)
+
+    plan : Plan
+    plan = clean_plan makefiles.work (lines_on makefiles.work (files_of old))
+
+    declared : IsDeclared plan (clean_build meaning plan (files_of old))
+    declared =
+        subst (λ l. IsDeclared (clean_plan work l) (clean_build meaning (clean_plan work l) (files_of old)))
+        holds.lines_are
+        (subst (λ w. IsDeclared (clean_plan w holds.sound.lines)
+        (clean_build meaning (clean_plan w holds.sound.lines) (files_of old))) holds.work_is
+        (sound-declared meaning env order (files_of old) holds.sound))
+
+    well : IsWellMade work
+    well = subst IsWellMade (sym makefiles.work_is)
+        (well-made (files_of old) makefiles.made order.flags work.plan makefiles.planned makefiles.names_differ)
+
 pub audited_builds_leave_clean : AuditedBuildsLeaveClean
 audited_builds_leave_clean meaning words build_words env build_env order build_order old audited edited new start exact
     makefiles audit edits lawful idle left build node makes =
@@ -311,7 +368,7 @@ audited_builds_leave_clean meaning words build_words env build_env order build_o
           (mode_of meaning env order old found.0);
       alike = left.alike;
       tasks_are = left.tasks_are;
-      declared = left.declared;
+      declared = edited-declared meaning env build_env order build_order old (files_of edited) makefiles holds left;
     } in
     runs_leave_files meaning build_words build_env build_order build.first build.last build.err build.report build.run
     edited new build.began build.ended build.built build.done

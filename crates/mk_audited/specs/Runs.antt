@@ -3,11 +3,11 @@
 use Rattle.std.specs.Prelude.{◌≡◌, ℕ, ◌<◌, ◌++◌, List, [], Some, Ok, true, false}
 use Rattle.std.specs.List.{AllByRecursion}
 use Rattle.mk_answers.specs.OnFiles.{ChangesNone}
-use Rattle.mk_clean.specs.Clean.{CleanJob, IsAmong}
-use Rattle.mk_clean.specs.Declared.{IsDeclared}
+use Rattle.mk_clean.specs.Clean.{CleanJob, IsAmong, clean_build}
 use Rattle.mk_cli.specs.declared.order.Order.{Order}
 use Rattle.mk_decision.specs.Decisions.{Work}
 use Rattle.mk_decision.specs.Makers.{work_on}
+use Rattle.mk_edited.specs.Edited.{AreEditedAt, Edited, ReachNoOther, Reached, ReachedAreDeclared}
 use Rattle.mk_graph.specs.declared.Made.{Made}
 use Rattle.mk_headline.specs.Plans.{clean_plan, is_meta_path, makes_file}
 use Rattle.mk_modes.specs.Building.{Point}
@@ -98,26 +98,33 @@ EditsKeepTrueStarts =
     (meaning : Meaning) (old new : History) → IsTrueStart meaning old → AreEdited old new
     → IsLawful meaning new → IsTrueStart meaning new
 
--- What an audit cannot tell of files that are edited behind it, and so is left to be asked of them,
--- for a build of this work with these lines: the makefiles give this work still, also where made
--- files and meta files are away, and their commands of `!=` change no file; in the clean build each
--- node has these lines, no name of the newer sources is looked up, and `exists` is asked of sources
--- alone; and what its jobs read and change is declared. That the build goes by meta mode, and that
--- meta files tell what happened, is not left.
-pub record AreLeftToAsk (meaning : Meaning) (env : Env) (order : Order) (files : Store) (work : Work) (lines : Tasks)
-    : Type 0
+-- What an audit of files cannot tell of them when they are edited behind it, and so is left to be
+-- asked for a build of this work with these lines: the makefiles still give this work, also where
+-- made files and meta files are away, and their commands of `!=` change no file; in the clean build
+-- each node has these lines, no name of the newer sources is looked up, and `exists` is asked of
+-- sources alone; and of the jobs that the edits reach, and of no others, that what they read and
+-- change is declared. Edits reach a node whose job looked at an edited file, or at a made file of a
+-- node that they reach. That the build goes by meta mode, and that meta files tell what happened, is
+-- not left.
+pub record AreLeftToAsk (meaning : Meaning) (env : Env) (order : Order) (files new : Store) (work : Work)
+    (lines : Tasks) : Type 0
   where
     pub made : Made
     pub listings : Listings
-    pub read : (reading_on meaning files listings env order).answer ≡ Ok made
-    pub planned : planned files made order.flags.requested order.flags.query ≡ Ok work.plan
+    pub read : (reading_on meaning new listings env order).answer ≡ Ok made
+    pub planned : planned new made order.flags.requested order.flags.query ≡ Ok work.plan
     pub work_is : work ≡ work_on work.plan made order.flags
     pub room : 0 < order.flags.jobs
-    pub asks : AllByRecursion (ChangesNone meaning files listings) (reading_on meaning files listings env order).acts
-    pub alike : IsPlannedOn meaning env order (bare work.plan files) work
-    pub tasks_are : (one : CleanJob) → IsAmong one (clean_jobs_of meaning work (bare work.plan files))
-        → HasItsTask work lines (clean_jobs_of meaning work (bare work.plan files)) one
-    pub declared : IsDeclared (clean_plan work lines) (clean_jobs_of meaning work (bare work.plan files))
+    pub asks : AllByRecursion (ChangesNone meaning new listings) (reading_on meaning new listings env order).acts
+    pub alike : IsPlannedOn meaning env order (bare work.plan new) work
+    pub tasks_are : (one : CleanJob) → IsAmong one (clean_jobs_of meaning work (bare work.plan new))
+        → HasItsTask work lines (clean_jobs_of meaning work (bare work.plan new)) one
+    pub edited : Edited
+    pub reached : Reached
+    pub edits_are : AreEditedAt (clean_plan work lines) edited files new
+    pub reach : ReachNoOther (clean_plan work lines) (clean_build meaning (clean_plan work lines) files) edited reached
+    pub declared : ReachedAreDeclared (clean_plan work lines) reached
+        (clean_build meaning (clean_plan work lines) files) (clean_build meaning (clean_plan work lines) new)
 
 -- A run that builds all from these files.
 pub record IsWholeBuildRun (meaning : Meaning) (words : List (List ℕ)) (env : Env) (order : Order) (old new : History)
@@ -143,7 +150,7 @@ AuditedBuildsLeaveClean =
     → (makefiles : AreAuditable meaning env order (files_of old))
     → IsCleanAuditRun meaning words env order old audited
     → AreEdited audited edited → IsLawful meaning edited → (state_of edited).children ≡ []
-    → AreLeftToAsk meaning build_env build_order (files_of edited) makefiles.work
+    → AreLeftToAsk meaning build_env build_order (files_of old) (files_of edited) makefiles.work
     (lines_on makefiles.work (files_of old))
     → IsWholeBuildRun meaning build_words build_env build_order edited new
     → (node : ℕ) → makes_file (node_at makefiles.work.plan node) ≡ true
