@@ -327,6 +327,22 @@ fi
 row shows='a closed standard error' makefile="$apart" outcome=3 out='reads-made u t' err='' \
     run='"$program" --audit 2>&-'
 
+# What an audit asks of the system for files, under strace: of each path the times once, and of each
+# makefile and meta file the bytes once.
+asked() {
+    strace -f -e trace=statx,openat -o "$room/calls" "$program" --audit
+    sed -nE -e 's/^[0-9]+ +(statx)\(AT_FDCWD, "([^"]+)", .*/\1 \2/p' \
+        -e 's/^[0-9]+ +(openat)\(AT_FDCWD, "([^"/][^"]*)", .*/\1 \2/p' "$room/calls" >"$room/asked"
+    LC_ALL=C sort "$room/asked" | uniq -d
+    for file in a i t u t.meta u.meta; do
+        grep -qx "statx $file" "$room/asked" || echo "no times of $file"
+    done
+    for file in makefile t.meta u.meta; do
+        grep -qx "openat $file" "$room/asked" || echo "no bytes of $file"
+    done
+}
+row shows='each path is asked for once' makefile="$both" run=asked
+
 # ---- What is not told ----
 
 # A listing of a directory in which files are made: it is recorded as a read of the directory, and
