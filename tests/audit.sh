@@ -220,6 +220,11 @@ row shows='a made program is run' out='reads-made u d/run' before='mkdir d' \
 u: i\n\td/run >u\n'
 row shows='a made program is run that is declared' before='mkdir d' \
     makefile=$'all: u .PHONY\nd/run: a\n\techo cat i >d/run; chmod +x d/run\nu: d/run\n\td/run >u\n'
+for way in '. ./t; : >u' '[ ! -s t ] || : >u' '[ t -nt a ] && : >u' 'ls -l t >u' 'cp -p t u' \
+    'exec 3<t; sort <&3 >u' 'cd d; awk 1 ../t >../u'; do
+    row shows="a made file is read by $way" out='reads-made u t' before='mkdir d' \
+        makefile=$'all: t u .PHONY\nt: a\n\techo x=1 >t\nu:\n\t'"$way$nl"
+done
 row shows='a made file is looked for in vain' out='stale u appeared' \
     makefile=$'all: u t .PHONY\nt: a\n\tcat a >t\nu:\n\t[ -e t ] || cat i >u\n'
 row shows='several are told in the order of their records' out=$'reads-made u t2\nreads-made u t1' \
@@ -228,6 +233,12 @@ row shows='several are told in the order of their records' out=$'reads-made u t2
 left=$'all: t u .PHONY\nt: a\n\techo 1 >side; cat a >t\nu: t\n'
 row shows='a file is read that another target leaves' makefile="$left"$'\tcat side >u\n' \
     out=$'changes t side\nreads-changed u side'
+for way in 'touch side' 'cp a side' 'cp a new; mv new side' 'ln -sf a side' 'rm side' \
+    'sed 1d a | tee side'; do
+    row shows="a file is changed by $way" out=$'changes t side\nreads-changed u side' \
+        before=': >side' makefile=$'all: t u .PHONY\nt: a\n\t'"$way"$'; cat a >t
+u: t\n\t[ ! -e side ] || : >u; : >u\n'
+done
 row shows='a file is read that no target leaves' makefile="$left"$'\tcat i >u\n'
 row shows='a file is read that its own target has left' \
     makefile=$'t: a\n\techo 1 >side; cat side a >t\n'
@@ -344,6 +355,10 @@ asked() {
 row shows='each path is asked for once' makefile="$both" run=asked
 
 # ---- What is not told ----
+
+# A directory that a command makes: only files are recorded as written.
+row shows='a directory that a target makes' \
+    makefile=$'all: t u .PHONY\nt: a\n\tmkdir d; cat a >t\nu: a\n\t[ ! -d d ] || cat a >u\n'
 
 # A listing of a directory in which files are made: it is recorded as a read of the directory, and
 # what is made there as a write of the file alone.
