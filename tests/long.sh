@@ -220,5 +220,42 @@ t: sources/*.c
 	@echo ${.ALLSRC:[#]}
 MAKEFILE
 
+# So many targets that stand there beside their meta files, each with so many recorded reads of 1000
+# headers; and the makefile to them. All was made in order: headers, jobs, targets, meta files.
+recorded() {
+    mkdir -p "$room/d"
+    (cd "$room/d" && seq -f 'h%.0f' 0 999 | xargs touch)
+    : >"$room/s"
+    sleep 0.02
+    local stamp folder
+    stamp=$(date +%s%N)
+    folder=$(cd "$room" && pwd -P)
+    sleep 0.02
+    (cd "$room" && seq -f 't%.0f' "$1" | xargs touch)
+    (cd "$room" && awk -v targets="$1" -v reads="$2" -v stamp="$stamp" -v folder="$folder" 'BEGIN {
+        head = "# Meta data file t%d.meta\nSTAMP %s\nCMD compile t%d\nCWD %s\nTARGET t%d\n"
+        for (i = 1; i <= targets; i++) {
+            to = "t" i ".meta"
+            printf head, i, stamp, i, folder, i >to
+            print "OUTPUT 0\n-- command output --\n\n-- filemon acquired metadata --" >to
+            for (k = 0; k < reads; k++) print "R 1 d/h" (i + k) % 1000 >to
+            printf "W 1 t%d\n# end 3\n", i >to
+            close(to)
+        }
+    }')
+}
+recorded_makefile() {
+    printf '%s\n' '.MAKE.MODE=meta curdirOk=yes missing-meta=yes missing-filemon=yes' \
+        "T=\${:U:range=$1:S/^/t/}" 'all: $T .PHONY' '$T: s' $'\tcompile ${.TARGET}'
+}
+
+recorded 1000 200
+seconds=1 row 'an audit of 1000 targets with 200 recorded reads each' '' '' 0 --audit \
+    < <(recorded_makefile 1000)
+recorded 4000 400
+seconds=5 row 'an audit of 4000 targets with 400 recorded reads each' '' '' 0 --audit \
+    < <(recorded_makefile 4000)
+rm -rf "$room"/t* "$room/d" "$room/s"
+
 echo "$passed passed, $failed failed"
 [ "$failed" = 0 ]

@@ -82,12 +82,25 @@ step() {
     count "$shows" "$wrong"
 }
 
+# One audit: what it shows, and the lines that are wanted, each of a breach.
+audit() {
+    local shows=$1 wanted=$2 told='' wrong='' is
+    [ -z "$wanted" ] || told="bmake: breaches $(printf '%s\n' "$wanted" | wc -l)"
+    "$program" --audit >"$room/out" 2>"$room/err" </dev/null
+    is=$?
+    [ "$is" = "$([ -z "$wanted" ]; echo $?)" ] || wrong="status $is; "
+    wrong="$wrong$(same "$wanted" "$(cat "$room/out")")$(same "$told" "$(cat "$room/err")")"
+    count "$shows" "$wrong"
+}
+
 step shows='all is built' wanted='objects main table words; link' \
     told=$'main.o missing\ntable.o missing\nwords.o missing\ntool missing'
 
 step shows='a second run prints and starts nothing'
 
 step shows='nor does one with several jobs' words='-j 4'
+
+audit 'an audit finds all declared' ''
 
 step shows='a header that no makefile names was edited, which two sources include' \
     before='echo "/* Words. */" >>include/words.h' wanted='objects main words; link' \
@@ -152,6 +165,8 @@ step shows='the old source was put back' before='cp old main.c; rm old' wanted='
 
 step shows='nothing is left to do'
 
+audit 'an audit finds all declared behind all this' ''
+
 # What stands now is what a clean build of the same sources leaves.
 step shows='a clean build leaves the same' before='cp include/* ../../../clean/examples/tool/include/
         cd ../../../clean/examples/tool' wanted='objects main table words; link'
@@ -160,5 +175,63 @@ for file in main.o table.o words.o tool; do
         "$(cmp "$room/tour/examples/tool/$file" "$room/clean/examples/tool/$file" 2>&1)"
 done
 
+# A header that is made, which a source includes and no line declares. One job makes it in time,
+# since it stands before the program in the line of `all`.
+cd "$top" || exit 1
+copy "$room/header"
+cd "$room/header/examples/tool" || exit 1
+sed -i 's,^all: tool,all: include/width.h tool,' makefile
+cat >>makefile <<'END'
+include/width.h: width
+	echo "#define WIDTH $$(cat width)" >${.TARGET}
+END
+sed -i -e 's/^#include "letters.h"/&\n#include "width.h"/' \
+    -e 's/length < WORD_SIZE - 1/length < WIDTH/' words.c
+echo 2 >width
+sleep 0.02
+
+header() {
+    echo 'echo "#define WIDTH $(cat width)" >include/width.h'
+}
+
+short=$'2 th\n1 an\n1 ca\n1 do'
+all='header; objects main table words; link'
+step shows='a header that is made and not declared is made in time' wanted="$all" says="$short"
+audit 'an audit tells who reads it' 'reads-made words.o include/width.h'
+
+# What it warns of: where the program is asked for first, one build leaves it as it was made with
+# the old header, and ends well.
+tiny=$'2 t\n1 a\n1 c\n1 d'
+first='tool include/width.h'
+step shows='the header is made behind its reader' words="$first" before='echo 1 >width' \
+    wanted=header told='include/width.h newer width T T' says="$short"
+audit 'an audit tells who is out of date' 'stale words.o read'
+step shows='and a second build makes this right' words="$first" wanted='objects words; link' \
+    told=$'words.o read include/width.h T T\ntool newer words.o new T' says="$tiny"
+
+# From nothing the program cannot be made at all where it is asked for first.
+from_nothing() {
+    rm -f tool ./*.o ./*.meta include/width.h include/*.meta
+    "$program" "$@" >"$room/out" 2>"$room/err" </dev/null
+}
+from_nothing tool include/width.h
+wrong=$(same 1 $?)$(same 'bmake: target words.o command 1: status 1' "$(cat "$room/err")")
+grep -q 'width\.h' "$room/out" || wrong="$wrong the compiler says: $(cat "$room/out")"
+[ ! -e tool ] || wrong="$wrong the program is there"
+count 'from nothing it fails' "$wrong"
+step shows='in the order of the makefile all goes well' before='rm -f main.o table.o' \
+    wanted="$all" says="$tiny"
+
+# The repair.
+step shows='a line that declares it makes nothing again' says="$tiny" \
+    before='echo words.o: include/width.h >>makefile'
+audit 'an audit finds it declared' ''
+step shows='then one build is enough, in any order' words="$first" before='echo 2 >width' \
+    wanted='header; objects words; link' says="$short"
+audit 'and an audit finds nothing behind it' ''
+from_nothing -j4 tool
+wrong=$(same 0 $?)
+count 'from nothing the program alone is made' \
+    "$wrong$(same "$short" "$(echo 'the cat and the dog' | ./tool)")"
 cd "$top" || exit 1
 finish
